@@ -17,6 +17,7 @@ pub mod Lines
 pub mod Lists
 pub mod Meanings
 pub mod MissingZones
+pub mod Names
 pub mod Moves
 pub mod Offsets
 pub mod Program

@@ -1,6 +1,6 @@
 -- The meanings of words: the date or moment that a word is a text of, the items of the format that
 -- it spells, and the zone or the holidays that it names, or why it names none.
-use Rattle.std.specs.Prelude.{ℕ, ◌+◌, ◌≤◌, ◌==◌, Bool, IsTrue, IsUtf8, is_some, List, [], length, take, drop, position, bytes_eq, codes, Option, Some, MatchOption, option_and_then, Result, if◌then◌else◌}
+use Rattle.std.specs.Prelude.{ℕ, ◌+◌, ◌≤◌, ◌==◌, Bool, IsTrue, IsUtf8, is_some, List, [], length, take, drop, position, map, Option, Some, MatchOption, option_and_then, Result}
 use Rattle.std.specs.List.{All}
 use Rattle.std.specs.Option.{option_map_or}
 use Rattle.cal_datetime.specs.OffsetDateTime.{LocalAndOffset}
@@ -12,6 +12,8 @@ use Rattle.cal_text.specs.AnyForm.{IsTextOf}
 use Rattle.cal_text.specs.declared.any.DateOrMoment.{DateOrMoment}
 use Rattle.cal_zone.specs.Timeline.{Timeline}
 use Rattle.caldate_run.specs.ClockWords.{clock_word}
+use Rattle.caldate_run.specs.Names.{value_named}
+use Rattle.caldate_run.specs.declared.args.names.TheConstants.{FORMATS}
 use Rattle.caldate_run.specs.declared.holidays.read_holidays_error.ReadHolidaysError.{ReadHolidaysError}
 use Rattle.caldate_run.specs.declared.zones.read_zone_error.ReadZoneError.{ReadZoneError}
 
@@ -39,12 +41,8 @@ value_in word = option_map_or (λ at. drop (at + 1) word) (position (λ b. b == 
 
 -- ---- formats
 -- The format that has a name, or the word itself.
-abbrev pub format_named : List ℕ → List ℕ
-format_named word =
-    if bytes_eq word (codes "clf") then codes "%d/%b/%Y:%T %z" else
-    if bytes_eq word (codes "rfc2822") then codes "%a, %d %b %Y %T %z" else
-    if bytes_eq word (codes "syslog") then codes "%b %e %T" else
-    word
+unfoldable pub format_named : List ℕ → List ℕ
+format_named word = option_map_or (λ text. text.now) (value_named word (map (λ row. (row.0.now, row.1)) FORMATS)) word
 
 -- A format contains a `%`, byte 37.
 abbrev pub is_format : List ℕ → Bool

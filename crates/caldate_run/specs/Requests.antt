@@ -1,10 +1,10 @@
 -- The command that the arguments give, or the first invalid word and its expected kind.
 use denote.Ref.{Bor}
-use Rattle.std.specs.Prelude.{ℕ, ◌+◌, ◌-◌, nat_le, nat_lt, slice_index, max, not, ◌&&◌, ◌||◌, Bool, true, false, is_none, is_some, unwrap_or, ℤ, pos, neg_ℤ, ◌*ℤ◌, int_le, nat_abs, List, [], ◌∷◌, ◌++◌, ◌==◌, length, take, drop, set, Option, Some, None, option_map, option_and_then, ok_or, Result, Ok, Err, slice_get, position, bytes_eq, codes, if◌then◌else◌, ◌*◌}
+use Rattle.std.specs.Prelude.{ℕ, ◌+◌, ◌-◌, nat_le, nat_lt, slice_index, max, not, ◌&&◌, ◌||◌, Bool, true, false, is_none, is_some, unwrap_or, ℤ, pos, neg_ℤ, ◌*ℤ◌, int_le, nat_abs, List, [], ◌∷◌, ◌++◌, ◌==◌, length, take, drop, set, map, Option, Some, None, option_map, option_and_then, ok_or, Result, Ok, Err, slice_get, position, bytes_eq, codes, if◌then◌else◌, ◌*◌}
 use Rattle.std.specs.List.{slice_split}
 use Rattle.std.specs.Option.{option_map_or}
 use Rattle.std.specs.Result.{result_ok}
-use Rattle.std.specs.Str.{all_ascii_digits, str_eq_ignore_ascii_case}
+use Rattle.std.specs.Str.{all_ascii_digits}
 use Rattle.std.specs.Str.Parse.{signed_digits_value, without_leading_sign}
 use Rattle.cal_time.specs.SignedDuration.{second}
 use Rattle.cal_time.specs.declared.Weekday.{Weekday}
@@ -14,10 +14,8 @@ use Rattle.cal_format.specs.declared.item.Component.TheVariants.{Year}
 use Rattle.cal_format.specs.declared.item.Item.{Item}
 use Rattle.cal_format.specs.declared.item.Item.TheVariants as item
 use Rattle.cal_format.specs.declared.item.Padding.TheVariants.{Zero}
-use Rattle.cal_text.specs.declared.any.DateForm.TheVariants.{Calendar, Ordinal, Week, JulianDay}
 use Rattle.cal_text.specs.declared.any.DateOrMoment.{DateOrMoment}
 use Rattle.cal_text.specs.declared.any.DateOrMoment.TheVariants as dated
-use Rattle.cal_text.specs.declared.any.MomentForm.TheVariants.{Rfc3339, Unix}
 use Rattle.cal_datetime.specs.OffsetDateTime.{LocalAndOffset}
 use Rattle.cal_recurrence.specs.Text.{recurrence_of}
 use Rattle.cal_recurrence.specs.declared.recurrence.Recurrence.{Recurrence}
@@ -26,21 +24,24 @@ use Rattle.caldate_run.specs.Answers.{counts_workdays, keeps}
 use Rattle.caldate_run.specs.ClockWords.{now_in}
 use Rattle.caldate_run.specs.Meanings.{Meanings, found_in, is_format, name_of, value_in}
 use Rattle.caldate_run.specs.Moves.{monday_to_friday}
+use Rattle.caldate_run.specs.Names.{spells, spells_unit, value_named, value_of_unit}
 use Rattle.caldate_run.specs.Offsets.{is_digit, offset_of}
 use Rattle.caldate_run.specs.Fields.{names_any, no_names}
 use Rattle.caldate_run.specs.Targets.{reads_other, target_name}
 use Rattle.caldate_run.specs.Zones.{is_zone_like, workdays_of, zone_of}
 use Rattle.caldate_run.specs.declared.on_invalid.OnInvalid.{OnInvalid}
 use Rattle.caldate_run.specs.declared.on_invalid.OnInvalid.TheVariants as invalid
+use Rattle.caldate_run.specs.declared.args.names.NamedReader.{NamedReader}
+use Rattle.caldate_run.specs.declared.args.names.NamedReader.TheVariants as known
+use Rattle.caldate_run.specs.declared.args.names.TheConstants.{FORMS, MODES, PERIODS, POLICIES, READERS, ROUNDINGS, UNITS}
 use Rattle.caldate_run.specs.declared.args.options.Options.{Options}
 use Rattle.caldate_run.specs.declared.args.options.OptionsAfter.{OptionsAfter}
 use Rattle.caldate_run.specs.declared.args.options.OptionsAfter.TheVariants.{Continued, Ended, Invalid}
-use Rattle.caldate_run.specs.declared.reading.DateOrder.TheVariants.{Basic, DayFirst, MonthFirst}
 use Rattle.caldate_run.specs.declared.reading.Reading.TheVariants as read
 use Rattle.caldate_run.specs.declared.reading.reader.Assumptions.{Assumptions}
 use Rattle.caldate_run.specs.declared.reading.reader.Reader.{Reader}
 use Rattle.caldate_run.specs.declared.reading.reader.Reader.TheVariants as reader
-use Rattle.caldate_run.specs.declared.reading.spelling.Spelling.TheVariants.{Iso, Seconds}
+use Rattle.caldate_run.specs.declared.reading.spelling.Spelling.TheVariants.{Iso}
 use Rattle.caldate_run.specs.declared.reading.value_format.ValueFormat.{ValueFormat}
 use Rattle.caldate_run.specs.declared.reading.value_format.ValueFormat.TheVariants as format
 use Rattle.caldate_run.specs.declared.request.Clock.{Clock}
@@ -50,10 +51,8 @@ use Rattle.caldate_run.specs.declared.request.Field.{Field}
 use Rattle.caldate_run.specs.declared.request.FieldNumbers.{FieldNumbers}
 use Rattle.caldate_run.specs.declared.request.Filter.{Filter}
 use Rattle.caldate_run.specs.declared.request.Form.{Form}
-use Rattle.caldate_run.specs.declared.request.Form.TheVariants as form
 use Rattle.caldate_run.specs.declared.request.DayMove.TheVariants as move
 use Rattle.caldate_run.specs.declared.request.Period.{Period}
-use Rattle.caldate_run.specs.declared.request.Period.TheVariants as period
 use Rattle.caldate_run.specs.declared.request.Place.{Place}
 use Rattle.caldate_run.specs.declared.request.Place.TheVariants as place
 use Rattle.caldate_run.specs.declared.request.Occurrences.{Occurrences}
@@ -65,7 +64,6 @@ use Rattle.caldate_run.specs.declared.request.Target.{Target}
 use Rattle.caldate_run.specs.declared.request.Target.TheVariants as target
 use Rattle.caldate_run.specs.declared.request.TimeUnit.{TimeUnit}
 use Rattle.caldate_run.specs.declared.request.TimeUnit.TheVariants as unit
-use Rattle.caldate_run.specs.declared.request.UnixUnit.TheVariants.{Milliseconds, Microseconds, Nanoseconds}
 use Rattle.caldate_run.specs.declared.request.Request.{Request}
 use Rattle.caldate_run.specs.declared.request.Request.TheVariants.{To, Print, Add, Move, Floor, Until, Since, At, Keep}
 use Rattle.caldate_run.specs.declared.request.Bounds.{Bounds}
@@ -127,39 +125,11 @@ abbrev pub is_name : List ℕ → Bool
 is_name [] = false
 is_name (byte ∷ bytes) = not (is_digit byte) && (not (byte == 43) && not (byte == 45))
 
--- The form with one of the further names.
-unfoldable pub further_form_of : List ℕ → Option Form
-further_form_of word =
-    if bytes_eq word (codes "short-weekday") then Some form.ShortWeekday else
-    if bytes_eq word (codes "month") then Some form.Month else
-    if bytes_eq word (codes "quarter") then Some form.Quarter else
-    if bytes_eq word (codes "basic") then Some form.Basic else
-    if bytes_eq word (codes "unix-ms") then Some (form.Unix Milliseconds) else
-    if bytes_eq word (codes "unix-us") then Some (form.Unix Microseconds) else
-    if bytes_eq word (codes "unix-ns") then Some (form.Unix Nanoseconds) else
-    None
-
 -- The form with a name.
 unfoldable pub form_of : List ℕ → Option Form
-form_of word =
-    if bytes_eq word (codes "calendar") then Some (form.Date Calendar) else
-    if bytes_eq word (codes "ordinal") then Some (form.Date Ordinal) else
-    if bytes_eq word (codes "week") then Some (form.Date Week) else
-    if bytes_eq word (codes "julian") then Some (form.Date JulianDay) else
-    if bytes_eq word (codes "weekday") then Some form.Weekday else
-    if bytes_eq word (codes "rfc3339") then Some (form.Moment Rfc3339) else
-    if bytes_eq word (codes "unix") then Some (form.Moment Unix) else
-    further_form_of word
+form_of word = value_named word (map (λ row. (row.0.now, row.1)) FORMS)
 
--- A word spells a name if it is the name or its first three letters, in any case.
-unfoldable pub spells : List ℕ → List ℕ → Bool
-spells word name = str_eq_ignore_ascii_case word name || str_eq_ignore_ascii_case word (take 3 name)
-
--- A word spells a unit if it is the singular, the plural or the first three letters, in any case.
-unfoldable pub spells_unit : List ℕ → List ℕ → List ℕ → Bool
-spells_unit word one many = spells word one || str_eq_ignore_ascii_case word many
-
--- The weekday that a word spells.
+-- The weekday, the period and the unit of time that a word spells.
 unfoldable pub weekday_of : List ℕ → Option Weekday
 weekday_of word =
     if spells word (codes "Monday") then Some weekday.Monday else
@@ -171,27 +141,11 @@ weekday_of word =
     if spells word (codes "Sunday") then Some weekday.Sunday else
     None
 
--- The period that a word spells.
 unfoldable pub period_of : List ℕ → Option Period
-period_of word =
-    if spells_unit word (codes "week") (codes "weeks") then Some period.Week else
-    if spells_unit word (codes "month") (codes "months") then Some period.Month else
-    if spells_unit word (codes "quarter") (codes "quarters") then Some period.Quarter else
-    if spells_unit word (codes "year") (codes "years") then Some period.Year else
-    None
+period_of word = value_of_unit word (map (λ row. (row.0.now, row.1)) PERIODS)
 
--- The unit of time that a word spells.
 unfoldable pub unit_of : List ℕ → Option TimeUnit
-unit_of word =
-    if spells_unit word (codes "day") (codes "days") then Some unit.Days else
-    if spells_unit word (codes "week") (codes "weeks") then Some unit.Weeks else
-    if spells_unit word (codes "month") (codes "months") then Some unit.Months else
-    if spells_unit word (codes "year") (codes "years") then Some unit.Years else
-    if spells_unit word (codes "workday") (codes "workdays") then Some unit.Workdays else
-    if spells_unit word (codes "hour") (codes "hours") then Some unit.Hours else
-    if spells_unit word (codes "minute") (codes "minutes") then Some unit.Minutes else
-    if spells_unit word (codes "second") (codes "seconds") then Some unit.Seconds else
-    None
+unit_of word = value_of_unit word (map (λ row. (row.0.now, row.1)) UNITS)
 
 -- The nanoseconds of a number of units, each of `unit` seconds, if the seconds fit in 64 bits.
 abbrev pub seconds_in : ℕ → ℤ → Option ℤ
@@ -308,11 +262,7 @@ bounds_at now meanings words at =
 
 -- `start PERIOD`, `start day`, `start hour`, `start minute`
 unfoldable pub minutes_in : List ℕ → Option ℕ
-minutes_in word =
-    if spells_unit word (codes "day") (codes "days") then Some 1440 else
-    if spells_unit word (codes "hour") (codes "hours") then Some 60 else
-    if spells_unit word (codes "minute") (codes "minutes") then Some 1 else
-    None
+minutes_in word = value_of_unit word (map (λ row. (row.0.now, row.1)) ROUNDINGS)
 
 abbrev pub start_of : List ℕ → Option Request
 start_of word = option_map_or (λ p. Some (Move (move.Start p))) (period_of word) (option_map Floor (minutes_in word))
@@ -322,7 +272,7 @@ abbrev pub minutes_of : List ℕ → Option ℕ
 minutes_of word = number_between 1 1440 word
 
 unfoldable pub minutes_word : List ℕ → Option Unit
-minutes_word word = if spells_unit word (codes "minute") (codes "minutes") then Some tt else None
+minutes_word word = if spells_unit word (codes "minutes") then Some tt else None
 
 abbrev pub floor_at : List (List ℕ) → ℕ → ℕ → Result Request UsageError
 floor_at words at n = and_then (only_at words at minutes_word expected.Minutes) (λ word. Ok (Floor n))
@@ -435,23 +385,12 @@ list_of now meanings words =
 abbrev pub no_options : Options
 no_options = record { on_invalid = None; fields = None; more = []; names = no_names; append = None; header = false; csv = false; scan = false; separator = None; skip = None; readers = []; offset = None; year = None; zone = None; policy = None; workdays = None }
 
--- `--invalid MODE`
-abbrev pub invalid_of : List ℕ → Option OnInvalid
-invalid_of word =
-    if bytes_eq word (codes "keep") then Some invalid.Keep else
-    if bytes_eq word (codes "answer") then Some invalid.Answer else
-    if bytes_eq word (codes "drop") then Some invalid.Drop else
-    if bytes_eq word (codes "stop") then Some invalid.Stop else
-    None
+-- `--invalid MODE`, `--ambiguous POLICY`
+unfoldable pub invalid_of : List ℕ → Option OnInvalid
+invalid_of word = value_named word (map (λ row. (row.0.now, row.1)) MODES)
 
--- `--ambiguous POLICY`
-abbrev pub policy_of : List ℕ → Option Policy
-policy_of word =
-    if bytes_eq word (codes "compatible") then Some policy.Compatible else
-    if bytes_eq word (codes "earlier") then Some policy.Earlier else
-    if bytes_eq word (codes "later") then Some policy.Later else
-    if bytes_eq word (codes "reject") then Some policy.Reject else
-    None
+unfoldable pub policy_of : List ℕ → Option Policy
+policy_of word = value_named word (map (λ row. (row.0.now, row.1)) POLICIES)
 
 -- `--field NAME`, `--field N`, `--field N-M`: a name has the number 1 until the header gives it its
 -- own.
@@ -487,18 +426,14 @@ abbrev pub skip_of : List ℕ → Option ℕ
 skip_of word = number_between 0 9223372036854775807 word
 
 -- `--read FORM`
-abbrev pub reader_named : List ℕ → Option Reader
-reader_named word =
-    if bytes_eq word (codes "basic") then Some (reader.Named (read.Date Basic)) else
-    if bytes_eq word (codes "dmy") then Some (reader.Named (read.Date DayFirst)) else
-    if bytes_eq word (codes "mdy") then Some (reader.Named (read.Date MonthFirst)) else
-    if bytes_eq word (codes "unix-ms") then Some (reader.Named (read.Unix Milliseconds)) else
-    if bytes_eq word (codes "unix-us") then Some (reader.Named (read.Unix Microseconds)) else
-    if bytes_eq word (codes "unix-ns") then Some (reader.Named (read.Unix Nanoseconds)) else
-    if bytes_eq word (codes "unix") then Some (reader.Spelled Seconds) else
-    if bytes_eq word (codes "iso") then Some (reader.Spelled Iso) else
-    if bytes_eq word (codes "local") then Some reader.Local else
-    None
+abbrev pub reader_with_name : NamedReader → Reader
+reader_with_name (known.Date order) = reader.Named (read.Date order)
+reader_with_name (known.Unix unit) = reader.Named (read.Unix unit)
+reader_with_name (known.Spelled spelling) = reader.Spelled spelling
+reader_with_name known.Local = reader.Local
+
+unfoldable pub reader_named : List ℕ → Option Reader
+reader_named word = option_map reader_with_name (value_named word (map (λ row. (row.0.now, row.1)) READERS))
 
 -- The format determines a date, else a moment with its offset, else one without.
 abbrev pub value_format_of : List Item → Option ValueFormat

@@ -14,6 +14,8 @@ pub(crate) mod bounds;
 pub(crate) mod clock_words;
 pub(crate) mod formats;
 pub(crate) mod listing;
+pub(crate) mod messages;
+pub(crate) mod names;
 pub(crate) mod offset;
 pub(crate) mod options;
 pub(crate) mod spelling;

@@ -3,14 +3,13 @@ ghost use Rattle.std.specs.Prelude.{◌≡◌, IfSome, IsTrue, List, None, Some,
 ghost use Rattle.cal_format.specs.Reading.{are_moment_items};
 ghost use Rattle.cal_format.specs.declared.item.Item.{Item};
 ghost use Rattle.caldate_run.specs.Meanings.{IsItems, IsMeaning, Meanings, format_named, is_format};
-ghost use Rattle.caldate_run.specs.Requests.{items_of, reader_named, reader_of, reader_with, to_of, value_format_of};
+ghost use Rattle.caldate_run.specs.Requests.{form_of, items_of, reader_named, reader_of, reader_with, to_of, value_format_of};
 
-use crate::args::spelling::form_of;
+use crate::args::names::{FORMATS, FORMS, NamedReader, READERS, value_named};
+use crate::reading::Reading;
 use crate::reading::reader::Reader;
-use crate::reading::spelling::Spelling;
 use crate::reading::value_format::ValueFormat;
-use crate::reading::{DateOrder, Reading};
-use crate::request::{Request, UnixUnit};
+use crate::request::{Form, Request};
 use crate::run::lines::index_of;
 use cal_format::{Component, Format, Item, Padding};
 use std::str;
@@ -19,17 +18,13 @@ use std::str;
 const LONGEST_YEARLESS: usize = 62;
 
 /// Returns the text of a format that has a name, or the word itself.
+#[tactic(auto, unfolding(crate::specs::Meanings::format_named))]
 fn format_named(word: &[u8]) -> &[u8]
     ensures { result.now ≡ format_named word.now }
 {
-    if word == b"clf".as_slice() {
-        b"%d/%b/%Y:%T %z"
-    } else if word == b"rfc2822".as_slice() {
-        b"%a, %d %b %Y %T %z"
-    } else if word == b"syslog".as_slice() {
-        b"%b %e %T"
-    } else {
-        word
+    match value_named(word, &FORMATS) {
+        Some(text) => text.as_bytes(),
+        None => word,
     }
 }
 
@@ -77,6 +72,14 @@ pub fn to_of(word: &[u8]) -> Option<Request<'static>>
             None => None,
         }
     }
+}
+
+/// Parses the name of a form.
+#[tactic(auto, unfolding(crate::specs::Requests::form_of))]
+fn form_of(word: &[u8]) -> Option<Form>
+    ensures { result ≡ form_of word.now }
+{
+    value_named(word, &FORMS)
 }
 
 /// Parses the argument of `--read`: the name of a form, or a format that determines a date, a
@@ -148,28 +151,14 @@ fn format_with(word: &[u8], dated: bool) -> Option<Format>
     Some(format)
 }
 
+#[tactic(auto, unfolding(crate::specs::Requests::reader_named))]
 fn reader_named(word: &[u8]) -> Option<Reader>
     ensures { result ≡ reader_named word.now }
 {
-    if word == b"basic".as_slice() {
-        Some(Reader::Named(Reading::Date(DateOrder::Basic)))
-    } else if word == b"dmy".as_slice() {
-        Some(Reader::Named(Reading::Date(DateOrder::DayFirst)))
-    } else if word == b"mdy".as_slice() {
-        Some(Reader::Named(Reading::Date(DateOrder::MonthFirst)))
-    } else if word == b"unix-ms".as_slice() {
-        Some(Reader::Named(Reading::Unix(UnixUnit::Milliseconds)))
-    } else if word == b"unix-us".as_slice() {
-        Some(Reader::Named(Reading::Unix(UnixUnit::Microseconds)))
-    } else if word == b"unix-ns".as_slice() {
-        Some(Reader::Named(Reading::Unix(UnixUnit::Nanoseconds)))
-    } else if word == b"unix".as_slice() {
-        Some(Reader::Spelled(Spelling::Seconds))
-    } else if word == b"iso".as_slice() {
-        Some(Reader::Spelled(Spelling::Iso))
-    } else if word == b"local".as_slice() {
-        Some(Reader::Local)
-    } else {
-        None
+    match value_named(word, &READERS)? {
+        NamedReader::Date(order) => Some(Reader::Named(Reading::Date(order))),
+        NamedReader::Unix(unit) => Some(Reader::Named(Reading::Unix(unit))),
+        NamedReader::Spelled(spelling) => Some(Reader::Spelled(spelling)),
+        NamedReader::Local => Some(Reader::Local),
     }
 }

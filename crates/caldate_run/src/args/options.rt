@@ -1,10 +1,11 @@
 //! The options before a request.
 ghost use Rattle.std.specs.Prelude.{◌≡◌, ℕ, ◌+◌, ◌≤◌, ◌^◌, ◌∷◌, List, IfOk, None, length, true};
 ghost use Rattle.caldate_run.specs.Meanings.{AreMeanings, AreMeant, IsMeaning, Meanings, name_of, value_in};
-ghost use Rattle.caldate_run.specs.Requests.{any_local, any_own, any_yearless, assumptions_in, byte_of, field_in, field_number_of, field_numbers_of, field_of, fields_from, has_own, has_room, has_room_for_field, invalid_of, is_flag, is_local, is_name, is_option, name_in, is_yearless, lacks_offset, shows_offset, year_of, conflict_in, conflict_with_readers, conflict_with_zone, no_options, options_after, options_from, policy_of, readers_in, skip_of, value_of, with_flag, with_named, with_reader, with_value, words_left};
+ghost use Rattle.caldate_run.specs.Requests.{any_local, any_own, any_yearless, assumptions_in, byte_of, field_in, field_number_of, field_numbers_of, field_of, fields_from, has_own, has_room, has_room_for_field, is_flag, is_local, is_name, is_option, name_in, is_yearless, lacks_offset, shows_offset, year_of, conflict_in, conflict_with_readers, conflict_with_zone, no_options, options_after, options_from, readers_in, skip_of, value_of, with_flag, with_named, with_reader, with_value, words_left};
 ghost use Rattle.caldate_run.specs.Zones.{AreOfFiles};
 
 use crate::args::formats::reader_of;
+use crate::args::names::{MODES, POLICIES, value_named};
 use crate::args::offset::offset_of;
 use crate::args::spelling::parse_i64;
 use crate::args::usage_error::{Expected, UsageError, usage_error_at};
@@ -252,6 +253,7 @@ pub fn is_option(word: &[u8]) -> bool
 }
 
 /// Sets the option that needs `expected`, or returns `None` if the value is invalid.
+#[tactic(auto, unfolding(crate::specs::Requests::invalid_of, crate::specs::Requests::policy_of))]
 fn with_value<'a>(
     options: Options<'a>,
     value: &'a [u8],
@@ -263,7 +265,7 @@ fn with_value<'a>(
 {
     let mut more = options;
     match expected {
-        Expected::Invalid => more.on_invalid = Some(invalid_of(value)?),
+        Expected::Invalid => more.on_invalid = Some(value_named(value, &MODES)?),
         Expected::FieldNumber => return with_named(more, name_in(value), field_in(value)?),
         Expected::Column => more.append = Some(FieldName::new(value)),
         Expected::Separator => more.separator = Some(byte_of(value)?),
@@ -272,7 +274,7 @@ fn with_value<'a>(
         Expected::Offset => more.offset = Some(offset_of(value)?),
         Expected::Year => more.year = Some(year_of(value)?),
         Expected::Zone => more.zone = Some(zone_of(files, value)?),
-        Expected::Policy => more.policy = Some(policy_of(value)?),
+        Expected::Policy => more.policy = Some(value_named(value, &POLICIES)?),
         Expected::Holidays => more.workdays = Some(workdays_of(files, value)?),
         _ => return None,
     }
@@ -333,40 +335,6 @@ pub fn is_name(word: &[u8]) -> bool
     match word {
         [first, ..] => !first.is_ascii_digit() && *first != b'+' && *first != b'-',
         [] => false,
-    }
-}
-
-/// Parses a mode: `keep`, `answer`, `drop` or `stop`.
-fn invalid_of(word: &[u8]) -> Option<OnInvalid>
-    ensures { result ≡ invalid_of word.now }
-{
-    if word == b"keep".as_slice() {
-        Some(OnInvalid::Keep)
-    } else if word == b"answer".as_slice() {
-        Some(OnInvalid::Answer)
-    } else if word == b"drop".as_slice() {
-        Some(OnInvalid::Drop)
-    } else if word == b"stop".as_slice() {
-        Some(OnInvalid::Stop)
-    } else {
-        None
-    }
-}
-
-/// Parses a policy: `compatible`, `earlier`, `later` or `reject`.
-fn policy_of(word: &[u8]) -> Option<Policy>
-    ensures { result ≡ policy_of word.now }
-{
-    if word == b"compatible".as_slice() {
-        Some(Policy::Compatible)
-    } else if word == b"earlier".as_slice() {
-        Some(Policy::Earlier)
-    } else if word == b"later".as_slice() {
-        Some(Policy::Later)
-    } else if word == b"reject".as_slice() {
-        Some(Policy::Reject)
-    } else {
-        None
     }
 }
 

@@ -1,0 +1,142 @@
+//! The names in the arguments, and their meanings.
+ghost use Rattle.std.specs.List.{find};
+ghost use Rattle.std.specs.Prelude.{◌≡◌, bytes_eq, option_map};
+ghost use Rattle.std.specs.Str.{str_eq_ignore_ascii_case};
+ghost use Rattle.caldate_run.specs.Names.{spells, spells_unit};
+
+use crate::on_invalid::OnInvalid;
+use crate::reading::DateOrder;
+use crate::reading::spelling::Spelling;
+use crate::request::{Form, Period, Policy, TimeUnit, UnixUnit};
+use cal_text::{DateForm, MomentForm};
+
+/// A form of `--read` that has a name.
+#[derive(Clone, Copy)]
+pub enum NamedReader {
+    Date(DateOrder),
+    Unix(UnixUnit),
+    Spelled(Spelling),
+    Local,
+}
+
+/// The modes of `--invalid`.
+pub(crate) const MODES: [(&str, OnInvalid); 4] = [
+    ("keep", OnInvalid::Keep),
+    ("answer", OnInvalid::Answer),
+    ("drop", OnInvalid::Drop),
+    ("stop", OnInvalid::Stop),
+];
+
+/// The policies of `--ambiguous`.
+pub(crate) const POLICIES: [(&str, Policy); 4] = [
+    ("compatible", Policy::Compatible),
+    ("earlier", Policy::Earlier),
+    ("later", Policy::Later),
+    ("reject", Policy::Reject),
+];
+
+/// The formats with a name.
+pub(crate) const FORMATS: [(&str, &str); 3] = [
+    ("clf", "%d/%b/%Y:%T %z"),
+    ("rfc2822", "%a, %d %b %Y %T %z"),
+    ("syslog", "%b %e %T"),
+];
+
+/// The forms of `--read`.
+pub(crate) const READERS: [(&str, NamedReader); 9] = [
+    ("basic", NamedReader::Date(DateOrder::Basic)),
+    ("dmy", NamedReader::Date(DateOrder::DayFirst)),
+    ("mdy", NamedReader::Date(DateOrder::MonthFirst)),
+    ("unix", NamedReader::Spelled(Spelling::Seconds)),
+    ("unix-ms", NamedReader::Unix(UnixUnit::Milliseconds)),
+    ("unix-us", NamedReader::Unix(UnixUnit::Microseconds)),
+    ("unix-ns", NamedReader::Unix(UnixUnit::Nanoseconds)),
+    ("iso", NamedReader::Spelled(Spelling::Iso)),
+    ("local", NamedReader::Local),
+];
+
+/// The forms of `to`.
+pub(crate) const FORMS: [(&str, Form); 14] = [
+    ("calendar", Form::Date(DateForm::Calendar)),
+    ("ordinal", Form::Date(DateForm::Ordinal)),
+    ("week", Form::Date(DateForm::Week)),
+    ("julian", Form::Date(DateForm::JulianDay)),
+    ("weekday", Form::Weekday),
+    ("short-weekday", Form::ShortWeekday),
+    ("month", Form::Month),
+    ("quarter", Form::Quarter),
+    ("basic", Form::Basic),
+    ("rfc3339", Form::Moment(MomentForm::Rfc3339)),
+    ("unix", Form::Moment(MomentForm::Unix)),
+    ("unix-ms", Form::Unix(UnixUnit::Milliseconds)),
+    ("unix-us", Form::Unix(UnixUnit::Microseconds)),
+    ("unix-ns", Form::Unix(UnixUnit::Nanoseconds)),
+];
+
+/// The units of time.
+pub(crate) const UNITS: [(&str, TimeUnit); 8] = [
+    ("days", TimeUnit::Days),
+    ("weeks", TimeUnit::Weeks),
+    ("months", TimeUnit::Months),
+    ("years", TimeUnit::Years),
+    ("workdays", TimeUnit::Workdays),
+    ("hours", TimeUnit::Hours),
+    ("minutes", TimeUnit::Minutes),
+    ("seconds", TimeUnit::Seconds),
+];
+
+/// The periods of `start` and `end`.
+pub(crate) const PERIODS: [(&str, Period); 4] = [
+    ("weeks", Period::Week),
+    ("months", Period::Month),
+    ("quarters", Period::Quarter),
+    ("years", Period::Year),
+];
+
+/// The units to which `start` rounds down, with their minutes.
+pub(crate) const ROUNDINGS: [(&str, u16); 3] = [("days", 1440), ("hours", 60), ("minutes", 1)];
+
+/// Returns the meaning of a name.
+pub fn value_named<T: Copy>(word: &[u8], table: &[(&str, T)]) -> Option<T>
+    ensures { result
+        ≡ option_map (λ row. row.1) (find (λ row. bytes_eq word.now row.0.now) table.now) }
+{
+    let row = table.iter().find(|row| word == row.0.as_bytes());
+    row.map(|row| row.1)
+}
+
+/// Returns the meaning of a unit. `month`, `MONTHS` and `mon` are the same.
+pub fn value_of_unit<T: Copy>(word: &[u8], table: &[(&str, T)]) -> Option<T>
+    ensures { result
+        ≡ option_map (λ row. row.1) (find (λ row. spells_unit word.now row.0.now) table.now) }
+{
+    let row = table.iter().find(|row| spells_unit(word, row.0.as_bytes()));
+    row.map(|row| row.1)
+}
+
+/// Returns whether the word is the name or its first three letters, ignoring ASCII case.
+#[tactic(auto, unfolding(crate::specs::Names::spells))]
+pub fn spells(word: &[u8], name: &[u8]) -> bool
+    ensures { result ≡ spells word.now name.now }
+{
+    let length = if name.len() < 3 { name.len() } else { 3 };
+    is_alike(word, name) || is_alike(word, &name[..length])
+}
+
+/// Returns whether the word is the unit in plural, singular or its first three letters.
+#[tactic(auto, unfolding(crate::specs::Names::spells_unit))]
+pub fn spells_unit(word: &[u8], many: &[u8]) -> bool
+    ensures { result ≡ spells_unit word.now many.now }
+{
+    let one = match many {
+        [one @ .., _] => one,
+        [] => many,
+    };
+    is_alike(word, many) || spells(word, one)
+}
+
+fn is_alike(word: &[u8], name: &[u8]) -> bool
+    ensures { result ≡ str_eq_ignore_ascii_case word.now name.now }
+{
+    word.eq_ignore_ascii_case(name)
+}
