@@ -5,9 +5,10 @@ ghost use Rattle.cal_datetime.specs.OffsetDateTime.{LocalAndOffset, instant};
 ghost use Rattle.cal_recurrence.specs.DateTimeSet.{is_in_set as is_reading};
 ghost use Rattle.cal_recurrence.specs.Folding.{unfolded_of, IsShortLine};
 ghost use Rattle.cal_recurrence.specs.Sets.{is_in_set, is_listed};
-ghost use Rattle.cal_recurrence.specs.SetText.{set_of};
+ghost use Rattle.cal_recurrence.specs.SetText.{lines_of, SaysSet};
 ghost use Rattle.cal_recurrence.specs.Words.{parts_at};
 ghost use Rattle.cal_recurrence.specs.ZonedSet.{Means};
+ghost use Rattle.cal_recurrence.specs.declared.set_parts.SetParts.{SetParts};
 ghost use Rattle.cal_zone.specs.Local.{Shows};
 
 use crate::zones::european;
@@ -42,10 +43,11 @@ fn next_days(set: &RecurrenceSet<'_>, date: Date) -> Option<(Date, Date)>
     Some((first, second))
 }
 
-/// Writes the set of a text to a buffer, in one order, and returns the number of bytes. The bytes
-/// mean the same set.
+/// Writes the set of a text to a buffer, in one order, and returns the number of bytes. They say the
+/// same set.
 fn respell(text: &[u8], buffer: &mut [u8]) -> Option<usize>
-    ensures { IfSome result (λ end. set_of (take end buffer.new) ≡ set_of text.now) }
+    ensures { IfSome result (λ end. (p : SetParts) × (SaysSet (lines_of text.now) p
+        × SaysSet (lines_of (take end buffer.new)) p)) }
 {
     match parse_set(text) {
         Ok(parts) => parts.print(buffer),
