@@ -44,6 +44,3 @@ pub same_kind : (bytes : List ℕ) (p : Layout) (value : List Change) (k : ℕ) 
     → o ≡ type_in bytes p index → index ≡ slice_index bytes (p.indexes + k) → o ≡ (slice_index_or value k no_change).kind
 same_kind bytes p value k o index e h kind_is index_is =
     kind_is ∙ ap (type_in bytes p) index_is ∙ ap (λ (c : Change). c.kind) (sym (item-view bytes p value k e h))
-
-pub same_change : (d : Change) (a : ℤ) (o : LocalType) → a ≡ d.at → o ≡ d.kind → (record { at = a; kind = o }) ≡ d
-same_change d a o at_is kind_is = λ i. record { at = at_is i; kind = kind_is i }

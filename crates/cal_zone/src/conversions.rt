@@ -48,14 +48,9 @@ fn shown_at(local: PlainDateTime, seconds: i64, instant: i64) -> Option<OffsetDa
     ensures { SomeIff result (IsOffset (seconds -ℤ instant))
         (record { local = local; offset = seconds -ℤ instant }) }
 {
-    let Some(difference) = seconds.checked_sub(instant) else {
-        return None;
-    };
+    let difference = seconds.checked_sub(instant)?;
     match i32::try_from(difference) {
-        Ok(offset) => match utc_offset(offset) {
-            Some(offset) => Some(local.assume_offset(offset)),
-            None => None,
-        },
+        Ok(offset) => Some(local.assume_offset(utc_offset(offset)?)),
         Err(_) => None,
     }
 }
@@ -130,10 +125,7 @@ impl<'a> Zone<'a> {
             in SomeIff result (IsDateTime local) (record { local = local; offset = offset }) }
     {
         let offset = self.utc_offset_at(instant);
-        match local_date_time(instant, offset) {
-            Some(local) => Some(local.assume_offset(offset)),
-            None => None,
-        }
+        Some(local_date_time(instant, offset)?.assume_offset(offset))
     }
 
     /// Returns the date-times at which clocks show a reading, a local date-time: exactly those

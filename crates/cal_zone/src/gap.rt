@@ -22,9 +22,7 @@ pub(crate) fn local_date_time(at: i64, offset: UtcOffset) -> Option<PlainDateTim
     ensures { let local = unix_epoch +ℤ (at +ℤ offset) *ℤ pos second
         in SomeIff result (IsDateTime local) local }
 {
-    let Some(seconds) = at.checked_add(i64::from(offset.whole_seconds())) else {
-        return None;
-    };
+    let seconds = at.checked_add(i64::from(offset.whole_seconds()))?;
     OffsetDateTime::unix_epoch()
         .local()
         .checked_add(SignedDuration::seconds(seconds))

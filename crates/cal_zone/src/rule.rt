@@ -5,7 +5,7 @@ ghost use Rattle.cal_zone.specs.Timeline.{Timeline, local_at, offset_at, InOrder
 ghost use Rattle.cal_zone.specs.declared.change.Change.{Change};
 
 use crate::change_error::{after, is_next};
-use crate::{LocalType, Span, Table, Yearly};
+use crate::{Change, LocalType, Span, Table, Yearly};
 
 /// A rule of two changes each year, such as the rule of the POSIX text
 /// `CET-1CEST,M3.5.0,M10.5.0/3`. The first change comes earlier in the year.
@@ -127,6 +127,18 @@ impl Rule {
         // Both are read first, so that the choice needs no branch.
         let (one, other) = (self.one.kind, self.other.kind);
         if index % 2 == 0 { one } else { other }
+    }
+
+    /// Returns the change at an index.
+    #[inline(always)]
+    pub(crate) fn change(&self, index: u32) -> Change
+        requires { index < 3_999_998 }
+        ensures { result ≡ change_of self.now.one self.now.other index }
+    {
+        Change {
+            at: self.time(index),
+            kind: self.kind(index),
+        }
     }
 
     /// Returns the number of changes that are not after an instant.

@@ -46,19 +46,17 @@ fn later_len(rule: &Option<Rule>, skip: u32) -> usize
     }
 }
 
-/// Returns the rule, and its index of the change at an index that is counted from the table's end.
+/// Returns the rule's change at an index that is counted from the table's end.
 #[inline(always)]
-fn later_change(rule: &Option<Rule>, skip: u32, index: usize) -> (Rule, u32)
+fn later_change(rule: &Option<Rule>, skip: u32, index: usize) -> Change
     requires skip { skip ≤ 3_999_998 }
     requires index { index < length (later rule.now skip) }
-    ensures value { change_of result.0.one result.0.other result.1
-        ≡ slice_index_or (later rule.now skip) index no_change }
-    ensures bound { result.1 < 3_999_998 }
+    ensures { result ≡ slice_index_or (later rule.now skip) index no_change }
 {
     match rule {
         Some(rule) => {
             let _ = rule.len();
-            (*rule, skip + index as u32)
+            rule.change(skip + index as u32)
         }
         None => unreachable!(),
     }
@@ -78,18 +76,14 @@ impl<'a> UncheckedZone<'a> {
         if parts.skip > 3_999_998 {
             return None;
         }
-        match Table::from_parts(parts.bytes, parts.layout) {
-            Some(table) => {
-                let _ = table.len();
-                Some(UncheckedZone {
-                    first: parts.first,
-                    table,
-                    rule: parts.rule,
-                    skip: parts.skip,
-                })
-            }
-            None => None,
-        }
+        let table = Table::from_parts(parts.bytes, parts.layout)?;
+        let _ = table.len();
+        Some(UncheckedZone {
+            first: parts.first,
+            table,
+            rule: parts.rule,
+            skip: parts.skip,
+        })
     }
 
     /// Returns the number of changes.
@@ -100,34 +94,27 @@ impl<'a> UncheckedZone<'a> {
         self.table.len() + later_len(&self.rule, self.skip)
     }
 
+    /// Returns the change at an index.
+    #[inline(always)]
+    fn change(&self, index: usize) -> Change
+        requires { index < length self.now.changes }
+        ensures { result ≡ slice_index_or self.now.changes index no_change }
+    {
+        let table = &self.table;
+        let count = table.len();
+        if index < count {
+            return table.change(index);
+        }
+        later_change(&self.rule, self.skip, index - count)
+    }
+
     /// Returns the time of the change at an index.
     #[inline(always)]
     fn time(&self, index: usize) -> i64
         requires { index < length self.now.changes }
         ensures { result ≡ at self.now.changes index }
     {
-        let table = &self.table;
-        let count = table.len();
-        if index < count {
-            return table.time(index);
-        }
-        let change = later_change(&self.rule, self.skip, index - count);
-        change.0.time(change.1)
-    }
-
-    /// Returns how the clocks are set from the change at an index on.
-    #[inline(always)]
-    fn kind(&self, index: usize) -> LocalType
-        requires { index < length self.now.changes }
-        ensures { result ≡ (slice_index_or self.now.changes index no_change).kind }
-    {
-        let table = &self.table;
-        let count = table.len();
-        if index < count {
-            return table.kind(index);
-        }
-        let change = later_change(&self.rule, self.skip, index - count);
-        change.0.kind(change.1)
+        self.change(index).at
     }
 
     /// Returns the offset after the first `count` changes.
@@ -139,7 +126,7 @@ impl<'a> UncheckedZone<'a> {
         if count == 0 {
             self.first.offset
         } else {
-            self.kind(count - 1).offset
+            self.change(count - 1).kind.offset
         }
     }
 
@@ -201,7 +188,7 @@ impl<'a> UncheckedZone<'a> {
         if count == 0 {
             self.first
         } else {
-            self.kind(count - 1)
+            self.change(count - 1).kind
         }
     }
 
@@ -342,10 +329,7 @@ impl<'a> UncheckedZone<'a> {
     {
         let count = self.count(instant);
         if count < self.len() {
-            Some(Change {
-                at: self.time(count),
-                kind: self.kind(count),
-            })
+            Some(self.change(count))
         } else {
             None
         }
@@ -361,10 +345,7 @@ impl<'a> UncheckedZone<'a> {
         if count == 0 {
             None
         } else {
-            Some(Change {
-                at: self.time(count - 1),
-                kind: self.kind(count - 1),
-            })
+            Some(self.change(count - 1))
         }
     }
 

@@ -78,17 +78,15 @@ impl<'a> Zone<'a> {
             (¬ IsOrdered first.offset (zone_of first table.entry rule).changes) }
     {
         let _ = table.len();
-        match join(first, &table, rule) {
-            Ok(skip) => Ok(Zone {
-                unchecked: UncheckedZone {
-                    first,
-                    table,
-                    rule,
-                    skip,
-                },
-            }),
-            Err(error) => Err(error),
-        }
+        let skip = join(first, &table, rule)?;
+        Ok(Zone {
+            unchecked: UncheckedZone {
+                first,
+                table,
+                rule,
+                skip,
+            },
+        })
     }
 
     /// Creates a zone from parts whose changes are in order, without a look at the changes.

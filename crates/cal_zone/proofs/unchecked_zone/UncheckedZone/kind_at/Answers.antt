@@ -1,5 +1,6 @@
 use Rattle.std.proofs.Common.{ap, sym, ◌∙◌, arith, w64, length}
 use Rattle.std.proofs.lemmas.Int.{to_z-of_z}
+use Rattle.cal_zone.specs.declared.change.Change.{Change}
 use Rattle.cal_zone.specs.Timeline.{Timeline, at}
 use Rattle.cal_zone.proofs.Offsets.{kind_at-first, kind_at-last}
 use Rattle.cal_zone.proofs.Orders.{at_rises}
@@ -15,5 +16,5 @@ returns-then-count-eq0 c = λ order.
 pub returns-else-count-eq0 : goal.returns-else-count-eq0
 returns-else-count-eq0 c = λ order.
     let split = rising_split (at c.args.self.now.changes) (length c.args.self.now.changes) _ c.count-count.result (at_rises c.args.self.now order) c.count-count.ensures in
-    c.kind.ensures
+    ap (λ (r : Change). r.kind) c.change.ensures
     ∙ sym (kind_at-last c.args.self.now c.args.instant _ c.count-count.result (to_z-of_z w64 c.args.instant c.ranges.instant) (omega arith) split.inside split.below split.above)

@@ -1,11 +1,9 @@
-use Rattle.std.proofs.Common.{arith, subst, ℤ, w64, ◌∙◌}
-use Rattle.std.proofs.lemmas.Int.{ints, to_z-of_z}
+use Rattle.std.proofs.Common.{arith, subst, ℤ, w64}
+use Rattle.std.proofs.lemmas.Int.{to_z-of_z}
 use Rattle.std.specs.Prelude.{length, ◌≤ℤ◌}
-use Rattle.std.specs.List.{slice_index_or}
-use Rattle.cal_zone.specs.Timeline.{at, no_change}
+use Rattle.cal_zone.specs.Timeline.{at}
 use Rattle.cal_zone.proofs.Orders.{at_rises}
 use Rattle.cal_zone.proofs.Splits.{rising_split, same_split}
-use Rattle.cal_zone.proofs.Tables.{same_change}
 use Rattle.cal_zone.proofs.unchecked_zone.UncheckedZone.next_change.Goals as goal
 
 pub returns-then-count-len-clause-some : goal.returns-then-count-len-clause-some
@@ -17,7 +15,7 @@ returns-then-count-len-clause-some c = λ order.
       inside = omega (arith, c.len.ensures.len);
       split = same_split (at cs) (length cs) c.args.instant _ n n (to_z-of_z w64 c.args.instant c.ranges.instant)
           (rising_split (at cs) (length cs) _ n (at_rises c.args.self.now order) c.count-count.ensures);
-      change = same_change (slice_index_or cs n no_change) _ _ (to_z-of_z w64 c.time.result (omega (arith, ints)) ∙ c.time.ensures) c.kind.ensures;
+      change = c.change.ensures;
     }
 
 pub returns-else-count-len-clause-none : goal.returns-else-count-len-clause-none

@@ -1,12 +1,10 @@
-use Rattle.std.proofs.Common.{◌≡◌, arith, subst, suc, ◌-◌, ℕ, ℤ, w64, ◌∙◌}
-use Rattle.std.proofs.lemmas.Int.{ints, to_z-of_z}
+use Rattle.std.proofs.Common.{◌≡◌, arith, subst, suc, ◌-◌, ℕ, ℤ, w64}
+use Rattle.std.proofs.lemmas.Int.{to_z-of_z}
 use Rattle.std.specs.Prelude.{length, ◌<ℤ◌}
-use Rattle.std.specs.List.{slice_index_or}
 use Rattle.cal_zone.specs.Split.{IsSplit}
-use Rattle.cal_zone.specs.Timeline.{at, no_change}
+use Rattle.cal_zone.specs.Timeline.{at}
 use Rattle.cal_zone.proofs.Orders.{at_rises}
 use Rattle.cal_zone.proofs.Splits.{rising_split, same_split}
-use Rattle.cal_zone.proofs.Tables.{same_change}
 use Rattle.cal_zone.proofs.unchecked_zone.UncheckedZone.previous_change.Goals as goal
 
 pub returns-else-count-eq0-clause-some : goal.returns-else-count-eq0-clause-some
@@ -20,7 +18,7 @@ returns-else-count-eq0-clause-some c = λ order.
       inside = (let inside = split.inside in omega arith);
       split = subst (λ (m : ℕ). IsSplit (at cs) (length cs) c.args.instant m m) e
           (same_split (at cs) (length cs) c.args.instant _ n n (to_z-of_z w64 c.args.instant c.ranges.instant) split);
-      change = same_change (slice_index_or cs (n - 1) no_change) _ _ (to_z-of_z w64 c.time.result (omega (arith, ints)) ∙ c.time.ensures) c.kind.ensures;
+      change = c.change.ensures;
     }
 
 pub returns-then-count-eq0-clause-none : goal.returns-then-count-eq0-clause-none
