@@ -70,6 +70,7 @@ error_phrase expected.Moment = codes "invalid moment"
 error_phrase expected.Many = codes "invalid number or rule"
 error_phrase expected.Rule = codes "invalid rule"
 error_phrase expected.UnitOfDays = codes "invalid unit"
+error_phrase expected.TwoMoments = codes "at ZONE requires two moments"
 error_phrase what = codes "unexpected argument"
 
 -- The name of a missing argument.
@@ -162,6 +163,7 @@ names_word expected.OffsetOrZone = false
 names_word expected.LocalOnly = false
 names_word expected.WorkdaysOnly = false
 names_word expected.Local = false
+names_word expected.TwoMoments = false
 names_word what = true
 
 -- After other options, an option is wrong only if it is a duplicate.

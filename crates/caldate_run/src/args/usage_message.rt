@@ -290,6 +290,7 @@ fn names_word(expected: Expected) -> bool
         Expected::Header | Expected::Assume | Expected::Local | Expected::ZoneOption => false,
         Expected::AssumeYear | Expected::Yearless => false,
         Expected::OffsetOrZone | Expected::LocalOnly | Expected::WorkdaysOnly => false,
+        Expected::TwoMoments => false,
         _ => true,
     }
 }
@@ -357,6 +358,7 @@ fn error_phrase(expected: Expected) -> &'static [u8]
         Expected::Many => b"invalid number or rule".as_slice(),
         Expected::Rule => b"invalid rule".as_slice(),
         Expected::UnitOfDays => b"invalid unit".as_slice(),
+        Expected::TwoMoments => b"at ZONE requires two moments".as_slice(),
         _ => b"unexpected argument".as_slice(),
     }
 }
