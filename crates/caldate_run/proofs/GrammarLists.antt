@@ -1,5 +1,5 @@
 -- The words of the lists: the parser accepts those of the grammar, and no others.
-use Rattle.std.proofs.Common.{◌≡◌, ◌∙◌, ℕ, ◌+◌, true, false, List, [], ◌∷◌, drop, Option, Some, Ok, refl, sym, ap, slice_get}
+use Rattle.std.proofs.Common.{◌≡◌, ◌∙◌, ℕ, ◌+◌, true, false, List, [], ◌∷◌, drop, Option, Some, Ok, refl, sym, subst, ap, slice_get}
 use Rattle.std.specs.Prelude.{codes, option_and_then}
 use Rattle.std.specs.Option.{option_map_or}
 use Rattle.std.proofs.lemmas.Option.{none-some, same_Some}
@@ -8,17 +8,19 @@ use Rattle.cal_text.specs.declared.any.DateOrMoment.{DateOrMoment}
 use Rattle.cal_text.specs.declared.any.DateOrMoment.TheVariants as dated
 use Rattle.cal_text.specs.declared.any.MomentForm.{MomentForm}
 use Rattle.cal_datetime.specs.OffsetDateTime.{LocalAndOffset}
+use Rattle.cal_zone.specs.Timeline.{Timeline}
 use Rattle.caldate_run.specs.Grammar.{SpellsList, SpellsSpan}
 use Rattle.caldate_run.specs.Grammar as grammar
 use Rattle.caldate_run.specs.Meanings.{Meanings, found_in}
-use Rattle.caldate_run.specs.Requests.{and_then, date_at, date_in, is_rule_like, keyword, list_of, moment_at, moment_in, occurrences_of, only_at, parse_u32, rule_of, span_from, step_in, step_of, unit_of, word_as}
+use Rattle.caldate_run.specs.Requests.{and_then, date_at, date_in, in_zone, is_rule_like, keyword, list_of, moment_at, moment_in, occurrences_of, only_at, parse_u32, rule_of, span_at, span_from, step_in, step_of, unit_of, word_as}
+use Rattle.caldate_run.specs.Zones.{zone_of}
 use Rattle.caldate_run.specs.declared.args.usage_error.Expected.TheVariants as expected
 use Rattle.caldate_run.specs.declared.request.Command.{Command}
 use Rattle.caldate_run.specs.declared.request.Command.TheVariants as command
 use Rattle.caldate_run.specs.declared.request.Span.{Span}
-use Rattle.caldate_run.specs.declared.request.Span.TheVariants.{Dates, Moments}
+use Rattle.caldate_run.specs.declared.request.Span.TheVariants.{Dates, InZone, Moments}
 use Rattle.caldate_run.specs.declared.request.StepUnit.TheVariants as steps
-use Rattle.caldate_run.proofs.Grammar.{after_keyword, ended_ok, ends_ok, got, head_at, if_bool, if_false, if_true, keyword_at, map_or_none, map_or_some, none_at, ok_ended, ok_ends, ok_goes_on, ok_only, ok_then, ok_word, only_ok, or_ok, past_end, same_ok, tail_at, then_ok, word_ok}
+use Rattle.caldate_run.proofs.Grammar.{after_keyword, ended_ok, ends_ok, got, head_at, if_bool, if_false, if_true, keyword_at, made_ok, map_or_none, map_or_some, none_at, not_ok, ok_ended, ok_ends, ok_goes_on, ok_made, ok_then, ok_word, or_ok, past_end, same_ok, tail_at, then_ok, word_ok}
 
 abbrev Words : Type 0
 Words = List (List ℕ)
@@ -55,6 +57,12 @@ module _ (now : Option LocalAndOffset) (meanings : Meanings) (words : Words) whe
       then_ok (moment_at now meanings words 4) (λ b. Ok (Moments m b)) span h (λ last k made.
       moment_ok 4 last k (λ b other e j. f b e (rw (← same_ok (Moments m last) span made) (grammar.moments is j))))
 
+  zone_ok : {P : Type 0} (span whole : Span) → in_zone meanings words span ≡ Ok whole
+      → ((name : List ℕ) (zone : Timeline) (first last : LocalAndOffset) → span ≡ Moments first last → drop 8 words ≡ name ∷ [] → zone_of meanings name ≡ Some zone → InZone zone first last ≡ whole → P) → P
+  zone_ok (Moments a b) whole h f = made_ok words 8 (zone_of meanings) expected.Zone (λ zone. InZone zone a b) whole h (λ name zone e m eq. f name zone a b refl e m eq)
+  zone_ok (Dates a b) whole h f = absurd (not_ok _ whole h)
+  zone_ok (InZone zone a b) whole h f = absurd (not_ok _ whole h)
+
   rule_spelled : (c : Command) → drop 1 words ≡ codes "from" ∷ drop 2 words → option_map_or is_rule_like (slice_get words 6) false ≡ true
       → and_then (occurrences_of now meanings words) (λ dates. Ok (command.Recurring dates)) ≡ Ok c → SpellsList now meanings (drop 1 words) c
   rule_spelled c start like h =
@@ -67,11 +75,17 @@ module _ (now : Option LocalAndOffset) (meanings : Meanings) (words : Words) whe
       span_ok found a span is k (λ b last spelled.
       then_ok (word_as words 5 (keyword (codes "by")) expected.By) _ o more (λ by_word k more.
       let by_at = keyword_at words 5 (codes "by") expected.By by_word k in
-      then_ok (only_at words 6 rule_of expected.Rule) _ o more (λ rule k more.
-      only_ok words 6 rule_of expected.Rule rule k (λ w end m.
-      let contains : is_rule_like w ≡ true = ap (λ (o : Option (List ℕ)). option_map_or is_rule_like o false) (sym (head_at words [] 6 w end)) ∙ like in
-      let eq : command.Recurring (record { span = span; recurrence = rule }) ≡ c = ap command.Recurring (same_ok _ o more) ∙ same_ok (command.Recurring o) c made in
-      rw (start, e, to_at, last, by_at, end, ← eq) (grammar.by_rule spelled contains m))))))))))
+      then_ok (word_as words 6 rule_of expected.Rule) _ o more (λ rule k more.
+      word_ok words 6 rule_of expected.Rule rule k (λ w e6 m.
+      then_ok (span_at meanings words span) _ o more (λ whole k last_made.
+      let contains : is_rule_like w ≡ true = ap (λ (o : Option (List ℕ)). option_map_or is_rule_like o false) (sym (head_at words _ 6 w e6)) ∙ like in
+      let eq : command.Recurring (record { span = whole; recurrence = rule }) ≡ c = ap command.Recurring (same_ok _ o last_made) ∙ same_ok (command.Recurring o) c made in
+      ends_ok words 7 span whole _ k
+      (λ end same. rw (start, e, to_at, last, by_at, e6, end, ← eq, ← same) (grammar.by_rule spelled contains m))
+      (λ given. then_ok (word_as words 7 (keyword (codes "at")) expected.End) _ whole given (λ at_word k more.
+      let at_at = keyword_at words 7 (codes "at") expected.End at_word k in
+      zone_ok span whole more (λ name zone first second is e8 zone_is whole_is.
+      rw (start, e, to_at, last, by_at, e6, at_at, e8, ← eq, ← whole_is) (grammar.by_rule_in_zone (subst (SpellsSpan now meanings a b) is spelled) contains m zone_is)))))))))))))
 
   dates_spelled : (c : Command) → drop 1 words ≡ codes "from" ∷ drop 2 words → option_map_or is_rule_like (slice_get words 6) false ≡ false
       → and_then (date_at now meanings words 2) (λ first. and_then (word_as words 3 (keyword (codes "to")) expected.UpTo) (λ to_word. and_then (date_at now meanings words 4) (λ last.
@@ -152,4 +166,20 @@ module _ (now : Option LocalAndOffset) (meanings : Meanings) (words : Words) whe
       (after_keyword words _ 3 (codes "to") expected.UpTo _ _ e3
       (ok_then _ _ span _ from_a.2
       (after_keyword words _ 5 (codes "by") expected.By _ _ e5
-      (ok_then _ _ rule _ (ok_only words 6 rule_of expected.Rule w rule e6 is) refl))))) refl))
+      (ok_then _ _ rule _ (ok_word words _ 6 rule_of expected.Rule w rule e6 is)
+      (ok_then _ _ span _ (ok_ends words 7 span _ (tail_at words _ 6 _ e6)) refl)))))) refl))
+  list_read ws c e1 (grammar.by_rule_in_zone {a = a} {b = b} {word = w} {name = name} {first = first} {last = last} {rule = rule} {zone = zone} spelled like is zone_is) =
+      let e2 = tail_at words _ 1 _ e1 in let e3 = tail_at words _ 2 _ e2 in let e4 = tail_at words _ 3 _ e3 in let e5 = tail_at words _ 4 _ e4 in
+      let e6 = tail_at words _ 5 _ e5 in let e7 = tail_at words _ 6 _ e6 in let e8 = tail_at words _ 7 _ e7 in
+      let from_a = span_read a b _ (Moments first last) e4 spelled in
+      after_keyword words _ 1 (codes "from") expected.From _ _ e1
+      (if_true (option_map_or is_rule_like (slice_get words 6) false) _ _ _ (map_or_some is_rule_like _ false true w (head_at words _ 6 w e6) like)
+      (ok_then _ _ (record { span = InZone zone first last; recurrence = rule }) _
+      (ok_then _ _ from_a.0 _ (ok_word words _ 2 (found_in now meanings) expected.Target a from_a.0 e2 from_a.1)
+      (after_keyword words _ 3 (codes "to") expected.UpTo _ _ e3
+      (ok_then _ _ (Moments first last) _ from_a.2
+      (after_keyword words _ 5 (codes "by") expected.By _ _ e5
+      (ok_then _ _ rule _ (ok_word words _ 6 rule_of expected.Rule w rule e6 is)
+      (ok_then _ _ (InZone zone first last) _ (ok_goes_on words _ 7 (codes "at") _ _ _ e7
+      (after_keyword words _ 7 (codes "at") expected.End _ _ e7
+      (ok_made words 8 (zone_of meanings) expected.Zone (λ zone. InZone zone first last) name zone e8 zone_is))) refl)))))) refl))

@@ -14,6 +14,8 @@ pub mod Texts
 pub mod Numbers
 pub mod RecordFields
 pub mod NewFields
+pub mod NextMoments
+pub mod OneList
 pub mod Each
 pub mod Replied
 pub mod Reported

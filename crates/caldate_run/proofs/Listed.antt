@@ -12,7 +12,7 @@ use Rattle.std.specs.Io.KnownBytes.{Appends}
 use Rattle.cal_time.specs.Date.{IsDate}
 use Rattle.cal_schedule.specs.Months.{IsMonthsLater}
 use Rattle.cal_schedule.proofs.MonthMoves.{IsMonthNumber-date, one_later}
-use Rattle.caldate_run.specs.Lists.{AreAll, AreFirst, IsUnitsAfter, IsListed, Lists, line_of}
+use Rattle.caldate_run.specs.Lists.{AreAll, AreFirst, IsUnitsAfter, IsListed, Lists, WritesLines, line_of}
 use Rattle.caldate_run.specs.Runs.{AppendsFront, IsOfWrite, WritesPage}
 use Rattle.caldate_run.specs.declared.run.run_error.RunError.{RunError}
 use Rattle.caldate_run.specs.declared.request.Listing.{Listing}
@@ -57,11 +57,11 @@ one_more listing days day first next k less =
           (subst (IsListed listing (length days)) (sym (get_or-append_seam days day [] 0)) next)
     ]
 
-pub one_line_more : (days : List ℕ) (day : ℕ) (written buffered : List ℕ) → flat_map line_of days ≡ written ++ buffered
-    → flat_map line_of (days ++ day ∷ []) ≡ written ++ (buffered ++ line_of day)
-one_line_more days day written buffered e =
-    flat_map-append line_of days (day ∷ []) ∙ ap (λ l. l ++ (line_of day ++ [])) e
-    ∙ ap (λ l. written ++ buffered ++ l) (append-nil (line_of day)) ∙ append_assoc written buffered (line_of day)
+pub one_line_more : {X : Type 0} (line : X → List ℕ) (items : List X) (item : X) (written buffered : List ℕ) → flat_map line items ≡ written ++ buffered
+    → flat_map line (items ++ item ∷ []) ≡ written ++ (buffered ++ line item)
+one_line_more line items item written buffered e =
+    flat_map-append line items (item ∷ []) ∙ ap (λ l. l ++ (line item ++ [])) e
+    ∙ ap (λ l. written ++ buffered ++ l) (append-nil (line item)) ∙ append_assoc written buffered (line item)
 
 pub next_count : (days : List ℕ) (day count every : ℕ) → count ≡ length days * every → count + every ≡ length (days ++ day ∷ []) * every
 next_count days day count every e =
@@ -69,18 +69,18 @@ next_count days day count every e =
     sym (ap (λ k. k * every) longer ∙ suc-mul (length days) every ∙ ap (λ p. p + every) (sym e))
 
 -- ---- what the writer took
-pub lists_failed : (listing : Listing) (r : Result Unit RunError) (old new : Option (List ℕ)) (days : List ℕ) → IsErrAnd r IsOfWrite → AreFirst listing days
-    → AppendsFront old new (flat_map line_of days) → Lists listing r old new
-lists_failed listing (Ok done) old new days is first front = absurd is
-lists_failed listing (Err error) old new days is first front = (is, (days, first, front))
+pub lists_failed : {X : Type 0} (line : X → List ℕ) (First All : List X → Type 0) (r : Result Unit RunError) (old new : Option (List ℕ)) (items : List X)
+    → IsErrAnd r IsOfWrite → First items → AppendsFront old new (flat_map line items) → WritesLines line First All r old new
+lists_failed line First All (Ok done) old new items is first front = absurd is
+lists_failed line First All (Err error) old new items is first front = (is, (items, first, front))
 
-pub lists_ended : (listing : Listing) (r : Result Unit RunError) (start now new : Option (List ℕ)) (days written buffered : List ℕ) → AreAll listing days
-    → flat_map line_of days ≡ written ++ buffered → Appends start now written → OnOk r (Appends now new buffered) → OnErr r (AppendsFront now new buffered)
-    → IfErr r IsOfWrite → Lists listing r start new
-lists_ended listing (Ok done) start now new days written buffered all whole taken ok front err =
-    (days, all, all_more start now new written buffered _ whole taken ok)
-lists_ended listing (Err error) start now new days written buffered all whole taken ok front err =
-    (err, (days, all.0, front_more start now new written buffered _ whole taken front))
+pub lists_ended : {X : Type 0} (line : X → List ℕ) (First All : List X → Type 0) (r : Result Unit RunError) (start now new : Option (List ℕ)) (items : List X)
+    (written buffered : List ℕ) → First items → All items → flat_map line items ≡ written ++ buffered → Appends start now written
+    → OnOk r (Appends now new buffered) → OnErr r (AppendsFront now new buffered) → IfErr r IsOfWrite → WritesLines line First All r start new
+lists_ended line First All (Ok done) start now new items written buffered first all whole taken ok front err =
+    (items, all, all_more start now new written buffered _ whole taken ok)
+lists_ended line First All (Err error) start now new items written buffered first all whole taken ok front err =
+    (err, (items, first, front_more start now new written buffered _ whole taken front))
 
 -- ---- lines of which some are left
 pub one_text_more : (all written old room buffered text left : List ℕ) → all ≡ written ++ (old ++ (text ++ 10 ∷ left)) → old ≡ room ++ buffered

@@ -19,7 +19,7 @@ in_range-one m None (Some s) h k = absurd (h k.0)
 in_range-one m (Some r) None h k = absurd (k h.0)
 in_range-one m (Some r) (Some s) h k = ap (λ (x : LocalAndOffset). Some x) (h.1 ∙ sym k.1)
 
-policy-one : (policy : Policy) (local : Local) (r s : Option LocalAndOffset) → IsByPolicy policy local r → IsByPolicy policy local s → r ≡ s
+pub policy-one : (policy : Policy) (local : Local) (r s : Option LocalAndOffset) → IsByPolicy policy local r → IsByPolicy policy local s → r ≡ s
 policy-one Compatible (Single m) r s h k = h ∙ sym k
 policy-one Compatible (Gap gap) r s h k = in_range-one (moved_forward gap) r s h k
 policy-one Compatible (Fold e l) r s h k = h ∙ sym k

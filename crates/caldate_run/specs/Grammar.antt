@@ -31,7 +31,7 @@ use Rattle.caldate_run.specs.declared.request.Policy.{Policy}
 use Rattle.caldate_run.specs.declared.request.Request.{Request}
 use Rattle.caldate_run.specs.declared.request.Request.TheVariants.{To, Print, Move, Floor, Until, Since, At, Keep}
 use Rattle.caldate_run.specs.declared.request.Span.{Span}
-use Rattle.caldate_run.specs.declared.request.Span.TheVariants.{Dates, Moments}
+use Rattle.caldate_run.specs.declared.request.Span.TheVariants.{Dates, InZone, Moments}
 use Rattle.caldate_run.specs.declared.request.Step.{Step}
 use Rattle.caldate_run.specs.declared.request.StepUnit.TheVariants as steps
 use Rattle.caldate_run.specs.declared.request.Target.{Target}
@@ -97,8 +97,8 @@ pub data SpellsSpan (now : Option LocalAndOffset) (meanings : Meanings) (a b : L
   moments : {form other : MomentForm} {first last : LocalAndOffset} → found_in now meanings a ≡ Some (dated.Moment form first)
       → found_in now meanings b ≡ Some (dated.Moment other last) → SpellsSpan now meanings a b (Moments first last)
 
--- `from A to B`, `from A to B by N UNIT`, `from A to B by RULE`. A rule contains a `=`, and a number
--- doesn't.
+-- `from A to B`, `from A to B by N UNIT`, `from A to B by RULE`, `from A to B by RULE at ZONE`. A rule
+-- contains a `=`, and a number doesn't.
 pub data SpellsList (now : Option LocalAndOffset) (meanings : Meanings) : List (List ℕ) → Command → Type 0 where
   days : {a b : List ℕ} {first last : ℕ} → SpellsSpan now meanings a b (Dates first last)
       → SpellsList now meanings (codes "from" ∷ a ∷ codes "to" ∷ b ∷ []) (command.Dates (record { first = first; last = last; step = record { every = 1; unit = steps.Days } }))
@@ -108,6 +108,9 @@ pub data SpellsList (now : Option LocalAndOffset) (meanings : Meanings) : List (
   by_rule : {a b word : List ℕ} {span : Span} {rule : Recurrence} → SpellsSpan now meanings a b span
       → is_rule_like word ≡ true → rule_of word ≡ Some rule
       → SpellsList now meanings (codes "from" ∷ a ∷ codes "to" ∷ b ∷ codes "by" ∷ word ∷ []) (command.Recurring (record { span = span; recurrence = rule }))
+  by_rule_in_zone : {a b word name : List ℕ} {first last : LocalAndOffset} {rule : Recurrence} {zone : Timeline} → SpellsSpan now meanings a b (Moments first last)
+      → is_rule_like word ≡ true → rule_of word ≡ Some rule → zone_of meanings name ≡ Some zone
+      → SpellsList now meanings (codes "from" ∷ a ∷ codes "to" ∷ b ∷ codes "by" ∷ word ∷ codes "at" ∷ name ∷ []) (command.Recurring (record { span = InZone zone first last; recurrence = rule }))
 
 -- ---- options
 -- An option that has a value and isn't given yet: its name, its value, and the options with it.

@@ -51,8 +51,12 @@ AreAll listing days = AreFirst listing days × ((day : ℕ) → ¬ IsListed list
 abbrev pub line_of : ℕ → List ℕ
 line_of day = date_text Calendar day ++ 10 ∷ []
 
--- The writer took the lines of all days. After a failed write it took a beginning of the lines of
--- the first days, and never all of them.
+-- The writer took the lines of all items. After a failed write it took a beginning of the lines of
+-- the first items, and never all of them.
+abbrev pub WritesLines : {X : Type 0} → (X → List ℕ) → (List X → Type 0) → (List X → Type 0) → Result Unit RunError → Option (List ℕ) → Option (List ℕ) → Type 0
+WritesLines {X} line First All (Ok done) old new = (items : List X) × All items × Appends old new (flat_map line items)
+WritesLines {X} line First All (Err error) old new = IsOfWrite error × ((items : List X) × First items × AppendsFront old new (flat_map line items))
+
+-- The writer took the lines of the days of a list.
 abbrev pub Lists : Listing → Result Unit RunError → Option (List ℕ) → Option (List ℕ) → Type 0
-Lists listing (Ok done) old new = (days : List ℕ) × AreAll listing days × Appends old new (flat_map line_of days)
-Lists listing (Err error) old new = IsOfWrite error × ((days : List ℕ) × AreFirst listing days × AppendsFront old new (flat_map line_of days))
+Lists listing outcome old new = WritesLines line_of (AreFirst listing) (AreAll listing) outcome old new

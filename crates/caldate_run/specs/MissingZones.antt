@@ -1,5 +1,5 @@
 -- The first zone in the arguments whose file isn't given.
-use Rattle.std.specs.Prelude.{ℕ, ◌&&◌, Bool, true, false, is_none, List, Option, Some, None, option_and_then, Result, Ok, Err, slice_get, if◌then◌else◌}
+use Rattle.std.specs.Prelude.{ℕ, ◌&&◌, Bool, true, false, pos, is_none, List, Option, Some, None, option_and_then, Result, Ok, Err, slice_get, if◌then◌else◌}
 use Rattle.caldate_run.specs.Meanings.{Meanings}
 use Rattle.caldate_run.specs.Requests.{parse_args}
 use Rattle.caldate_run.specs.Zones.{file_named, is_zone_name, name_in}
@@ -24,6 +24,6 @@ missing_in files words (Ok command) = None
 missing_in files words (Err error) =
     if is_zone_expected error.expected then option_and_then (λ word. name_without_file files (name_in word)) (slice_get words error.index) else None
 
--- A zone without its file makes the arguments invalid.
+-- A zone without its file makes the arguments invalid, at whatever time `now` means.
 abbrev pub missing_name : Meanings → DataFiles → List (List ℕ) → Option (List ℕ)
-missing_name meanings files words = missing_in files words (parse_args None meanings words)
+missing_name meanings files words = missing_in files words (parse_args (Some (pos 0)) meanings words)

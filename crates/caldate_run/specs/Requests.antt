@@ -57,7 +57,7 @@ use Rattle.caldate_run.specs.declared.request.Place.{Place}
 use Rattle.caldate_run.specs.declared.request.Place.TheVariants as place
 use Rattle.caldate_run.specs.declared.request.Occurrences.{Occurrences}
 use Rattle.caldate_run.specs.declared.request.Span.{Span}
-use Rattle.caldate_run.specs.declared.request.Span.TheVariants.{Dates, Moments}
+use Rattle.caldate_run.specs.declared.request.Span.TheVariants.{Dates, InZone, Moments}
 use Rattle.caldate_run.specs.declared.request.Step.{Step}
 use Rattle.caldate_run.specs.declared.request.StepUnit.TheVariants as steps
 use Rattle.caldate_run.specs.declared.request.Target.{Target}
@@ -361,14 +361,26 @@ abbrev pub span_from : Option LocalAndOffset → Meanings → List (List ℕ) �
 span_from now meanings words (dated.Date form a) = and_then (date_at now meanings words 4) (λ b. Ok (Dates a b))
 span_from now meanings words (dated.Moment form a) = and_then (moment_at now meanings words 4) (λ b. Ok (Moments a b))
 
--- `A to B by RULE`
+-- `at ZONE` after two moments
+abbrev pub in_zone : Meanings → List (List ℕ) → Span → Result Span UsageError
+in_zone meanings words (Moments a b) = and_then (only_at words 8 (zone_of meanings) expected.Zone) (λ zone. Ok (InZone zone a b))
+in_zone meanings words other = Err (usage_error_at 7 expected.TwoMoments)
+
+-- `at ZONE`, or nothing
+abbrev pub span_at : Meanings → List (List ℕ) → Span → Result Span UsageError
+span_at meanings words span =
+    if ends_at words 7 then Ok span else
+    and_then (word_as words 7 (keyword (codes "at")) expected.End) (λ at_word. in_zone meanings words span)
+
+-- `A to B by RULE`, `A to B by RULE at ZONE`
 abbrev pub occurrences_of : Option LocalAndOffset → Meanings → List (List ℕ) → Result Occurrences UsageError
 occurrences_of now meanings words =
     and_then (word_as words 2 (found_in now meanings) expected.Target) (λ first.
     and_then (word_as words 3 (keyword (codes "to")) expected.UpTo) (λ to_word.
     and_then (span_from now meanings words first) (λ span.
     and_then (word_as words 5 (keyword (codes "by")) expected.By) (λ by_word.
-    and_then (only_at words 6 rule_of expected.Rule) (λ rule. Ok (record { span = span; recurrence = rule }))))))
+    and_then (word_as words 6 rule_of expected.Rule) (λ rule.
+    and_then (span_at meanings words span) (λ whole. Ok (record { span = whole; recurrence = rule })))))))
 
 -- `list from A to B`, with a step, a rule or neither
 abbrev pub list_of : Option LocalAndOffset → Meanings → List (List ℕ) → Result Command UsageError

@@ -73,7 +73,7 @@ pub fn parse_args<'a>(
     } else if first == b"--version".as_slice() {
         ended(words, 1, Command::Version)
     } else if first == b"list".as_slice() {
-        list_of(words, &now_in(&None, now))
+        list_of(words, &now_in(&None, now), files)
     } else if first == b"--date".as_slice() {
         once_of(words, now, files)
     } else {
@@ -392,7 +392,11 @@ fn names_zone(words: &[u8], at: usize) -> bool
 }
 
 /// Parses `ZONE`.
-fn zone_at<'a>(words: &[u8], at: usize, files: &DataFiles<'a>) -> Result<Zone<'a>, UsageError>
+pub(crate) fn zone_at<'a>(
+    words: &[u8],
+    at: usize,
+    files: &DataFiles<'a>,
+) -> Result<Zone<'a>, UsageError>
     requires { at + 1 < 2 ^ 64 }
     ensures { (meanings : Meanings) → AreOfFiles files.now meanings
         → result ≡ only_at (arguments_of words.now) at (zone_of meanings) Expected.Zone }

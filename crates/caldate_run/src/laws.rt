@@ -1,10 +1,11 @@
-//! Laws: a text has one answer, a line has one reply, a record has its fields, an answer becomes
-//! one field, and all arguments have meanings.
+//! Laws: a text has one answer, a line has one reply, a recurrence has one list, a record has its
+//! fields, an answer becomes one field, and all arguments have meanings.
 ghost use Rattle.std.specs.List.{join_with_byte};
-ghost use Rattle.std.specs.Prelude.{◌≡◌, ◌+◌, ◌∷◌, ◌==◌, ◌<◌, ◌≤◌, ℕ, List, All, Option, Some, false, length, map, take, true};
+ghost use Rattle.std.specs.Prelude.{◌≡◌, ◌+◌, ◌∷◌, ◌==◌, ◌<◌, ◌≤◌, ℕ, List, All, IsOk, Option, Result, Some, false, length, map, take, true};
 ghost use Rattle.caldate_run.specs.Answers.{Answer, IsAnswer};
 ghost use Rattle.caldate_run.specs.Fields.{each_of, in_place_of, several, split_record};
 ghost use Rattle.caldate_run.specs.Lines.{all_lines};
+ghost use Rattle.caldate_run.specs.Recurring.{ListsOccurrences};
 ghost use Rattle.caldate_run.specs.Records.{IsField, IsRecord, records_text};
 ghost use Rattle.caldate_run.specs.Replies.{AreAnswers, IsAnswerToPart, IsReplyTo};
 ghost use Rattle.caldate_run.specs.Meanings.{AreMeanings, Meanings};
@@ -14,6 +15,7 @@ ghost use Rattle.caldate_run.specs.Scans.{IsScanned, part_at};
 ghost use Rattle.caldate_run.specs.Targets.{IsAnswerAt};
 ghost use Rattle.caldate_run.specs.Zones.{AreOfFiles};
 ghost use Rattle.caldate_run.specs.declared.run.no_answer.NoAnswer.{NoAnswer};
+ghost use Rattle.caldate_run.specs.declared.run.run_error.RunError.{RunError};
 ghost use Rattle.caldate_run.specs.declared.run.tally.Tally.{Tally};
 
 use crate::answer::{LONGEST_TEXT, read_with};
@@ -22,13 +24,14 @@ use crate::args::options::cut_value;
 use crate::args::words::cut;
 use crate::input::fields::selected_text;
 use crate::output::buffer::Buffer;
-use crate::request::{Field, FieldNumbers, Filter};
+use crate::request::{Field, FieldNumbers, Filter, Occurrences, Span};
 use crate::run::each::push_part;
 use crate::run::lines::cut_return;
 use crate::run::no_answer::NoAnswer;
 use crate::run::other::{other_field, read_other};
 use crate::zones::{DataFiles, zone_in};
 use cal_text::{DateOrMoment, parse_any};
+use cal_zone::laws::one_local;
 
 /// Proves that no text has two answers to the same request in the same reading.
 pub fn one_answer(filter: &Filter<'_>, text: &[u8]) -> Result<DateOrMoment, NoAnswer>
@@ -140,6 +143,19 @@ fn one_answer_before(filter: &Filter<'_>, bytes: &[u8])
     let _answer = one_answer(filter, bytes);
     if let [front @ .., _] = bytes {
         one_answer_before(filter, front);
+    }
+}
+
+/// Proves that a recurrence has one list of dates or moments.
+pub fn one_list(asked: &Occurrences<'_>)
+    ensures { (held : List ℕ) (outcome other : Result Unit RunError) (new later : Option (List ℕ))
+        → IsOk outcome → IsOk other → ListsOccurrences asked.now outcome (Some held) new
+        → ListsOccurrences asked.now other (Some held) later → new ≡ later }
+{
+    match &asked.span {
+        Span::Dates(_, _) => {}
+        Span::Moments(_, _) => {}
+        Span::InZone(zone, _, _) => one_local(zone),
     }
 }
 

@@ -5,6 +5,7 @@ ghost use Rattle.caldate_run.specs.Calls.{Writes, write_failure};
 ghost use Rattle.caldate_run.specs.Lists.{IsUnitsAfter, IsStep, IsWithin, Lists, line_of};
 ghost use Rattle.caldate_run.specs.Room.{HasRoom, longest_reply};
 
+pub(crate) mod in_zone;
 pub mod recurring;
 pub(crate) mod remaining;
 

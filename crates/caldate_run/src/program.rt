@@ -142,7 +142,7 @@ pub fn perform<R: Source, W: Sink, E: Sink>(
             end(outcome, errors)
         }
         Ok(Command::Recurring(dates)) => {
-            let outcome = list_occurrences(&dates, writer);
+            let outcome = list_occurrences(dates, writer);
             end(outcome, errors)
         }
         Ok(Command::Help) => end(write_all(writer, HELP), errors),

@@ -332,19 +332,21 @@ pub struct Listing {
 }
 
 /// The start of a recurrence, and the last date or moment that a list may have.
-#[derive(Clone, Copy)]
-pub enum Span {
+#[derive(Drop)]
+pub enum Span<'a> {
     /// Two dates.
     Dates(Date, Date),
     /// Two moments. The list has the offset of the first.
     Moments(OffsetDateTime, OffsetDateTime),
+    /// Two moments and the zone whose clocks the recurrence goes by.
+    InZone(Zone<'a>, OffsetDateTime, OffsetDateTime),
 }
 
 /// A list of the dates or moments of a recurrence.
 #[derive(Drop)]
-pub struct Occurrences {
+pub struct Occurrences<'a> {
     /// The start and the last possible date or moment.
-    pub span: Span,
+    pub span: Span<'a>,
     /// The recurrence of RFC 5545.
     pub recurrence: Recurrence,
 }
@@ -367,6 +369,6 @@ pub enum Command<'a> {
     NamedOnce(Filter<'a>, Field),
     /// `list from A to B [by N UNIT]`: the dates from A to B.
     Dates(Listing),
-    /// `list from A to B by RULE`: the dates or moments of the recurrence.
-    Recurring(Occurrences),
+    /// `list from A to B by RULE [at ZONE]`: the dates or moments of the recurrence.
+    Recurring(Occurrences<'a>),
 }

@@ -1,6 +1,7 @@
 //! The words `today` and `now`, and the moment that they mean.
 ghost use Rattle.std.specs.Prelude.{◌≡◌, ◌≤◌, Some, length, option_and_then};
 ghost use Rattle.cal_datetime.specs.DateTime.{date_at};
+ghost use Rattle.cal_datetime.specs.OffsetDateTime.{instant};
 ghost use Rattle.caldate_run.specs.ClockWords.{clock_text, clock_word, moment_in, now_in, rfc3339_or_unix_text, zone_of_clock};
 
 use crate::request::Clock;
@@ -16,18 +17,19 @@ pub fn now_in(zone: &Option<Zone<'_>>, now: Option<PlainDateTime>) -> Option<Off
 {
     let utc = now?;
     match zone {
-        Some(zone) => Some(moment_in(zone, utc)),
+        Some(zone) => Some(moment_in(zone, utc.assume_utc())),
         None => Some(utc.assume_utc()),
     }
 }
 
-/// Returns the moment at a date-time of UTC, at the offset that the zone has then.
-fn moment_in(zone: &Zone<'_>, utc: PlainDateTime) -> OffsetDateTime
-    ensures { result ≡ moment_in (Some zone.now) utc }
+/// Returns the moment at the offset that the zone has then.
+pub(crate) fn moment_in(zone: &Zone<'_>, moment: OffsetDateTime) -> OffsetDateTime
+    ensures { result ≡ moment_in (Some zone.now) (instant moment) }
 {
-    let offset = zone.utc_offset_at(utc.assume_utc().unix_timestamp());
-    let seconds = SignedDuration::seconds(i64::from(offset.whole_seconds()));
-    utc.saturating_add(seconds).assume_offset(offset)
+    let offset = zone.utc_offset_at(moment.unix_timestamp());
+    let change = offset.whole_seconds() - moment.offset().whole_seconds();
+    let seconds = SignedDuration::seconds(i64::from(change));
+    moment.local().saturating_add(seconds).assume_offset(offset)
 }
 
 /// Returns the moment for `now`, its date for `today`, and `None` for any other word.
@@ -67,7 +69,7 @@ fn date_on(clock: &Option<Clock<'_>>, utc: PlainDateTime) -> Date
     ensures { result ≡ date_at (moment_in (zone_of_clock clock.now) utc).local }
 {
     match clock {
-        Some(clock) => moment_in(&clock.zone, utc).date(),
+        Some(clock) => moment_in(&clock.zone, utc.assume_utc()).date(),
         None => utc.date(),
     }
 }

@@ -3,28 +3,37 @@ ghost use Rattle.std.specs.Prelude.{◌≡◌, ◌≤◌, ℕ, List, Option, IfO
 ghost use Rattle.std.specs.Option.{option_map_or};
 ghost use Rattle.caldate_run.specs.Lists.{HasValidStep, IsStep};
 ghost use Rattle.caldate_run.specs.Meanings.{AreMeanings, Meanings};
-ghost use Rattle.caldate_run.specs.Requests.{arguments_of, date_at, date_in, is_rule_like, list_of, moment_at, moment_in, occurrences_of, rule_of, span_from, step_in, step_of};
+ghost use Rattle.caldate_run.specs.Requests.{arguments_of, date_at, date_in, is_rule_like, list_of, moment_at, moment_in, occurrences_of, rule_of, span_at, span_from, step_in, step_of};
+ghost use Rattle.caldate_run.specs.Zones.{AreOfFiles};
 
 use crate::args::spelling::{parse_u32, unit_of};
 use crate::args::usage_error::{Expected, UsageError, usage_error_at};
-use crate::args::words::{ended, ends_at, found_at, keyword_at, only_at, word_as, word_at};
+use crate::args::words::{ended, ends_at, found_at, keyword_at, word_as, word_at};
+use crate::args::zone_at;
 use crate::request::{Command, Listing, Occurrences, Span, Step, StepUnit, TimeUnit};
 use crate::run::lines::index_of;
+use crate::zones::DataFiles;
 use cal_datetime::OffsetDateTime;
 use cal_recurrence::{Recurrence, parse};
 use cal_text::DateOrMoment;
 use cal_time::Date;
 
-/// Parses `list from A to B`, `list from A to B by N UNIT` or `list from A to B by RULE`.
-pub fn list_of(words: &[u8], now: &Option<OffsetDateTime>) -> Result<Command<'static>, UsageError>
+/// Parses `list from A to B`, `list from A to B by N UNIT` or `list from A to B by RULE`, perhaps
+/// with `at ZONE`.
+pub fn list_of<'a>(
+    words: &[u8],
+    now: &Option<OffsetDateTime>,
+    files: &DataFiles<'a>,
+) -> Result<Command<'a>, UsageError>
     ensures steps { IfOk result HasValidStep }
     ensures list { (meanings : Meanings)
         → AreMeanings meanings (arguments_of words.now)
+        → AreOfFiles files.now meanings
         → result ≡ list_of now.now meanings (arguments_of words.now) }
 {
     keyword_at(words, 1, b"from", Expected::From)?;
     if is_rule_like(words) {
-        return Ok(Command::Recurring(occurrences_of(words, now)?));
+        return Ok(Command::Recurring(occurrences_of(words, now, files)?));
     }
     let first = date_at(words, 2, now)?;
     keyword_at(words, 3, b"to", Expected::UpTo)?;
@@ -33,17 +42,39 @@ pub fn list_of(words: &[u8], now: &Option<OffsetDateTime>) -> Result<Command<'st
     Ok(Command::Dates(Listing { first, last, step }))
 }
 
-/// Parses `A to B by RULE`, where A and B are two dates or two moments.
-fn occurrences_of(words: &[u8], now: &Option<OffsetDateTime>) -> Result<Occurrences, UsageError>
+/// Parses `A to B by RULE`, where A and B are two dates or two moments, perhaps with `at ZONE`.
+fn occurrences_of<'a>(
+    words: &[u8],
+    now: &Option<OffsetDateTime>,
+    files: &DataFiles<'a>,
+) -> Result<Occurrences<'a>, UsageError>
     ensures { (meanings : Meanings) → AreMeanings meanings (arguments_of words.now)
+        → AreOfFiles files.now meanings
         → result ≡ occurrences_of now.now meanings (arguments_of words.now) }
 {
     let first = found_at(words, 2, Expected::Target, *now)?;
     keyword_at(words, 3, b"to", Expected::UpTo)?;
     let span = span_from(words, &first, now)?;
     keyword_at(words, 5, b"by", Expected::By)?;
-    let recurrence = only_at(words, 6, rule_of, Expected::Rule)?;
+    let recurrence = word_as(words, 6, rule_of, Expected::Rule)?;
+    let span = span_at(words, span, files)?;
     Ok(Occurrences { span, recurrence })
+}
+
+/// Parses `at ZONE` after two moments and RULE, or the end of the words.
+fn span_at<'a>(words: &[u8], span: Span<'a>, files: &DataFiles<'a>) -> Result<Span<'a>, UsageError>
+    ensures { (meanings : Meanings) → AreOfFiles files.now meanings
+        → result ≡ span_at meanings (arguments_of words.now) span.entry }
+{
+    if ends_at(words, 7) {
+        return Ok(span);
+    }
+    keyword_at(words, 7, b"at", Expected::End)?;
+    let Span::Moments(first, last) = span else {
+        return Err(usage_error_at(7, Expected::TwoMoments));
+    };
+    let zone = zone_at(words, 8, files)?;
+    Ok(Span::InZone(zone, first, last))
 }
 
 /// Parses B, a date if A is one, else a moment.
@@ -51,7 +82,7 @@ fn span_from(
     words: &[u8],
     first: &DateOrMoment,
     now: &Option<OffsetDateTime>,
-) -> Result<Span, UsageError>
+) -> Result<Span<'static>, UsageError>
     ensures { (meanings : Meanings) → AreMeanings meanings (arguments_of words.now)
         → result ≡ span_from now.now meanings (arguments_of words.now) first.now }
 {

@@ -18,7 +18,7 @@ macro_rules! messages {
 
 /// The error, the name of a missing argument, and the expected words, if the message has them. The
 /// rows have the order of `Expected`.
-pub(crate) const MESSAGES: [(Expected, &str, &str, &str); 56] = messages! {
+pub(crate) const MESSAGES: [(Expected, &str, &str, &str); 57] = messages! {
     Something: "missing command; try 'caldate --help'";
     Start: "unknown command", "command",
         "to, add, next, last, until, since, start, end, on-or-after, on-or-before, at, keep, list, --date, --invalid, --field, --append, --csv, --header, --scan, --separator, --skip, --read, --assume, --assume-year, --zone, --ambiguous, --holidays, --help or --version";
@@ -86,6 +86,7 @@ pub(crate) const MESSAGES: [(Expected, &str, &str, &str); 56] = messages! {
         "an integer from 1 to 4294967295 or a rule such as FREQ=MONTHLY;BYDAY=-1FR";
     Rule: "invalid rule", "rule";
     UnitOfDays: "invalid unit", "unit", "days, weeks, months or years";
+    TwoMoments: "at ZONE requires two moments";
     End: "unexpected argument", "argument";
 };
 

@@ -115,6 +115,8 @@ pub enum Expected {
     Rule,
     /// A unit of dates, such as `months`.
     UnitOfDays,
+    /// Two moments, which the zone of a list requires.
+    TwoMoments,
     /// No word.
     End,
 }

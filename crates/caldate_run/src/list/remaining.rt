@@ -1,10 +1,9 @@
 //! The dates or moments of a recurrence that aren't listed yet.
 ghost use Rattle.std.specs.Prelude.{◌≡◌, ◌≤◌, [], ◌∷◌, ◌++◌, length, IfSome, MatchOption};
 ghost use Rattle.std.specs.List.{take_while};
-ghost use Rattle.caldate_run.specs.Recurring.{is_day_up_to, is_moment_up_to, lines_left, lines_of};
+ghost use Rattle.caldate_run.specs.Recurring.{is_day_up_to, is_moment_up_to, lines_left};
 
 use crate::args::clock_words::rfc3339_or_unix_text;
-use crate::request::{Occurrences, Span};
 use cal_datetime::OffsetDateTime;
 use cal_recurrence::RuleReadings;
 use cal_schedule::RuleDays;
@@ -21,19 +20,6 @@ pub enum Remaining {
 }
 
 impl Remaining {
-    /// Creates the whole list.
-    pub fn new(asked: &Occurrences) -> Self
-        ensures { lines_left result ≡ lines_of asked.now.span asked.now.recurrence }
-    {
-        match asked.span {
-            Span::Dates(first, last) => Remaining::Dates(asked.recurrence.days(first), last),
-            Span::Moments(first, last) => {
-                let readings = asked.recurrence.readings(first.local());
-                Remaining::Moments(readings, first.offset(), last)
-            }
-        }
-    }
-
     /// Returns the text of the next date or moment, or `None` at the end.
     pub fn next_text(&mut self) -> Option<ShortText>
         ensures next { MatchOption result (lines_left self.old ≡ [])

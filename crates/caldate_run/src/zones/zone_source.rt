@@ -15,6 +15,8 @@ use crate::input::read_some;
 use crate::streams::Source;
 use crate::zones::read_zone_error::FileError;
 use crate::zones::{DataFiles, ZoneFile, file_named, is_zone_name, name_in};
+use cal_datetime::midnight;
+use cal_time::day_number::to_date;
 use std::env::Env;
 use std::fs::Files;
 use std::io::{Error, ErrorKind};
@@ -82,7 +84,9 @@ pub fn missing_name<'a>(arguments: &'a [u8], files: &DataFiles<'_>) -> Option<&'
         (missing_name meanings files.now (arguments_of arguments.now) ≡ None)
         (λ name. missing_name meanings files.now (arguments_of arguments.now) ≡ Some name.now) }
 {
-    let Err(usage_error) = parse_args(arguments, None, files) else {
+    // With a clock, `now` and `today` don't hide a zone after them.
+    let now = Some(midnight(to_date(0)));
+    let Err(usage_error) = parse_args(arguments, now, files) else {
         return None;
     };
     if !is_zone_expected(usage_error.expected) {

@@ -146,6 +146,12 @@ fn the_day_in_a_zone(rt: HostRuntime) {
         b"",
         b"2024-W09-5\n",
     );
+    check_answers(
+        &rt,
+        b"list\0from\0now\0to\0now\0by\0FREQ=DAILY\0at\0Etc/GMT-1",
+        b"",
+        b"2024-03-01T00:30:00.5+01:00\n",
+    );
 }
 
 #[test]

@@ -11,7 +11,7 @@ ghost use Rattle.caldate_run.specs.declared.run.tally.Tally.{Tally};
 use cal_datetime::PlainDateTime;
 use caldate_run::args::parse_args;
 use caldate_run::args::usage_error::UsageError;
-use caldate_run::laws::{have_zones, one_reply};
+use caldate_run::laws::{have_zones, one_list, one_reply};
 use caldate_run::list::list;
 use caldate_run::list::recurring::list_occurrences;
 use caldate_run::request::{Command, Filter, Listing, Occurrences};
@@ -71,17 +71,17 @@ fn lists<W: Sink>(
 }
 
 fn occurrences<W: Sink>(
-    asked: &Occurrences,
+    asked: Occurrences<'_>,
+    twin: Occurrences<'_>,
     writer: &mut W,
     other: &mut W,
 ) -> (Result<(), RunError>, Result<(), RunError>)
+    requires { asked ≡ twin }
     ensures { (held : List ℕ) → W.contents writer.old ≡ Some held → W.contents other.old ≡ Some held
         → IsOk result.0 → IsOk result.1 → W.contents writer.new ≡ W.contents other.new }
 {
-    (
-        list_occurrences(asked, writer),
-        list_occurrences(asked, other),
-    )
+    one_list(&asked);
+    (list_occurrences(asked, writer), list_occurrences(twin, other))
 }
 
 fn asks<'a>(

@@ -1,43 +1,30 @@
-use Rattle.std.proofs.Common.{ℕ, List, ◌++◌, ◌∷◌, ◌∙◌, ap, sym, arith, rules, length, length-append, []}
-use Rattle.std.specs.Prelude.{IsErrAnd}
-use Rattle.std.proofs.KnownBytes.{Appends-nil, Appends-trans}
-use Rattle.caldate_run.specs.Calls.Writes.{no_more}
-use Rattle.caldate_run.specs.Recurring.{lines_left}
-use Rattle.caldate_run.specs.Runs.{IsOfWrite}
-use Rattle.caldate_run.proofs.Calls.{writes_then}
-use Rattle.caldate_run.proofs.Listed.{lines_ended, lines_failed, one_text_more}
+use Rattle.std.proofs.Common.{◌∙◌, ap, subst, sym}
+use Rattle.cal_recurrence.specs.RecurrenceReadings.{readings_of}
+use Rattle.caldate_run.specs.Recurring.{ListsSpan, lines_left}
+use Rattle.caldate_run.specs.Runs.{WritesPage}
+use Rattle.caldate_run.specs.declared.list.remaining.Remaining.TheVariants.{Moments}
+use Rattle.caldate_run.proofs.FrontDays.{all_days, all_readings}
 use Rattle.caldate_run.proofs.list.recurring.list_occurrences.Goals as goal
 
-pub loop-text-init : goal.loop-text-init
-loop-text-init g c = (([], ap (λ (l : List ℕ). l ++ lines_left c.new-rest.result) (sym c.new-buffer.ensures), Appends-nil _), no_more _)
+pub returns-in-Dates-clause-lists : goal.returns-in-Dates-clause-lists
+returns-in-Dates-clause-lists g c =
+    let its = c.args.asked.recurrence in
+    let old = g.W.Sink.contents c.args.writer.now in
+    let new = g.W.Sink.contents c.write_lines.new.writer in
+    let days = all_days its c.in-Dates.first c.in-Dates.last c.days.result c.days.ensures in
+    subst (λ span. ListsSpan span its c.write_lines.result old new) (sym c.in-Dates.is)
+    (subst (λ page. WritesPage page c.write_lines.result old new) days c.write_lines.ensures.lines)
 
-pub returns-in_err-make_room-clause-lists : goal.returns-in_err-make_room-clause-lists
-returns-in_err-make_room-clause-lists g c =
-    let inv = c.loop-text.invariant.0 in
-    let is : IsErrAnd c.from_residual.result IsOfWrite = search rules in
-    lines_failed _ _ _ _ _ inv.0 c.loop-text.buffer _ is (sym c.new-rest.ensures ∙ inv.1) inv.2 c.in_err-make_room.ensures.front
-
-pub loop-text-preserved : goal.loop-text-preserved
-loop-text-preserved g c =
-    let inv = c.loop-text.invariant.0 in
-    let room = c.in_ok-make_room.ensures.ok in
-    let next = inv.1 ∙ ap (λ l. inv.0 ++ (c.loop-text.buffer ++ l)) c.in-Some.ensures.next in
-    let text = c.push.ensures.appended ∙ ap (λ l. c.make_room.new.buffer ++ l) c.as_bytes.ensures.value in
-    let line = c.push-in-Some.ensures.appended ∙ ap (λ l. l ++ 10 ∷ []) text in (
-      (
-        inv.0 ++ room.0,
-        one_text_more _ inv.0 c.loop-text.buffer room.0 _ _ _ next room.1 ∙ ap (λ l. (inv.0 ++ room.0) ++ (l ++ lines_left c.next_text.new.self)) (sym line),
-        Appends-trans _ _ _ _ _ inv.2 room.2,
-      ),
-      writes_then _ _ _ _ _ c.loop-text.invariant.1 c.in_ok-make_room.ensures.writes,
-    )
-
-pub loop-text-smaller : goal.loop-text-smaller
-loop-text-smaller g c = omega (arith, ap length c.in-Some.ensures.next, length-append c.in-Some.text (10 ∷ lines_left c.next_text.new.self))
-
-pub returns-clause-lists : goal.returns-clause-lists
-returns-clause-lists g c =
-    let inv = c.loop-text.invariant.0 in
-    lines_ended c.write_all.result _ _ _ _ inv.0 c.as_bytes-2.result.now (lines_left c.loop-text.rest) c.in_default.ensures.next
-    (sym c.new-rest.ensures ∙ inv.1 ∙ ap (λ l. inv.0 ++ (l ++ lines_left c.loop-text.rest)) (sym c.as_bytes-2.ensures)) inv.2
-    c.write_all.ensures.ok c.write_all.ensures.front c.write_all.ensures.err
+pub returns-in-Moments-clause-lists : goal.returns-in-Moments-clause-lists
+returns-in-Moments-clause-lists g c =
+    let its = c.args.asked.recurrence in
+    let first = c.in-Moments.first in
+    let last = c.in-Moments.last in
+    let outcome = c.write_lines-in-Moments.result in
+    let old = g.W.Sink.contents c.args.writer.now in
+    let new = g.W.Sink.contents c.write_lines-in-Moments.new.writer in
+    let readings =
+    ap (λ offset. lines_left (Moments c.readings-readings.result offset last)) c.offset.ensures.value
+    ∙ all_readings its first last c.readings-readings.result (c.readings-readings.ensures ∙ ap (readings_of its) c.local.ensures.value) in
+    subst (λ span. ListsSpan span its outcome old new) (sym c.in-Moments.is)
+    (subst (λ page. WritesPage page outcome old new) readings c.write_lines-in-Moments.ensures.lines)

@@ -2,7 +2,7 @@ use Rattle.std.proofs.Common.{◌≡◌, ℕ, List, ◌++◌, length, None}
 use Rattle.std.specs.Io.KnownBytes.{Appends}
 use Rattle.caldate_run.specs.Calls.{Writes}
 use Rattle.caldate_run.specs.Recurring.{lines_left}
-use Rattle.caldate_run.proofs.list.recurring.list_occurrences.Given as goal
+use Rattle.caldate_run.proofs.list.recurring.write_lines.Given as goal
 
 -- the first lines are written except for the buffer, the others are left, and no write failed
 abbrev pub invariant-loop-text : goal.invariant-loop-text

@@ -1,0 +1,120 @@
+//! Lists of the moments of a recurrence in a zone.
+ghost use Rattle.std.specs.Prelude.{◌≡◌, ◌++◌, ◌-ℤ◌, ◌≤ℤ◌, ◌<ℤ◌, pos, MatchOption, Some};
+ghost use Rattle.cal_datetime.specs.OffsetDateTime.{LocalAndOffset, instant};
+ghost use Rattle.cal_recurrence.specs.ZonedSet.{IsNextAfter, Means};
+ghost use Rattle.cal_recurrence.specs.declared.zoned_set.ZonedSet.{ZonedSet};
+ghost use Rattle.caldate_run.specs.Calls.{Writes, write_failure};
+ghost use Rattle.caldate_run.specs.Recurring.{IsSetIn, ListsSet, moment_line};
+ghost use Rattle.caldate_run.specs.Room.{HasRoom, longest_reply};
+
+use crate::args::clock_words::{moment_in, rfc3339_or_unix_text};
+use crate::output::buffer::Buffer;
+use crate::output::write_all;
+use crate::run::make_room;
+use crate::run::run_error::RunError;
+use crate::streams::Sink;
+use cal_datetime::OffsetDateTime;
+use cal_recurrence::{DateOrTime, DateTimeSet, Recurrence, SetParts, Values, ZonedSet};
+use cal_zone::Zone;
+
+/// Writes the moments of the recurrence in order, each in RFC 3339 at the offset of the zone with a
+/// line feed. The recurrence starts at the reading of the zone's clocks at the first moment. After a
+/// `RunError::Write`, only a part of the lines was written.
+pub fn list_in_zone<W: Sink>(
+    zone: &Zone<'_>,
+    recurrence: Recurrence,
+    first: OffsetDateTime,
+    last: OffsetDateTime,
+    writer: &mut W,
+) -> Result<(), RunError>
+    ensures lists { (set : ZonedSet) × IsSetIn zone.now recurrence first set
+        × ListsSet set first last result (W.contents writer.old) (W.contents writer.new) }
+    ensures writes { Writes W.write_gives writer.old (write_failure result) writer.new }
+{
+    write_moments(&set_in(zone, recurrence, first), first, last, writer)
+}
+
+/// Returns the set of a recurrence that starts at the reading of the zone's clocks at a moment.
+fn set_in<'a>(zone: &'a Zone<'a>, recurrence: Recurrence, first: OffsetDateTime) -> ZonedSet<'a>
+    ensures { IsSetIn zone.now recurrence first result }
+{
+    let start = moment_in(zone, first).local();
+    let parts = SetParts {
+        start: DateOrTime::Local(start),
+        recurrence,
+        dates: Values::none(DateOrTime::Local(start)),
+        exceptions: Values::none(DateOrTime::Local(start)),
+        zone: None,
+    };
+    match parts.instants(zone) {
+        Ok(instants) => ZonedSet {
+            readings: DateTimeSet {
+                rule: instants.readings.rule,
+                dates: &[],
+                exceptions: &[],
+            },
+            zone,
+            until: instants.until,
+            exceptions: &[],
+        },
+        // A set with a local start and without other values has readings.
+        Err(_) => unreachable!(),
+    }
+}
+
+/// Writes the lines of the moments of the set.
+#[tactic(auto, using(crate::proofs::Calls::sent_all, crate::proofs::Calls::writes_then))]
+fn write_moments<W: Sink>(
+    set: &ZonedSet<'_>,
+    first: OffsetDateTime,
+    last: OffsetDateTime,
+    writer: &mut W,
+) -> Result<(), RunError>
+    ensures lists { ListsSet set.now first last result (W.contents writer.old) (W.contents writer.new) }
+    ensures writes { Writes W.write_gives writer.old (write_failure result) writer.new }
+{
+    let mut buffer = Buffer::new();
+    let mut next = first_from(set, first);
+    while let Some(moment) = up_to(next, last) {
+        make_room(&mut buffer, 0, writer)?;
+        push_moment(&mut buffer, moment);
+        next = set.next_after(moment);
+    }
+    write_all(writer, buffer.as_bytes())
+}
+
+/// Returns the first moment of the set that isn't before a moment.
+fn first_from(set: &ZonedSet<'_>, first: OffsetDateTime) -> Option<OffsetDateTime>
+    ensures { IsNextAfter (Means set.now) (instant first -ℤ pos 1) result }
+{
+    // These calls state that the moment is in range. They cost nothing.
+    let _ = first.local();
+    let _ = first.offset();
+    // The reading of the start may mean an earlier moment, if clocks show it twice.
+    for moment in set.occurrences() {
+        if moment >= first {
+            return Some(moment);
+        }
+    }
+    None
+}
+
+/// Returns the moment if it isn't past the last one.
+fn up_to(moment: Option<OffsetDateTime>, last: OffsetDateTime) -> Option<OffsetDateTime>
+    ensures { MatchOption result ((m : LocalAndOffset) → moment ≡ Some m → instant last <ℤ instant m)
+        (λ m. (moment ≡ Some m) × (instant m ≤ℤ instant last)) }
+{
+    match moment {
+        Some(one) if one <= last => Some(one),
+        _ => None,
+    }
+}
+
+/// Appends the line of a moment.
+fn push_moment(buffer: &mut Buffer, moment: OffsetDateTime)
+    requires { HasRoom longest_reply buffer.old }
+    ensures { buffer.new ≡ buffer.old ++ moment_line moment }
+{
+    buffer.push(rfc3339_or_unix_text(moment).as_bytes());
+    buffer.push(b"\n");
+}
