@@ -85,7 +85,7 @@ module _ (now : Option LocalAndOffset) (meanings : Meanings) (words : Words) whe
       (λ given. then_ok (word_as words 7 (keyword (codes "at")) expected.End) _ whole given (λ at_word k more.
       let at_at = keyword_at words 7 (codes "at") expected.End at_word k in
       zone_ok span whole more (λ name zone first second is e8 zone_is whole_is.
-      rw (start, e, to_at, last, by_at, e6, at_at, e8, ← eq, ← whole_is) (grammar.by_rule_in_zone (subst (SpellsSpan now meanings a b) is spelled) contains m zone_is)))))))))))))
+      rw (start, e, to_at, last, by_at, e6, at_at, e8, ← eq, ← whole_is) (grammar.by_rule_in_zone (subst (SpellsSpan now meanings a b) is spelled) contains m zone_is))))))))))))))
 
   dates_spelled : (c : Command) → drop 1 words ≡ codes "from" ∷ drop 2 words → option_map_or is_rule_like (slice_get words 6) false ≡ false
       → and_then (date_at now meanings words 2) (λ first. and_then (word_as words 3 (keyword (codes "to")) expected.UpTo) (λ to_word. and_then (date_at now meanings words 4) (λ last.

@@ -1,17 +1,18 @@
 //! The files of zones, as the system has them.
 ghost use Rattle.std.specs.IoError.{error_kind};
 ghost use Rattle.std.specs.Io.KnownBytes.{Consumes, IsAtEnd};
-ghost use Rattle.std.specs.Prelude.{◌≡◌, ◌≤◌, ◌<◌, IfErr, IfOk, IfSome, MatchOption, None, Some, SomeIff, Err, length, take, true};
+ghost use Rattle.std.specs.Prelude.{◌≡◌, ◌≤◌, ◌<◌, IfErr, IfOk, IfSome, MatchOption, None, Some, SomeIff, pos, Err, length, take, true};
 ghost use Rattle.caldate_run.specs.Meanings.{AreMeanings, Meanings};
 ghost use Rattle.caldate_run.specs.MissingZones.{is_zone_expected, missing_name, name_without_file};
 ghost use Rattle.caldate_run.specs.ReadZoneErrors.{file_error};
-ghost use Rattle.caldate_run.specs.Requests.{arguments_of};
+ghost use Rattle.caldate_run.specs.Requests.{arguments_of, parse_args};
 ghost use Rattle.caldate_run.specs.Zones.{AreOfFiles, file_named, is_zone_name, path_in};
 
 use crate::args::parse_args;
-use crate::args::usage_error::Expected;
+use crate::args::usage_error::{Expected, UsageError};
 use crate::args::words::word_at;
 use crate::input::read_some;
+use crate::request::Command;
 use crate::streams::Source;
 use crate::zones::read_zone_error::FileError;
 use crate::zones::{DataFiles, ZoneFile, file_named, is_zone_name, name_in};
@@ -75,6 +76,15 @@ pub fn read_missing<'a, F: Files>(
     }
 }
 
+/// Parses arguments at a date-time, so that `now` doesn't hide a zone after it.
+fn parse_anytime<'a>(arguments: &'a [u8], files: &DataFiles<'a>) -> Result<Command<'a>, UsageError>
+    ensures value { (meanings : Meanings) → AreMeanings meanings (arguments_of arguments.now)
+        → AreOfFiles files.now meanings
+        → result ≡ parse_args (Some (pos 0)) meanings (arguments_of arguments.now) }
+{
+    parse_args(arguments, Some(midnight(to_date(0))), files)
+}
+
 /// Returns the name of the first zone in the arguments whose file is not given.
 pub fn missing_name<'a>(arguments: &'a [u8], files: &DataFiles<'_>) -> Option<&'a [u8]>
     ensures name { IfSome result (λ name. is_zone_name name.now ≡ true) }
@@ -84,9 +94,7 @@ pub fn missing_name<'a>(arguments: &'a [u8], files: &DataFiles<'_>) -> Option<&'
         (missing_name meanings files.now (arguments_of arguments.now) ≡ None)
         (λ name. missing_name meanings files.now (arguments_of arguments.now) ≡ Some name.now) }
 {
-    // With a clock, `now` and `today` don't hide a zone after them.
-    let now = Some(midnight(to_date(0)));
-    let Err(usage_error) = parse_args(arguments, now, files) else {
+    let Err(usage_error) = parse_anytime(arguments, files) else {
         return None;
     };
     if !is_zone_expected(usage_error.expected) {
