@@ -12,7 +12,7 @@ use Rattle.cal_zone.specs.Timeline.{Timeline}
 use Rattle.caldate_run.specs.Grammar.{SpellsList, SpellsSpan}
 use Rattle.caldate_run.specs.Grammar as grammar
 use Rattle.caldate_run.specs.Meanings.{Meanings, found_in}
-use Rattle.caldate_run.specs.Requests.{and_then, date_at, date_in, in_zone, is_rule_like, keyword, list_of, moment_at, moment_in, occurrences_of, only_at, parse_u32, rule_of, span_at, span_from, step_in, step_of, unit_of, word_as}
+use Rattle.caldate_run.specs.Requests.{and_then, date_at, date_in, in_zone, is_rule_like, keyword, list_of, moment_at, moment_in, occurrences_of, parse_u32, rule_of, span_at, span_from, step_in, step_of, unit_of, word_as}
 use Rattle.caldate_run.specs.Zones.{zone_of}
 use Rattle.caldate_run.specs.declared.args.usage_error.Expected.TheVariants as expected
 use Rattle.caldate_run.specs.declared.request.Command.{Command}

@@ -1,4 +1,4 @@
-use Rattle.std.proofs.Common.{◌≡◌, ◌<◌, ◌++◌, ◌∷◌, ◌∙◌, ap, sym, subst, refl, rules, append_assoc, [], Some, ℤ, pos}
+use Rattle.std.proofs.Common.{◌≡◌, ◌<◌, ◌++◌, ◌∷◌, ◌∙◌, ap, sym, subst, refl, rules, append_assoc, [], ℤ, pos}
 use Rattle.std.specs.Prelude.{◌-ℤ◌, IsErrAnd, ⊤}
 use Rattle.std.proofs.KnownBytes.{Appends-nil, Appends-trans}
 use Rattle.cal_datetime.specs.OffsetDateTime.{instant}
