@@ -81,7 +81,10 @@ fn occurrences<W: Sink>(
         → IsOk result.0 → IsOk result.1 → W.contents writer.new ≡ W.contents other.new }
 {
     one_list(&asked);
-    (list_occurrences(asked, writer), list_occurrences(twin, other))
+    (
+        list_occurrences(asked, writer),
+        list_occurrences(twin, other),
+    )
 }
 
 fn asks<'a>(
