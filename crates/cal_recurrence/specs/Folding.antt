@@ -1,6 +1,6 @@
 -- Folded lines (RFC 5545, section 3.1): a line feed (10), which a carriage return (13) can precede,
 -- and a space (32) or a tab (9) after it join two lines.
-use Rattle.std.specs.Prelude.{ℕ, ◌≤◌, length, zero, suc, ◌+◌, ◌-◌, ◌==◌, nat_le, ◌&&◌, ◌||◌, Bool, not, List, [], ◌∷◌, ◌++◌, take, slice_index, if◌then◌else◌}
+use Rattle.std.specs.Prelude.{◌≡◌, ℕ, ◌<◌, ◌≤◌, length, drop, ◌+◌, ◌==◌, nat_le, ◌&&◌, ◌||◌, Bool, not, List, [], ◌∷◌, ◌++◌, take, slice_index, if◌then◌else◌}
 use Rattle.cal_recurrence.specs.SetText.{without_return}
 
 -- A space or a tab.
@@ -13,15 +13,11 @@ fold_length bytes =
     if slice_index bytes 0 == 10 && is_blank (slice_index bytes 1) then 2 else
     if slice_index bytes 0 == 13 && (slice_index bytes 1 == 10 && is_blank (slice_index bytes 2)) then 3 else 0
 
--- The bytes after the first `skip` of them, without folds.
-abbrev pub unfolded_after : ℕ → List ℕ → List ℕ
-unfolded_after skip [] = []
-unfolded_after zero (b ∷ bs) = if fold_length (b ∷ bs) == 0 then b ∷ unfolded_after 0 bs else unfolded_after (fold_length (b ∷ bs) - 1) bs
-unfolded_after (suc skip) (b ∷ bs) = unfolded_after skip bs
-
--- A text without folds.
-abbrev pub unfolded_of : List ℕ → List ℕ
-unfolded_of text = unfolded_after 0 text
+-- A text, and the same text without its folds: a fold goes, and each other byte stays.
+pub data IsUnfolded : List ℕ → List ℕ → Type 0 where
+  end : IsUnfolded [] []
+  byte : (b : ℕ) (text unfolded : List ℕ) → fold_length (b ∷ text) ≡ 0 → IsUnfolded text unfolded → IsUnfolded (b ∷ text) (b ∷ unfolded)
+  fold : (text unfolded : List ℕ) → 0 < fold_length text → IsUnfolded (drop (fold_length text) text) unfolded → IsUnfolded text unfolded
 
 -- The line ends here: a line feed, or a carriage return before one.
 abbrev pub is_line_end : List ℕ → Bool

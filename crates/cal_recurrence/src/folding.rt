@@ -1,8 +1,8 @@
 //! Folded lines.
-ghost use Rattle.std.specs.Prelude.{◌≡◌, ◌<◌, ◌≤◌, ◌^◌, IfSome, MatchOption, drop, length, slice_index, take};
+ghost use Rattle.std.specs.Prelude.{◌≡◌, ◌<◌, ◌≤◌, ◌↔◌, ◌^◌, ℕ, List, IfSome, MatchOption, drop, length, slice_index, take};
 ghost use Rattle.std.specs.List.{All};
 ghost use Rattle.cal_recurrence.specs.Buffers.{IsPut};
-ghost use Rattle.cal_recurrence.specs.Folding.{column_after, first_folded, fold_before, fold_length, folded_of, is_blank, is_line_end, unfolded_of, IsShortLine};
+ghost use Rattle.cal_recurrence.specs.Folding.{column_after, first_folded, fold_before, fold_length, folded_of, is_blank, is_line_end, IsShortLine, IsUnfolded};
 ghost use Rattle.cal_recurrence.specs.Words.{parts_at};
 
 use crate::buffers::put;
@@ -44,7 +44,7 @@ fn fold_length(bytes: &[u8]) -> usize
 pub fn unfold(text: &[u8], unfolded: &mut [u8]) -> Option<usize>
     ensures value { MatchOption result (length unfolded.old < length text.now) (λ n.
         (length text.now ≤ length unfolded.old) × (n ≤ length unfolded.new)
-        × (take n unfolded.new ≡ unfolded_of text.now)
+        × IsUnfolded text.now (take n unfolded.new)
         × (drop n unfolded.new ≡ drop n unfolded.old)) }
     ensures none { length unfolded.old < length text.now → unfolded.new ≡ unfolded.old }
 {
@@ -116,8 +116,8 @@ fn put_folded(column: usize, bytes: &[u8], buffer: &mut [u8], at: usize) -> Opti
 /// within a character of several bytes. A line of 76 bytes becomes one of 75, and a second one of 2.
 pub fn fold(text: &[u8], folded: &mut [u8]) -> Option<usize>
     ensures text { IsPut 0 (folded_of text.now) folded.old folded.new result }
-    ensures unfolds { IfSome result (λ end.
-        unfolded_of (take end folded.new) ≡ unfolded_of text.now) }
+    ensures unfolds { IfSome result (λ end. (unfolded : List ℕ)
+        → (IsUnfolded (take end folded.new) unfolded ↔ IsUnfolded text.now unfolded)) }
     ensures lines { IfSome result (λ end.
         All IsShortLine (parts_at 10 (take end folded.new))) }
 {

@@ -3,7 +3,7 @@ ghost use Rattle.std.specs.Prelude.{◌≡◌, ◌<◌, ◌<ℤ◌, ◌≤ℤ◌
 ghost use Rattle.std.specs.List.{All};
 ghost use Rattle.cal_datetime.specs.OffsetDateTime.{LocalAndOffset, instant};
 ghost use Rattle.cal_recurrence.specs.DateTimeSet.{is_in_set as is_reading};
-ghost use Rattle.cal_recurrence.specs.Folding.{unfolded_of, IsShortLine};
+ghost use Rattle.cal_recurrence.specs.Folding.{IsShortLine, IsUnfolded};
 ghost use Rattle.cal_recurrence.specs.Sets.{is_in_set, is_listed};
 ghost use Rattle.cal_recurrence.specs.SetText.{lines_of, SaysSet};
 ghost use Rattle.cal_recurrence.specs.Words.{parts_at};
@@ -59,7 +59,7 @@ fn respell(text: &[u8], buffer: &mut [u8]) -> Option<usize>
 fn fold_and_unfold(text: &[u8], folded: &mut [u8], again: &mut [u8]) -> Option<(usize, usize)>
     ensures short { IfSome result (λ ends.
         All IsShortLine (parts_at 10 (take ends.0 folded.new))) }
-    ensures same { IfSome result (λ ends. take ends.1 again.new ≡ unfolded_of text.now) }
+    ensures same { IfSome result (λ ends. IsUnfolded text.now (take ends.1 again.new)) }
 {
     let end = fold(text, folded)?;
     let same = unfold(&folded[..end], again)?;
