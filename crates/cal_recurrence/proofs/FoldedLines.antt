@@ -1,19 +1,28 @@
 -- A text that is copied with folds, step by step, and unfolded again.
-use Rattle.std.proofs.Common.{◌≡◌, ℕ, ◌+◌, ◌<◌, ◌≤◌, Bool, true, false, cond, eqb, List, [], ◌∷◌, ◌++◌, append-nil, append_assoc, length, take, drop, slice_index_or, Some, inl, inr, refl, sym, ap, subst, ◌∙◌, arith}
+use Rattle.std.proofs.Common.{◌≡◌, ℕ, ◌+◌, ◌<◌, ◌≤◌, Bool, true, false, cond, eqb, List, [], ◌∷◌, ◌++◌, append-nil, append_assoc, length, length-append, take, drop, slice_index_or, Some, inl, inr, refl, sym, ap, subst, ◌∙◌, arith}
 use Rattle.std.specs.Prelude.{◌⊎◌, ◌↔◌, ◌&&◌, nat_le, slice_index}
 use Rattle.std.proofs.lemmas.Bool.{and_parts, cases_Bool, eqb-true, true≢false}
 use Rattle.std.proofs.lemmas.List.{drop_all}
 use Rattle.cal_recurrence.specs.Buffers.{IsPut}
-use Rattle.cal_recurrence.specs.Folding.{column_after, first_folded, fold_before, fold_length, folded_after, folded_of, is_blank, IsUnfolded}
+use Rattle.cal_recurrence.specs.Folding.{column_after, first_folded, fold_before, fold_length, is_blank, IsUnfolded}
 use Rattle.cal_recurrence.specs.Folding.IsUnfolded.{end as no_byte, byte as a_byte, fold as a_fold}
 use Rattle.cal_recurrence.proofs.Marked.{at_index}
 use Rattle.cal_recurrence.proofs.Puts.{then_put}
 use Rattle.cal_recurrence.proofs.Unfolding.{one_unfolded, some_unfolded}
 
+-- ---- folds, byte by byte
+-- bytes after `column` bytes of their line, with folds
+abbrev pub folded_after : ℕ → List ℕ → List ℕ
+folded_after column [] = []
+folded_after column (b ∷ bs) = first_folded column (b ∷ bs) ++ folded_after (column_after column (b ∷ bs)) bs
+
+abbrev pub folded_of : List ℕ → List ℕ
+folded_of text = folded_after 0 text
+
 -- ---- the loop
 -- the first `filled` bytes and what is left of the text from an index on, with folds, are the text
 -- with folds, and the other bytes are the old ones
-pub record IsFolded (text old new : List ℕ) (filled index column : ℕ) : Type 0 where
+pub record IsFolding (text old new : List ℕ) (filled index column : ℕ) : Type 0 where
   pub done : List ℕ
   pub put : IsPut 0 done old new (Some filled)
   pub joined : done ++ folded_after column (drop index text) ≡ folded_of text
@@ -39,9 +48,9 @@ column-few column bytes =
     few true = omega arith
     few false = omega arith
 
-pub one_byte : (text old mid new : List ℕ) (filled next index column : ℕ) → IsFolded text old mid filled index column → index < length text
+pub one_byte : (text old mid new : List ℕ) (filled next index column : ℕ) → IsFolding text old mid filled index column → index < length text
     → IsPut filled (first_folded column (drop index text)) mid new (Some next) → length new ≡ length mid
-    → IsFolded text old new next (index + 1) (column_after column (drop index text))
+    → IsFolding text old new next (index + 1) (column_after column (drop index text))
 one_byte text old mid new filled next index column h less put size =
     let more = first_folded column (drop index text) in
     record {
@@ -52,7 +61,14 @@ one_byte text old mid new filled next index column h less put size =
       few = omega (arith, h.few, column-few column (drop index text));
     }
 
-pub all_folded : (text old new : List ℕ) (filled index column : ℕ) → IsFolded text old new filled index column → length text ≤ index
+pub too_short : (text old mid : List ℕ) (filled index column : ℕ) → IsFolding text old mid filled index column → index < length text
+    → length mid < filled + length (first_folded column (drop index text)) → length old < 0 + length (folded_of text)
+too_short text old mid filled index column h less few =
+    let more = first_folded column (drop index text) in
+    let left = folded_after (column_after column (drop index text)) (drop (index + 1) text) in
+    omega (arith, few, h.put.0, h.size, ap length h.joined, length-append h.done (folded_after column (drop index text)), ap length (next-byte text index column less), length-append more left)
+
+pub all_folded : (text old new : List ℕ) (filled index column : ℕ) → IsFolding text old new filled index column → length text ≤ index
     → IsPut 0 (folded_of text) old new (Some filled)
 all_folded text old new filled index column h all =
     let whole : h.done ≡ folded_of text = sym (append-nil h.done) ∙ ap (λ bytes. h.done ++ folded_after column bytes) (sym (drop_all index text all)) ∙ h.joined in
@@ -197,11 +213,12 @@ same-unfolded column text unfolded (a_fold _ _ some h) =
     ap (λ k. drop k (folded_after column text)) its.2 ∙ its.1 in
     a_fold (folded_after column text) unfolded (omega (arith, its.2, some)) (subst (λ bytes. IsUnfolded bytes unfolded) (sym past) (same-unfolded its.0 (drop n text) unfolded h))
 
-pub unfolds : (text old new : List ℕ) (filled index column : ℕ) → IsFolded text old new filled index column → length text ≤ index
+pub unfolds : (text old new : List ℕ) (filled index column : ℕ) → IsFolding text old new filled index column → length text ≤ index
     → (unfolded : List ℕ) → (IsUnfolded (take filled new) unfolded ↔ IsUnfolded text unfolded)
 unfolds text old new filled index column h all unfolded =
     let whole : take filled new ≡ folded_of text = (all_folded text old new filled index column h all).2 in
     let its = some_unfolded text in
-    let same : IsUnfolded (take filled new) its.0 = subst (λ bytes. IsUnfolded bytes its.0) (sym whole) (same-unfolded 0 text its.0 its.1) in
-    (λ k. subst (IsUnfolded text) (one_unfolded (take filled new) its.0 unfolded same k) its.1,
-    λ k. subst (λ bytes. IsUnfolded bytes unfolded) (sym whole) (same-unfolded 0 text unfolded k))
+    let same : IsUnfolded (take filled new) its.0 = subst (λ bytes. IsUnfolded bytes its.0) (sym whole) (same-unfolded 0 text its.0 its.1) in (
+      λ k. subst (IsUnfolded text) (one_unfolded (take filled new) its.0 unfolded same k) its.1,
+      λ k. subst (λ bytes. IsUnfolded bytes unfolded) (sym whole) (same-unfolded 0 text unfolded k),
+    )

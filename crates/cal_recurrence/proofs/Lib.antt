@@ -31,4 +31,4 @@ pub mod SetValues
 pub mod Unfolding
 pub mod Puts
 pub mod FoldedLines
-pub mod ShortLines
+pub mod FoldedParts

@@ -24,12 +24,12 @@ one_fold text old new filled index fold h less e some =
     let past : drop (index + fold) text ≡ drop (fold_length (drop index text)) (drop index text) =
     ap (λ n. drop n text) (omega arith) ∙ sym (drop-drop fold index text) ∙ ap (λ n. drop n (drop index text)) e in
     record {
-  joined = λ left its. h.joined left (a_fold (drop index text) left (omega (arith, e, some)) (subst (λ bytes. IsUnfolded bytes left) past its));
-  rest = h.rest;
-  few = omega (arith, h.few);
-  within = h.within;
-  size = h.size;
-}
+      joined = λ left its. h.joined left (a_fold (drop index text) left (omega (arith, e, some)) (subst (λ bytes. IsUnfolded bytes left) past its));
+      rest = h.rest;
+      few = omega (arith, h.few);
+      within = h.within;
+      size = h.size;
+    }
 
 pub one_byte : (text old new : List ℕ) (filled index b : ℕ) → IsUnfolding text old new filled index → index < length text
     → length text ≤ length old → fold_length (drop index text) ≡ 0 → b ≡ slice_index_or text index 0
@@ -44,7 +44,7 @@ one_byte text old new filled index b h less room e same =
     ∙ sym (ap (λ front. front ++ left) (take-set_at new filled (filled + 1) b refl (omega (arith, h.few, h.size, less, room)))) in
     record {
       joined = λ left its. subst (IsUnfolded text) (more left)
-      (h.joined (c ∷ left) (subst (λ bytes. IsUnfolded bytes (c ∷ left)) (sym here) (a_byte c bs left (sym (ap fold_length here) ∙ e) its)));
+          (h.joined (c ∷ left) (subst (λ bytes. IsUnfolded bytes (c ∷ left)) (sym here) (a_byte c bs left (sym (ap fold_length here) ∙ e) its)));
       rest =
           drop-set-lt (filled + 1) new filled b (omega arith) ∙ sym (drop-drop 1 filled new) ∙ ap (drop 1) h.rest ∙ drop-drop 1 filled old;
       few = omega (arith, h.few);

@@ -2,7 +2,7 @@
 ghost use Rattle.std.specs.Prelude.{◌≡◌, ◌<◌, ◌≤◌, ◌↔◌, ◌^◌, ℕ, List, IfSome, MatchOption, drop, length, slice_index, take};
 ghost use Rattle.std.specs.List.{All};
 ghost use Rattle.cal_recurrence.specs.Buffers.{IsPut};
-ghost use Rattle.cal_recurrence.specs.Folding.{column_after, first_folded, fold_before, fold_length, folded_of, is_blank, is_line_end, IsShortLine, IsUnfolded};
+ghost use Rattle.cal_recurrence.specs.Folding.{column_after, first_folded, fold_before, fold_length, is_blank, is_line_end, IsFolded, IsShortLine, IsUnfolded};
 ghost use Rattle.cal_recurrence.specs.Words.{parts_at};
 
 use crate::buffers::put;
@@ -65,12 +65,13 @@ pub fn unfold(text: &[u8], unfolded: &mut [u8]) -> Option<usize>
     Some(filled)
 }
 
-/// Returns `true` if the line ends at the first byte: at a LF, or at a CR before one.
+/// Returns `true` if the line ends at the first byte: at a LF, or at a CR before one or at the end of
+/// the text.
 fn is_line_end(bytes: &[u8]) -> bool
     ensures { result ≡ is_line_end bytes.now }
 {
     let first = byte_at(bytes, 0);
-    first == b'\n' || first == b'\r' && byte_at(bytes, 1) == b'\n'
+    first == b'\n' || first == b'\r' && (byte_at(bytes, 1) == b'\n' || bytes.len() == 1)
 }
 
 /// Returns `true` if a fold comes before the first byte, which is after `column` bytes of its line.
@@ -115,7 +116,8 @@ fn put_folded(column: usize, bytes: &[u8], buffer: &mut [u8], at: usize) -> Opti
 /// [`unfold`] gives the same for both texts, which is the text if it has no folds. A fold can be
 /// within a character of several bytes. A line of 76 bytes becomes one of 75, and a second one of 2.
 pub fn fold(text: &[u8], folded: &mut [u8]) -> Option<usize>
-    ensures text { IsPut 0 (folded_of text.now) folded.old folded.new result }
+    ensures text { (whole : List ℕ) × (IsFolded text.now whole
+        × IsPut 0 whole folded.old folded.new result) }
     ensures unfolds { IfSome result (λ end. (unfolded : List ℕ)
         → (IsUnfolded (take end folded.new) unfolded ↔ IsUnfolded text.now unfolded)) }
     ensures lines { IfSome result (λ end.

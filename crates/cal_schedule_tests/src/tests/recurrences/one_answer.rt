@@ -67,7 +67,10 @@ fn unfold(text: &[u8], a: &mut [u8], b: &mut [u8]) -> Twice<Option<usize>>
     ensures result { result.0 ≡ result.1 }
     ensures text { IfSome result.0 (λ end. take end a.new ≡ take end b.new) }
 {
-    (cal_recurrence::unfold(text, a), cal_recurrence::unfold(text, b))
+    (
+        cal_recurrence::unfold(text, a),
+        cal_recurrence::unfold(text, b),
+    )
 }
 
 fn text(recurrence: &Recurrence) -> Twice<RecurrenceText>
