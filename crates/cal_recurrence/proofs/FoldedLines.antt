@@ -1,16 +1,27 @@
 -- A text that is copied with folds, step by step, and unfolded again.
-use Rattle.std.proofs.Common.{◌≡◌, ℕ, ◌+◌, ◌<◌, ◌≤◌, Bool, true, false, cond, eqb, List, [], ◌∷◌, ◌++◌, append-nil, append_assoc, length, length-append, take, drop, slice_index_or, Some, inl, inr, refl, sym, ap, subst, ◌∙◌, arith}
+use Rattle.std.proofs.Common.{◌≡◌, ℕ, ◌+◌, ◌<◌, ◌≤◌, Bool, true, false, cond, eqb, not, List, [], ◌∷◌, ◌++◌, append-nil, append_assoc, length, length-append, take, drop, slice_index_or, Some, inl, inr, refl, sym, ap, subst, ◌∙◌, arith}
 use Rattle.std.specs.Prelude.{◌⊎◌, ◌↔◌, ◌&&◌, nat_le, slice_index}
 use Rattle.std.proofs.lemmas.Bool.{and_parts, cases_Bool, eqb-true, true≢false}
 use Rattle.std.proofs.lemmas.List.{drop_all}
 use Rattle.cal_recurrence.specs.Buffers.{IsPut}
-use Rattle.cal_recurrence.specs.Folding.{column_after, first_folded, fold_before, fold_length, is_blank, IsUnfolded}
+use Rattle.cal_recurrence.specs.Folding.{fold_length, is_blank, is_line_end, IsUnfolded}
 use Rattle.cal_recurrence.specs.Folding.IsUnfolded.{end as no_byte, byte as a_byte, fold as a_fold}
 use Rattle.cal_recurrence.proofs.Marked.{at_index}
 use Rattle.cal_recurrence.proofs.Puts.{then_put}
 use Rattle.cal_recurrence.proofs.Unfolding.{one_unfolded, some_unfolded}
 
 -- ---- folds, byte by byte
+-- a fold comes before a byte after the first 75 of its line, unless the line ends there
+abbrev pub fold_before : ℕ → List ℕ → Bool
+fold_before column bytes = nat_le 75 column && not (is_line_end bytes)
+
+abbrev pub first_folded : ℕ → List ℕ → List ℕ
+first_folded column bytes = cond (fold_before column bytes) (13 ∷ 10 ∷ 32 ∷ take 1 bytes) (take 1 bytes)
+
+-- the number of bytes in the line after that byte
+abbrev pub column_after : ℕ → List ℕ → ℕ
+column_after column bytes = cond (fold_before column bytes) 2 (cond (eqb (slice_index bytes 0) 10) 0 (column + 1))
+
 -- bytes after `column` bytes of their line, with folds
 abbrev pub folded_after : ℕ → List ℕ → List ℕ
 folded_after column [] = []

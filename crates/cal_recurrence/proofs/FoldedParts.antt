@@ -6,14 +6,14 @@ use Rattle.std.proofs.lemmas.Bool.{cases_Bool, cases_lt, and_parts, and_from, an
 use Rattle.std.proofs.lemmas.List.Splits.{length-slice_split, slice_split-cons_no}
 use Rattle.std.proofs.lemmas.List.Elements.{All-append, All-cons, All-drop, All-head, All-nil, All-tail, All-take}
 use Rattle.cal_recurrence.specs.Buffers.{IsPut}
-use Rattle.cal_recurrence.specs.Folding.{fold_before, is_line_end, IsFolded, IsFoldedLine, IsShortLine}
+use Rattle.cal_recurrence.specs.Folding.{is_line_end, IsFolded, IsFoldedLine, IsShortLine}
 use Rattle.cal_recurrence.specs.Folding.IsFoldedLine.{short, long}
 use Rattle.cal_recurrence.specs.SetText.{without_return}
 use Rattle.cal_recurrence.specs.Words.{first_bytes, parts_at}
 use Rattle.cal_recurrence.proofs.Avoided.{avoids-append, cut-here, cut-nowhere, from-all}
 use Rattle.cal_recurrence.proofs.SetLines.{without-return}
 use Rattle.cal_recurrence.proofs.GivenNames.{parts-bytes}
-use Rattle.cal_recurrence.proofs.FoldedLines.{folded_after, folded_of, line, stays}
+use Rattle.cal_recurrence.proofs.FoldedLines.{fold_before, folded_after, folded_of, line, stays}
 
 -- ---- the size of a line
 abbrev size : List ℕ → ℕ

@@ -1,6 +1,6 @@
 -- Folded lines (RFC 5545, section 3.1): a line feed (10), which a carriage return (13) can precede,
 -- and a space (32) or a tab (9) after it join two lines.
-use Rattle.std.specs.Prelude.{◌≡◌, ℕ, ◌<◌, ◌≤◌, length, drop, ◌+◌, ◌-◌, ◌==◌, nat_le, ◌&&◌, ◌||◌, Bool, not, List, [], ◌∷◌, ◌++◌, take, slice_index, if◌then◌else◌}
+use Rattle.std.specs.Prelude.{◌≡◌, ℕ, ◌<◌, ◌≤◌, length, drop, ◌+◌, ◌-◌, ◌==◌, ◌&&◌, ◌||◌, Bool, List, [], ◌∷◌, ◌++◌, take, slice_index, if◌then◌else◌}
 use Rattle.std.specs.List.{join_with_byte, AllZip}
 use Rattle.cal_recurrence.specs.SetText.{without_return}
 use Rattle.cal_recurrence.specs.Words.{parts_at}
@@ -24,21 +24,6 @@ pub data IsUnfolded : List ℕ → List ℕ → Type 0 where
 -- The line ends here: a line feed, or a carriage return before one or at the end of the text.
 abbrev pub is_line_end : List ℕ → Bool
 is_line_end bytes = slice_index bytes 0 == 10 || (slice_index bytes 0 == 13 && (slice_index bytes 1 == 10 || length bytes == 1))
-
--- A fold comes before a byte after the first 75 of its line, unless the line ends there.
-abbrev pub fold_before : ℕ → List ℕ → Bool
-fold_before column bytes = nat_le 75 column && not (is_line_end bytes)
-
--- The first of some bytes, after `column` bytes of its line, with a fold before it if needed.
-abbrev pub first_folded : ℕ → List ℕ → List ℕ
-first_folded column bytes = if fold_before column bytes then 13 ∷ 10 ∷ 32 ∷ take 1 bytes else take 1 bytes
-
--- The number of bytes in the line after that byte. The space of a fold counts, and a line feed
--- begins a line.
-abbrev pub column_after : ℕ → List ℕ → ℕ
-column_after column bytes =
-    if fold_before column bytes then 2 else
-    if slice_index bytes 0 == 10 then 0 else column + 1
 
 -- A line after `column` bytes, and the same line with folds. It stays if it has at most 75 bytes
 -- without its end (RFC 5545, section 3.1). Else its first bytes fill 75, and CR LF and a space come

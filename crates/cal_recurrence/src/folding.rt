@@ -1,8 +1,8 @@
 //! Folded lines.
-ghost use Rattle.std.specs.Prelude.{◌≡◌, ◌<◌, ◌≤◌, ◌↔◌, ◌^◌, ℕ, List, IfSome, MatchOption, drop, length, slice_index, take};
+ghost use Rattle.std.specs.Prelude.{◌≡◌, ◌<◌, ◌≤◌, ◌↔◌, ◌+◌, ◌^◌, ◌==◌, ◌&&◌, ◌∷◌, ℕ, List, IfSome, MatchOption, drop, if◌then◌else◌, length, nat_le, not, slice_index, take};
 ghost use Rattle.std.specs.List.{All};
 ghost use Rattle.cal_recurrence.specs.Buffers.{IsPut};
-ghost use Rattle.cal_recurrence.specs.Folding.{column_after, first_folded, fold_before, fold_length, is_blank, is_line_end, IsFolded, IsShortLine, IsUnfolded};
+ghost use Rattle.cal_recurrence.specs.Folding.{fold_length, is_blank, is_line_end, IsFolded, IsShortLine, IsUnfolded};
 ghost use Rattle.cal_recurrence.specs.Words.{parts_at};
 
 use crate::buffers::put;
@@ -76,36 +76,37 @@ fn is_line_end(bytes: &[u8]) -> bool
 
 /// Returns `true` if a fold comes before the first byte, which is after `column` bytes of its line.
 fn fold_before(column: usize, bytes: &[u8]) -> bool
-    ensures { result ≡ fold_before column bytes.now }
+    ensures { result ≡ (nat_le 75 column && not (is_line_end bytes.now)) }
 {
     column >= 75 && !is_line_end(bytes)
 }
 
-/// Returns the number of bytes in the line after the first byte, which is after `column` bytes.
-fn column_after(column: usize, bytes: &[u8]) -> usize
+/// Returns the number of bytes in the line after a byte, which is after `column` bytes, or after a
+/// fold. The space of the fold counts.
+fn column_after(folds: bool, column: usize, byte: u8) -> usize
     requires { column < 2 ^ 63 }
-    ensures { result ≡ column_after column bytes.now }
+    ensures { result ≡ if folds then 2 else if byte == 10 then 0 else (column + 1) }
 {
-    if fold_before(column, bytes) {
+    if folds {
         2
-    } else if byte_at(bytes, 0) == b'\n' {
+    } else if byte == b'\n' {
         0
     } else {
         column + 1
     }
 }
 
-/// Writes the first byte to the buffer, from this position on, with a fold before it if needed.
-fn put_folded(column: usize, bytes: &[u8], buffer: &mut [u8], at: usize) -> Option<usize>
-    requires some { 1 ≤ length bytes.now }
-    requires at { at ≤ length buffer.old }
-    ensures { IsPut at (first_folded column bytes.now) buffer.old buffer.new result }
+/// Writes bytes to the buffer, from this position on, after a fold if `folds` is true.
+fn put_folded(folds: bool, bytes: &[u8], buffer: &mut [u8], at: usize) -> Option<usize>
+    requires { at ≤ length buffer.old }
+    ensures { IsPut at (if folds then 13 ∷ 10 ∷ 32 ∷ bytes.now else bytes.now)
+        buffer.old buffer.new result }
 {
-    if fold_before(column, bytes) {
+    if folds {
         let next = put(buffer, at, b"\r\n ")?;
-        put(buffer, next, &bytes[..1])
+        put(buffer, next, bytes)
     } else {
-        put(buffer, at, &bytes[..1])
+        put(buffer, at, bytes)
     }
 }
 
@@ -126,8 +127,9 @@ pub fn fold(text: &[u8], folded: &mut [u8]) -> Option<usize>
     let (mut filled, mut index, mut column) = (0, 0, 0);
     while index < text.len() {
         let rest = &text[index..];
-        filled = put_folded(column, rest, folded, filled)?;
-        column = column_after(column, rest);
+        let folds = fold_before(column, rest);
+        filled = put_folded(folds, &rest[..1], folded, filled)?;
+        column = column_after(folds, column, rest[0]);
         index += 1;
     }
     Some(filled)
