@@ -65,8 +65,8 @@ pub fn unfold(text: &[u8], unfolded: &mut [u8]) -> Option<usize>
     Some(filled)
 }
 
-/// Returns `true` if the line ends at the first byte: at a LF, or at a CR before one or at the end of
-/// the text.
+/// Returns `true` if the line ends at the first byte: at a LF, or at a CR before one or at the end
+/// of the text.
 fn is_line_end(bytes: &[u8]) -> bool
     ensures { result ≡ is_line_end bytes.now }
 {
@@ -111,8 +111,8 @@ fn put_folded(folds: bool, bytes: &[u8], buffer: &mut [u8], at: usize) -> Option
 }
 
 /// Copies a text with its lines folded, as in a calendar file: CR LF and a space come before the
-/// 76th byte of a line. So each line has at most 75 bytes, without its LF or CR LF. Returns the
-/// number of bytes, or `None` if `folded` is too short; then its bytes can be anything.
+/// 76th byte of a line. So each line has at most 75 bytes, without its LF, CR LF or last CR. Returns
+/// the number of bytes, or `None` if `folded` is too short; then its bytes can be anything.
 ///
 /// [`unfold`] gives the same for both texts, which is the text if it has no folds. A fold can be
 /// within a character of several bytes. A line of 76 bytes becomes one of 75, and a second one of 2.
