@@ -1412,7 +1412,7 @@ fots_moment_result fots_zone_moment(const fots_zone *zone, fots_date date, fots_
 
 /* Writes the moments that the readings of a set mean by FOTS_COMPATIBLE, after a moment, in order,
  * each once, and returns their number: `moments_length`, or fewer if no more follow. An UNTIL with Z
- * ends them at its instant. It checks the bytes of the zone again. Errors are those of
+ * ends the rule at its instant. It checks the bytes of the zone again. Errors are those of
  * fots_recurrence_readings, and then FOTS_INVALID_ZONE. "FREQ=DAILY" from 2024-03-30 2:30 has
  * 2024-03-31 3:30 +02:00 after 2024-03-31 0:00 UTC. */
 fots_recurrence_result fots_recurrence_moments(const fots_recurrence_set *set, const fots_zone *zone, fots_moment after, fots_moment *moments,

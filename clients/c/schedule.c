@@ -818,6 +818,12 @@ static void times_in_zones(void)
     check(is_moment(found[0], reading(3, 31, 3, 30), 7200), "the other reading", found[0].offset.seconds, 0);
     is_written(fots_recurrence_moments(&set, &berlin, reading(3, 31, 1, 30), found, 1), 1, "after a moment");
     check(is_moment(found[0], reading(4, 1, 2, 30), 7200), "after a moment", found[0].offset.seconds, 0);
+    /* An UNTIL ends the rule, and not the other readings. */
+    const fots_moment later = reading(4, 8, 2, 30);
+    set.dates = &later;
+    set.dates_length = 1;
+    is_written(fots_recurrence_moments(&set, &berlin, reading(4, 7, 0, 0), found, COUNT(found)), 2, "after the rule");
+    check(is_moment(found[0], reading(4, 7, 2, 30), 7200) && is_moment(found[1], later, 7200), "after the rule", found[0].offset.seconds, found[1].offset.seconds);
     set = set_of("FREQ=DAILY;BYHOUR=2,3;COUNT=4", reading(10, 26, 2, 30));
     is_written(fots_recurrence_moments(&set, &berlin, reading(10, 27, 0, 0), found, COUNT(found)), 2, "in the fold");
     check(is_moment(found[0], reading(10, 27, 2, 30), 7200) && is_moment(found[1], reading(10, 27, 3, 30), 3600), "in the fold", found[0].offset.seconds, 0);

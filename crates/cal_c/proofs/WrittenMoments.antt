@@ -8,7 +8,7 @@ use Rattle.cal_datetime.specs.DateTime.{date_at, date_time, time_at}
 use Rattle.cal_datetime.specs.OffsetDateTime.{LocalAndOffset, instant}
 use Rattle.cal_recurrence.specs.DateTimeRule.{date_time_rule}
 use Rattle.cal_recurrence.specs.SetMeaning.{last_instant, last_local}
-use Rattle.cal_recurrence.specs.ZonedSet.{IsFirstAfter, Means}
+use Rattle.cal_recurrence.specs.ZonedSet.{IsFirstAfter, Occurs}
 use Rattle.cal_recurrence.specs.declared.date_time_set.DateTimeSet.{DateTimeSet}
 use Rattle.cal_recurrence.specs.declared.fault.ParseRuleError.{ParseRuleError}
 use Rattle.cal_recurrence.specs.declared.recurrence.Recurrence.{Recurrence}
@@ -49,12 +49,12 @@ before-same x ms i zero m le = refl
 before-same x ms i (suc k) m le = let ne : k ≢ i = omega (arith, le) in rw get_or-set_other refl
 
 pub moments_more : (s : ZonedSet) (x : ℤ) (ms : List Moment) (i : ℕ) (m : Moment) → i < length ms
-    → ((k : ℕ) → k < i → IsFirstAfter (Means s) (before x ms k) (local_and_offset_in (get_or ms k no_moment)))
-    → IsFirstAfter (Means s) (before x ms i) (local_and_offset_in m)
-    → (k : ℕ) → k < i + 1 → IsFirstAfter (Means s) (before x (set ms i m) k) (local_and_offset_in (get_or (set ms i m) k no_moment))
+    → ((k : ℕ) → k < i → IsFirstAfter (Occurs s) (before x ms k) (local_and_offset_in (get_or ms k no_moment)))
+    → IsFirstAfter (Occurs s) (before x ms i) (local_and_offset_in m)
+    → (k : ℕ) → k < i + 1 → IsFirstAfter (Occurs s) (before x (set ms i m) k) (local_and_offset_in (get_or (set ms i m) k no_moment))
 moments_more s x ms i m lt kept here k below =
-    subst (λ y. IsFirstAfter (Means s) y (local_and_offset_in (get_or (set ms i m) k no_moment))) (sym (before-same x ms i k m (omega (arith, below))))
-    (written_more no_moment (λ n one. IsFirstAfter (Means s) (before x ms n) (local_and_offset_in one)) ms i m lt kept here k below)
+    subst (λ y. IsFirstAfter (Occurs s) y (local_and_offset_in (get_or (set ms i m) k no_moment))) (sym (before-same x ms i k m (omega (arith, below))))
+    (written_more no_moment (λ n one. IsFirstAfter (Occurs s) (before x ms n) (local_and_offset_in one)) ms i m lt kept here k below)
 
 -- ---- the set of a text
 pub one-recurrence : (r : Result Recurrence ParseRuleError) (a b : Recurrence) → Ok a ≡ r → r ≡ Ok b → a ≡ b
@@ -73,10 +73,10 @@ set-of its p set start end dates exceptions rule more less starts has without =
 -- The moments of such a set are the moments of the text.
 pub made-of : (s : ZonedSet) (its : Recurrence) (p : TextSet) (z : Timeline) (x : ℤ) (old new : List Moment) (count : ℕ)
     → AreMomentsWritten s x old new count → IsSetOf its p (last_local its (local_in p.start) its.end) s.readings
-    → s.zone.now ≡ z → s.until ≡ last_instant its.end → s.exceptions.now ≡ []
+    → s.zone.now ≡ z → s.until ≡ last_instant its.end → s.instants.now ≡ [] → s.exceptions.now ≡ []
     → (t : ZonedSet) × IsZonedSetOf its p z t × AreMomentsWritten t x old new count
-made-of s its p z x old new count written readings zone until none =
-    (s, record { readings = readings; zone = zone; until = until; exceptions = none }, written)
+made-of s its p z x old new count written readings zone until more none =
+    (s, record { readings = readings; zone = zone; until = until; instants = more; exceptions = none }, written)
 
 pub moments-of : (one its : Recurrence) (p : TextSet) (y z : Timeline) (x : ℤ) (old new : List Moment) (count : ℕ) (r : RecurrenceResult)
     → one ≡ its → y ≡ z → ((t : ZonedSet) × IsZonedSetOf one p y t × AreMomentsWritten t x old new count) → r ≡ recurrence_ok count

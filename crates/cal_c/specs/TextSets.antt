@@ -5,7 +5,7 @@ use Rattle.cal_datetime.specs.DateTime.{date_at, time_at}
 use Rattle.cal_datetime.specs.OffsetDateTime.{instant}
 use Rattle.cal_recurrence.specs.DateTimeRule.{date_time_rule}
 use Rattle.cal_recurrence.specs.SetMeaning.{last_instant, last_local}
-use Rattle.cal_recurrence.specs.ZonedSet.{IsFirstAfter, Means, NoneAfter}
+use Rattle.cal_recurrence.specs.ZonedSet.{IsFirstAfter, Occurs, NoneAfter}
 use Rattle.cal_recurrence.specs.declared.date_time_set.DateTimeSet.{DateTimeSet}
 use Rattle.cal_recurrence.specs.declared.recurrence.Recurrence.{Recurrence}
 use Rattle.cal_recurrence.specs.declared.zoned_set.ZonedSet.{ZonedSet}
@@ -63,12 +63,13 @@ pub record AreReadingsWritten (zs : List ℤ) (old new : List Moment) (count : �
 abbrev pub IsZoneOf : List ℕ → Timeline → Type 0
 IsZoneOf bytes z = IsFile bytes z ⊎ (IsPosix bytes z × ((y : Timeline) → IsFile bytes y → ⊥))
 
--- The set has the readings of the recurrence in this zone, and ends at the instant of an UNTIL at
--- UTC.
+-- The set has the readings of the recurrence in this zone, and its rule ends at the instant of an
+-- UNTIL at UTC.
 pub record IsZonedSetOf (its : Recurrence) (p : TextSet) (z : Timeline) (set : ZonedSet) : Type 0 where
   pub readings : IsSetOf its p (last_local its (local_in p.start) its.end) set.readings
   pub zone : set.zone.now ≡ z
   pub until : set.until ≡ last_instant its.end
+  pub instants : set.instants.now ≡ []
   pub exceptions : set.exceptions.now ≡ []
 
 -- The instant before the moment with an index: that of the moment written before it, or x.
@@ -81,6 +82,6 @@ before x ms (suc k) = instant (local_and_offset_in (get_or ms k no_moment))
 pub record AreMomentsWritten (set : ZonedSet) (x : ℤ) (old new : List Moment) (count : ℕ) : Type 0 where
   pub fits : count ≤ length old
   pub valid : (k : ℕ) → k < count → IsMoment (get_or new k no_moment)
-  pub moments : (k : ℕ) → k < count → IsFirstAfter (Means set) (before x new k) (local_and_offset_in (get_or new k no_moment))
-  pub all : count < length old → NoneAfter (Means set) (before x new count)
+  pub moments : (k : ℕ) → k < count → IsFirstAfter (Occurs set) (before x new k) (local_and_offset_in (get_or new k no_moment))
+  pub all : count < length old → NoneAfter (Occurs set) (before x new count)
   pub others : (k : ℕ) → count ≤ k → get_or new k no_moment ≡ get_or old k no_moment

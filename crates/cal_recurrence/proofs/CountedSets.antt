@@ -1,6 +1,6 @@
 -- A set whose rule ends earlier has the same readings up to this end, and a search that finds one of
 -- them has found it for the whole set.
-use Rattle.std.proofs.Common.{◌≡◌, refl, sym, ap, ◌∙◌, arith, ℕ, zero, suc, ◌+◌, ◌-◌, ◌≤◌, Bool, true, false, ◌&&◌, not, List, [], ◌∷◌, filter, map, take, Option, Some, None, ℤ, pos, ◌+ℤ◌, ◌≤ℤ◌, ◌<ℤ◌, inl, inr}
+use Rattle.std.proofs.Common.{◌≡◌, refl, sym, ap, ◌∙◌, arith, subst, ℕ, zero, suc, ◌+◌, ◌-◌, ◌≤◌, Bool, true, false, ◌&&◌, not, List, [], ◌∷◌, filter, map, take, Option, Some, None, ℤ, pos, ◌+ℤ◌, ◌≤ℤ◌, ◌<ℤ◌, ◌⊎◌, inl, inr}
 use Rattle.std.specs.Prelude.{◌||◌, int_le, unsigned_abs, option_map, MatchOption}
 use Rattle.std.specs.List.{last_or}
 use Rattle.std.proofs.lemmas.Bool.{and_parts, false≢true}
@@ -12,12 +12,12 @@ use Rattle.cal_datetime.specs.OffsetDateTime.{LocalAndOffset, instant}
 use Rattle.cal_schedule.specs.Rule as days
 use Rattle.cal_schedule.specs.Pattern.{rule_of}
 use Rattle.cal_schedule.specs.declared.rule.pattern.Pattern.{Pattern}
-use Rattle.cal_recurrence.specs.CountedSet.{ascend_from, whole_set, whole_zoned_set}
+use Rattle.cal_recurrence.specs.CountedSet.{ascend_from, last_before, whole_set, whole_zoned_set}
 use Rattle.cal_recurrence.specs.DateTimeRule.{date_time_rule, is_not_after, is_occurrence, matches_positions, occurrences, DateTimeParts}
 use Rattle.cal_recurrence.specs.Days.{up_to_end}
 use Rattle.cal_recurrence.specs.RecurrenceReadings.{last_reading_of, readings_of}
 use Rattle.cal_recurrence.specs.DateTimeSet.{is_in_set, is_listed, IsNextFrom}
-use Rattle.cal_recurrence.specs.ZonedSet.{reach, IsNextAfter, Means}
+use Rattle.cal_recurrence.specs.ZonedSet.{reach, IsNextAfter, Occurs}
 use Rattle.cal_recurrence.specs.declared.date_time_set.DateTimeSet.{DateTimeSet}
 use Rattle.cal_recurrence.specs.declared.recurrence.Recurrence.{Recurrence}
 use Rattle.cal_recurrence.specs.declared.recurrence.RuleEnd.{RuleEnd}
@@ -139,32 +139,52 @@ up-to-end : (set : ZonedSet) (left : List ℤ) (last : ℤ) (z : ℤ) (k : Local
 up-to-end set left last z k order is most range =
     same-in set.readings left z order range (ap (λ end. is_not_after end z) is ∙ true-le z last most)
 
+-- The whole set has the occurrences of the counted one whose readings aren't after its end, and the
+-- other way round.
+counts-on : (set : ZonedSet) (left : List ℤ) (last : ℤ) → ascend_from set.readings.rule.until left ≡ true → set.readings.rule.until ≡ Some last → (z : ℤ) (k : LocalAndOffset)
+    → Occurs set z k → (instant k +ℤ reach) <ℤ last → Occurs (whole_zoned_set set left) z k
+counts-on set left last order is z k (inr h) past = inr (record { index = h.index; after = h.after; listed = h.listed; range = h.range; kept = h.kept })
+counts-on set left last order is z k (inl h) past =
+    let close = (near set.zone.now z k h.meant).1 in
+    inl (record {
+      range = h.range;
+      on = up-to-end set left last z k order is (omega (arith, ints, past, close)) h.range ∙ h.on;
+      meant = h.meant;
+      in_time = h.in_time;
+      kept = h.kept;
+    })
+
+counts-back : (set : ZonedSet) (left : List ℤ) (last : ℤ) → ascend_from set.readings.rule.until left ≡ true → set.readings.rule.until ≡ Some last → (z : ℤ) (k : LocalAndOffset)
+    → Occurs (whole_zoned_set set left) z k → Occurs set z k ⊎ (last ≤ℤ (instant k +ℤ reach))
+counts-back set left last order is z k (inr h) = inl (inr (record { index = h.index; after = h.after; listed = h.listed; range = h.range; kept = h.kept }))
+counts-back set left last order is z k (inl h) = elim (compared z last) as (λ _. Occurs set z k ⊎ (last ≤ℤ (instant k +ℤ reach))) [
+  | inl less ↦
+      inl (inl (record {
+        range = h.range;
+        on = sym (up-to-end set left last z k order is (omega (arith, ints, less)) h.range) ∙ h.on;
+        meant = h.meant;
+        in_time = h.in_time;
+        kept = h.kept;
+      }))
+  | inr most ↦ let far = (near set.zone.now z k h.meant).1 in inr (omega (arith, ints, most, far))
+]
+
 pub settled-after : (set : ZonedSet) (left : List ℤ) (x last : ℤ) (r : Option LocalAndOffset) → ascend_from set.readings.rule.until left ≡ true → set.readings.rule.until ≡ Some last
-    → MatchOption r ⊥ (λ m. (instant m +ℤ reach) <ℤ last) → IsNextAfter (Means set) x r → IsNextAfter (Means (whole_zoned_set set left)) x r
+    → MatchOption r ⊥ (λ m. (instant m +ℤ reach) <ℤ last) → IsNextAfter (Occurs set) x r → IsNextAfter (Occurs (whole_zoned_set set left)) x r
 settled-after set left x last None order is past h = absurd past
-settled-after set left x last (Some m) order is past h =
-    let near-first = (near set.zone.now h.reading m h.meant.meant).1 in
-    record {
-      reading = h.reading;
-      meant = record {
-        range = h.meant.range;
-        on = up-to-end set left last h.reading m order is (omega (arith, ints, past, near-first)) h.meant.range ∙ h.meant.on;
-        meant = h.meant.meant;
-        kept = h.meant.kept;
-      };
-      later = h.later;
-      first = λ z k g late. elim (compared z last) as (λ _. (instant m ≤ℤ instant k) × (instant k ≡ instant m → h.reading ≤ℤ z)) [
-        | inl less ↦ h.first z k (record {
-          range = g.range;
-          on = sym (up-to-end set left last z k order is (omega (arith, ints, less)) g.range) ∙ g.on;
-          meant = g.meant;
-          kept = g.kept;
-        }) late
-        | inr most ↦
-            let far = (near set.zone.now z k g.meant).1 in
-            (omega (arith, ints, past, most, far), λ e. omega (arith, ints, past, most, near-first))
-      ];
-    }
+settled-after set left x last (Some m) order is past h = record {
+  place = h.place;
+  is = counts-on set left last order is h.place m h.is past;
+  later = h.later;
+  first = λ z k g late. elim (counts-back set left last order is z k g) as (λ _. (instant m ≤ℤ instant k) × (instant k ≡ instant m → h.place ≤ℤ z)) [
+    | inl early ↦ h.first z k early late
+    | inr far ↦ (omega (arith, ints, past, far), λ e. absurd (omega (arith, ints, past, far, e)))
+  ];
+}
+
+-- What a search returns is the next occurrence after the last instant before it.
+pub next-of : (set : ZonedSet) (after : Bool) (x : ℤ) (r s : Option LocalAndOffset) (b : Bool) → after ≡ b → r ≡ s → IsNextAfter (Occurs set) (last_before b x) s → IsNextAfter (Occurs set) (last_before after x) r
+next-of set after x r s b e same h = subst (λ a. IsNextAfter (Occurs set) (last_before a x) r) (sym e) (subst (IsNextAfter (Occurs set) (last_before b x)) (sym same) h)
 
 pub nothing-left-in_zone : (set : ZonedSet) (left : List ℤ) → left ≡ [] → set ≡ whole_zoned_set set left
 nothing-left-in_zone set left e = sym (ap (whole_zoned_set set) e)

@@ -1,70 +1,23 @@
 -- The next reading of a set of date-times: the nearest one of a rule or a list that isn't left out.
-use Rattle.std.proofs.Common.{◌≡◌, ℕ, suc, ◌+◌, ◌-◌, refl, sym, ap, ◌∙◌, arith, Bool, true, false, filter, map, slice_get, subst, Option, Some, None, ℤ, pos, ◌<ℤ◌}
-use Rattle.std.specs.Prelude.{◌||◌, int_lt, nat_lt, option_map, unsigned_abs}
-use Rattle.std.specs.Ordering.{int_eq}
+use Rattle.std.proofs.Common.{◌≡◌, ℕ, suc, ◌+◌, ◌-◌, ◌≤◌, refl, sym, ap, ◌∙◌, arith, Bool, true, false, ◌&&◌, not, filter, map, slice_get, subst, Option, Some, None, ℤ, pos}
+use Rattle.std.specs.Prelude.{◌||◌, nat_le, option_map, unsigned_abs}
+use Rattle.std.specs.Ordering.{int_cmp, int_eq}
+use Rattle.std.proofs.lemmas.Bool.{false≢true}
 use Rattle.std.proofs.lemmas.Int.{ints}
 use Rattle.std.proofs.lemmas.Option.{slice_get-map}
 use Rattle.cal_time.specs.Occurrences.{days_from}
 use Rattle.cal_schedule.specs.Ranks.{from-no, from-yes}
 use Rattle.cal_datetime.specs.DateTime.{last_date_time, IsDateTime}
-use Rattle.cal_recurrence.specs.DateTimeRule.{readings_from}
-use Rattle.cal_recurrence.specs.DateTimeSet.{candidates, is_in_set, is_listed, IsNextFrom, IsNextOf}
-use Rattle.cal_recurrence.specs.TimeSearch.{first_by, NoneIn, IsFirst, IsNext}
+use Rattle.cal_recurrence.specs.DateTimeRule.{is_occurrence, occurrences_after, readings_from}
+use Rattle.cal_recurrence.specs.DateTimeSet.{is_in_set, is_listed, IsNextFrom}
+use Rattle.cal_recurrence.specs.Nearest.{is_past, IsFirstPast, IsNearest}
+use Rattle.cal_recurrence.specs.TimeSearch.{NoneIn, IsFirst, IsNext}
 use Rattle.cal_recurrence.specs.declared.date_time_set.DateTimeSet.{DateTimeSet}
-use Rattle.cal_recurrence.proofs.FirstNumbers.{Leaves, earlier_is, first-in_list, first-of_list, next-alike}
+use Rattle.cal_recurrence.proofs.FirstNumbers.{first-in_list, first-of_list}
+use Rattle.cal_recurrence.proofs.NearestValues.{is-later, later, up_to, within}
 
--- ---- one reading, and lists
 number-is : (z : ℤ) → IsDateTime z → pos (unsigned_abs z) ≡ z
 number-is z h = let e : pos (unsigned_abs z) ≡ z = omega (arith, ints, h.not_before) in e
-
-same-test : (z : ℤ) → IsDateTime z → int_eq z z ≡ true
-same-test z h = grind (arith, ints)
-
-other-test : (z y : ℤ) → ¬ (z ≡ y) → int_eq z y ≡ false
-other-test z y h = grind (arith, ints)
-
-pub one_after : (z y : ℤ) → y <ℤ z → IsDateTime z → IsDateTime y → IsNextOf (int_eq z) y (Some z)
-one_after z y late h g = record {
-  number = Some (unsigned_abs z);
-  is = ap Some (sym (number-is z h));
-  next = record {
-    not_before = omega (arith, ints, late, h.not_before, g.not_before);
-    below = omega (arith, ints, h.not_before, h.not_after);
-    passes = ap (int_eq z) (number-is z h) ∙ same-test z h;
-    none_before = λ k low high. other-test z (pos k) (λ e. absurd (omega (arith, ints, e)));
-  };
-}
-
-pub one_not_after : (z y : ℤ) → ¬ (y <ℤ z) → IsDateTime y → IsNextOf (int_eq z) y None
-one_not_after z y early g = record {
-  number = None;
-  is = refl;
-  next = λ k low high. other-test z (pos k) (λ e. absurd (early (omega (arith, ints, e, g.not_before))));
-}
-
-pub alike : (t u : ℤ → Bool) (z : ℤ) (r : Option ℤ) → ((y : ℤ) → u y ≡ t y) → IsNextOf t z r → IsNextOf u z r
-alike t u z r same h = record {
-  number = h.number;
-  is = h.is;
-  next = next-alike (λ k. t (pos k)) (λ k. u (pos k)) (unsigned_abs z + 1) (last_date_time + 1) h.number (λ k. same (pos k)) h.next;
-}
-
--- ---- the nearest reading that passes one of two tests
-earlier-at : (m n : ℕ) (b : Bool) → nat_lt m n ≡ b → first_by int_lt (Some (pos n)) (Some (pos m)) ≡ option_map pos (first_by nat_lt (Some n) (Some m))
-earlier-at m n true e = rw e refl
-earlier-at m n false e = rw e refl
-
-earlier-numbers : (p q : Option ℕ) → first_by int_lt (option_map pos p) (option_map pos q) ≡ option_map pos (first_by nat_lt p q)
-earlier-numbers None q = refl
-earlier-numbers (Some n) None = refl
-earlier-numbers (Some n) (Some m) = earlier-at m n (nat_lt m n) refl
-
-pub either : (s t : ℤ → Bool) (z : ℤ) (r q : Option ℤ) → IsNextOf s z r → IsNextOf t z q → IsNextOf (λ y. s y || t y) z (first_by int_lt r q)
-either s t z r q h g = record {
-  number = first_by nat_lt h.number g.number;
-  is = ap (λ o. first_by int_lt o q) h.is ∙ ap (first_by int_lt (option_map pos h.number)) g.is ∙ earlier-numbers h.number g.number;
-  next = earlier_is (λ k. s (pos k)) (λ k. t (pos k)) (unsigned_abs z + 1) (last_date_time + 1) h.number g.number h.next g.next;
-}
 
 -- ---- the first of a list
 pub of-list : (test : ℤ → Bool) (n : ℕ) (r : Option ℤ) → r ≡ slice_get (readings_from test n) 0 → IsNextFrom test n r
@@ -103,20 +56,67 @@ not_found test n h = subst (IsNext (λ k. test (pos k)) n (last_date_time + 1)) 
 pub is-found : (test : ℤ → Bool) (n : ℕ) (y : ℤ) → IsFound test n y → IsNextFrom test n (Some y)
 is-found test n y h = record { number = Some (unsigned_abs y); is = ap Some h.is; next = h.first }
 
--- ---- a set
--- The test of the readings of a set, of its candidates and of its exceptions, at a number.
-abbrev pub on : DateTimeSet → ℕ → Bool
-on set k = is_in_set set (pos k)
+-- ---- the first reading after a reading
+number : {z : ℤ} (k : ℤ) → IsDateTime z → is_past int_cmp true k z ≡ true → k ≡ pos (unsigned_abs k)
+number {z} k range past = omega (arith, ints, is-later z k past, range.not_before)
 
-abbrev pub offered : DateTimeSet → ℕ → Bool
-offered set k = candidates set (pos k)
+of-next : (test : ℤ → Bool) (z : ℤ) (r : Option ℤ) → IsDateTime z → IsNextFrom test (unsigned_abs z + 1) r
+    → IsNearest (is_past int_cmp true) (λ y. nat_le (unsigned_abs y) last_date_time && test y) z r
+of-next test z None range h = λ k past. up_to (unsigned_abs k) last_date_time (test k) (λ early.
+    ap test (number k range past) ∙ not_found test (unsigned_abs z + 1) h (unsigned_abs k) (omega (arith, ints, is-later z k past, range.not_before)) (omega (arith, early)))
+of-next test z (Some y) range h =
+    let at = found test (unsigned_abs z + 1) y h in
+    record {
+      beyond = later z y (omega (arith, ints, at.is, at.first.not_before, range.not_before));
+      passes = rw (within (unsigned_abs y) last_date_time (omega (arith, at.first.below))) (ap test at.is ∙ at.first.passes);
+      none_between = λ k past less. up_to (unsigned_abs k) last_date_time (test k) (λ _.
+          ap test (number k range past)
+          ∙ at.first.none_before (unsigned_abs k) (omega (arith, ints, is-later z k past, range.not_before)) (omega (arith, ints, is-later k y less, is-later z k past, range.not_before)));
+    }
 
-abbrev pub left_out : DateTimeSet → ℕ → Bool
-left_out set k = is_listed set.exceptions.now (pos k)
+-- ---- the readings of a set
+-- A reading up to the last one that the rule has.
+abbrev pub rule_readings : DateTimeSet → ℤ → Bool
+rule_readings set z = nat_le (unsigned_abs z) last_date_time && is_occurrence set.rule z
 
-pub leaves : (set : DateTimeSet) → Leaves (on set) (offered set) (left_out set)
+pub after_rule : (set : DateTimeSet) (z : ℤ) (r : Option ℤ) → IsDateTime z → r ≡ slice_get (occurrences_after set.rule z) 0 → IsNearest (is_past int_cmp true) (rule_readings set) z r
+after_rule set z r range e = of-next (is_occurrence set.rule) z r range (of-list (is_occurrence set.rule) (unsigned_abs z + 1) r e)
+
+-- Such a reading, or one of the other readings.
+abbrev pub next_candidates : DateTimeSet → ℤ → Bool
+next_candidates set z = rule_readings set z || is_listed set.dates.now z
+
+-- Such a reading that isn't left out.
+abbrev pub next_readings : DateTimeSet → ℤ → Bool
+next_readings set z = next_candidates set z && not (is_listed set.exceptions.now z)
+
+pub same_reading : (set : DateTimeSet) (z : ℤ) → IsDateTime z → is_in_set set z ≡ next_readings set z
 unfolding is_in_set
-leaves set k = refl
+same_reading set z date = rw (within (unsigned_abs z) last_date_time (omega (arith, ints, date.not_before, date.not_after))) refl
+
+number-range : (n : ℕ) → n ≤ last_date_time → IsDateTime (pos n)
+number-range n h = record { not_before = omega (arith, ints); not_after = omega (arith, ints, h) }
+
+pub first_after : (set : DateTimeSet) (z x : ℤ) → IsDateTime z → IsDateTime x → IsFirstPast (is_past int_cmp true) (next_readings set) z x
+    → IsNextFrom (is_in_set set) (unsigned_abs z + 1) (Some x)
+first_after set z x from date h = is-found (is_in_set set) (unsigned_abs z + 1) x (record {
+  is = sym (number-is x date);
+  first = record {
+    not_before = omega (arith, ints, is-later z x h.beyond, from.not_before);
+    below = omega (arith, ints, date.not_before, date.not_after);
+    passes = ap (is_in_set set) (number-is x date) ∙ same_reading set x date ∙ h.passes;
+    none_before = λ k past less.
+        same_reading set (pos k) (number-range k (omega (arith, ints, less, date.not_before, date.not_after)))
+        ∙ h.none_between (pos k) (later z (pos k) (omega (arith, ints, past, from.not_before))) (later (pos k) x (omega (arith, ints, less, date.not_before)));
+  };
+})
+
+pub none_after : (set : DateTimeSet) (z : ℤ) → IsDateTime z → IsNearest (is_past int_cmp true) (next_readings set) z None → IsNextFrom (is_in_set set) (unsigned_abs z + 1) None
+none_after set z from none = record {
+  number = None;
+  is = refl;
+  next = λ k past less. same_reading set (pos k) (number-range k (omega (arith, less))) ∙ none (pos k) (later z (pos k) (omega (arith, ints, past, from.not_before)));
+}
 
 -- The first reading from a reading on is this one, or the first after it.
 pub from-here : (test : ℤ → Bool) (z : ℤ) → IsDateTime z → test z ≡ true → Some z ≡ slice_get (readings_from test (unsigned_abs z)) 0
@@ -134,3 +134,24 @@ from-next test z h miss =
     ap (λ c. map pos (filter (λ k. test (pos k)) (days_from n c))) count
     ∙ ap (map pos) (from-no (λ k. test (pos k)) n (last_date_time - n) (ap test (number-is z h) ∙ miss))
     ∙ ap (λ c. map pos (filter (λ k. test (pos k)) (days_from (n + 1) c))) less
+
+same-test : (z : ℤ) → IsDateTime z → int_eq z z ≡ true
+same-test z h = grind (arith, ints)
+
+other-test : (z y : ℤ) → ¬ (z ≡ y) → int_eq z y ≡ false
+other-test z y h = grind (arith, ints)
+
+-- A reading passes a test if it is the first one from itself on that passes.
+is-first-at : (test : ℤ → Bool) (y z : ℤ) (b : Bool) → test z ≡ b → IsDateTime z → Some y ≡ slice_get (readings_from test (unsigned_abs z)) 0 → int_eq y z ≡ test z
+is-first-at test y z true on h e = let same : Some y ≡ Some z = e ∙ sym (from-here test z h on) in let is : y ≡ z = cc in ap (λ w. int_eq w z) is ∙ same-test z h ∙ sym on
+is-first-at test y z false off h e =
+    let first : IsFound test (unsigned_abs z) y = found test (unsigned_abs z) y (of-list test (unsigned_abs z) (Some y) e) in
+    other-test y z (λ is. false≢true (sym off ∙ ap test (sym is ∙ first.is) ∙ first.first.passes)) ∙ sym off
+
+pub is-first : (test : ℤ → Bool) (y z : ℤ) → IsDateTime z → Some y ≡ slice_get (readings_from test (unsigned_abs z)) 0 → int_eq y z ≡ test z
+is-first test y z h e = is-first-at test y z (test z) refl h e
+
+pub none-first : (test : ℤ → Bool) (z : ℤ) → IsDateTime z → None ≡ slice_get (readings_from test (unsigned_abs z)) 0 → false ≡ test z
+none-first test z h e =
+    sym (not_found test (unsigned_abs z) (of-list test (unsigned_abs z) None e) (unsigned_abs z) (omega arith) (omega (arith, ints, h.not_before, h.not_after)))
+    ∙ ap test (number-is z h)

@@ -1,17 +1,39 @@
 -- A text that is copied with folds, step by step, and unfolded again.
-use Rattle.std.proofs.Common.{◌≡◌, ℕ, zero, suc, ◌+◌, ◌-◌, ◌<◌, ◌≤◌, Bool, true, false, cond, eqb, List, [], ◌∷◌, ◌++◌, append-nil, append_assoc, length, take, drop, slice_index_or, Some, inl, inr, refl, sym, ap, subst, ◌∙◌, arith}
-use Rattle.std.specs.Prelude.{◌⊎◌, ◌&&◌, nat_le, slice_index}
+use Rattle.std.proofs.Common.{◌≡◌, ℕ, ◌+◌, ◌<◌, ◌≤◌, Bool, true, false, cond, eqb, not, List, [], ◌∷◌, ◌++◌, append-nil, append_assoc, length, length-append, take, drop, slice_index_or, Some, inl, inr, refl, sym, ap, subst, ◌∙◌, arith}
+use Rattle.std.specs.Prelude.{◌⊎◌, ◌↔◌, ◌&&◌, nat_le, slice_index}
 use Rattle.std.proofs.lemmas.Bool.{and_parts, cases_Bool, eqb-true, true≢false}
 use Rattle.std.proofs.lemmas.List.{drop_all}
 use Rattle.cal_recurrence.specs.Buffers.{IsPut}
-use Rattle.cal_recurrence.specs.Folding.{column_after, first_folded, fold_before, fold_length, folded_after, folded_of, is_blank, unfolded_after, unfolded_of}
+use Rattle.cal_recurrence.specs.Folding.{fold_length, is_blank, is_line_end, IsUnfolded}
+use Rattle.cal_recurrence.specs.Folding.IsUnfolded.{end as no_byte, byte as a_byte, fold as a_fold}
 use Rattle.cal_recurrence.proofs.Marked.{at_index}
 use Rattle.cal_recurrence.proofs.Puts.{then_put}
+use Rattle.cal_recurrence.proofs.Unfolding.{one_unfolded, some_unfolded}
+
+-- ---- folds, byte by byte
+-- a fold comes before a byte after the first 75 of its line, unless the line ends there
+abbrev pub fold_before : ℕ → List ℕ → Bool
+fold_before column bytes = nat_le 75 column && not (is_line_end bytes)
+
+abbrev pub first_folded : ℕ → List ℕ → List ℕ
+first_folded column bytes = cond (fold_before column bytes) (13 ∷ 10 ∷ 32 ∷ take 1 bytes) (take 1 bytes)
+
+-- the number of bytes in the line after that byte
+abbrev pub column_after : ℕ → List ℕ → ℕ
+column_after column bytes = cond (fold_before column bytes) 2 (cond (eqb (slice_index bytes 0) 10) 0 (column + 1))
+
+-- bytes after `column` bytes of their line, with folds
+abbrev pub folded_after : ℕ → List ℕ → List ℕ
+folded_after column [] = []
+folded_after column (b ∷ bs) = first_folded column (b ∷ bs) ++ folded_after (column_after column (b ∷ bs)) bs
+
+abbrev pub folded_of : List ℕ → List ℕ
+folded_of text = folded_after 0 text
 
 -- ---- the loop
 -- the first `filled` bytes and what is left of the text from an index on, with folds, are the text
 -- with folds, and the other bytes are the old ones
-pub record IsFolded (text old new : List ℕ) (filled index column : ℕ) : Type 0 where
+pub record IsFolding (text old new : List ℕ) (filled index column : ℕ) : Type 0 where
   pub done : List ℕ
   pub put : IsPut 0 done old new (Some filled)
   pub joined : done ++ folded_after column (drop index text) ≡ folded_of text
@@ -37,9 +59,9 @@ column-few column bytes =
     few true = omega arith
     few false = omega arith
 
-pub one_byte : (text old mid new : List ℕ) (filled next index column : ℕ) → IsFolded text old mid filled index column → index < length text
+pub one_byte : (text old mid new : List ℕ) (filled next index column : ℕ) → IsFolding text old mid filled index column → index < length text
     → IsPut filled (first_folded column (drop index text)) mid new (Some next) → length new ≡ length mid
-    → IsFolded text old new next (index + 1) (column_after column (drop index text))
+    → IsFolding text old new next (index + 1) (column_after column (drop index text))
 one_byte text old mid new filled next index column h less put size =
     let more = first_folded column (drop index text) in
     record {
@@ -50,7 +72,14 @@ one_byte text old mid new filled next index column h less put size =
       few = omega (arith, h.few, column-few column (drop index text));
     }
 
-pub all_folded : (text old new : List ℕ) (filled index column : ℕ) → IsFolded text old new filled index column → length text ≤ index
+pub too_short : (text old mid : List ℕ) (filled index column : ℕ) → IsFolding text old mid filled index column → index < length text
+    → length mid < filled + length (first_folded column (drop index text)) → length old < 0 + length (folded_of text)
+too_short text old mid filled index column h less few =
+    let more = first_folded column (drop index text) in
+    let left = folded_after (column_after column (drop index text)) (drop (index + 1) text) in
+    omega (arith, few, h.put.0, h.size, ap length h.joined, length-append h.done (folded_after column (drop index text)), ap length (next-byte text index column less), length-append more left)
+
+pub all_folded : (text old new : List ℕ) (filled index column : ℕ) → IsFolding text old new filled index column → length text ≤ index
     → IsPut 0 (folded_of text) old new (Some filled)
 all_folded text old new filled index column h all =
     let whole : h.done ≡ folded_of text = sym (append-nil h.done) ∙ ap (λ bytes. h.done ++ folded_after column bytes) (sym (drop_all index text all)) ∙ h.joined in
@@ -71,13 +100,6 @@ no-fold b bs e f =
     ap (λ t. cond (t && is_blank (slice_index bs 0)) 2 (cond (eqb b 13 && (eqb (slice_index bs 0) 10 && is_blank (slice_index bs 1))) 3 0)) e
     ∙ ap (λ t. cond t 3 0) (and-both (eqb b 13) (eqb (slice_index bs 0) 10) (is_blank (slice_index bs 1)) f)
 
-one-kept : (b : ℕ) (bs : List ℕ) → fold_length (b ∷ bs) ≡ 0 → unfolded_of (b ∷ bs) ≡ b ∷ unfolded_of bs
-one-kept b bs e = ap (λ n. cond (eqb n 0) (b ∷ unfolded_after 0 bs) (unfolded_after (n - 1) bs)) e
-
-both-kept : (b : ℕ) (xs ys : List ℕ) → fold_length (b ∷ xs) ≡ 0 → fold_length (b ∷ ys) ≡ 0 → unfolded_of xs ≡ unfolded_of ys
-    → unfolded_of (b ∷ xs) ≡ unfolded_of (b ∷ ys)
-both-kept b xs ys e f h = one-kept b xs e ∙ ap (λ rest. b ∷ rest) h ∙ sym (one-kept b ys f)
-
 -- a line feed begins a line, before which no fold comes
 pub line-stays : (column : ℕ) (bs : List ℕ) → fold_before column (10 ∷ bs) ≡ false
 line-stays column bs = and-false (nat_le 75 column)
@@ -85,109 +107,129 @@ line-stays column bs = and-false (nat_le 75 column)
 pub stays : (column b : ℕ) (bs : List ℕ) → fold_before column (b ∷ bs) ≡ false → folded_after column (b ∷ bs) ≡ b ∷ folded_after (column_after column (b ∷ bs)) bs
 stays column b bs e = ap (λ t. cond t (13 ∷ 10 ∷ 32 ∷ b ∷ []) (b ∷ []) ++ folded_after (column_after column (b ∷ bs)) bs) e
 
--- a fold goes away
-without-fold : (t : Bool) (b : ℕ) (bs : List ℕ) → unfolded_of (cond t (13 ∷ 10 ∷ 32 ∷ b ∷ []) (b ∷ []) ++ bs) ≡ unfolded_of (b ∷ bs)
-without-fold true b bs = refl
-without-fold false b bs = refl
+pub line : (column : ℕ) (bs : List ℕ) → folded_after column (10 ∷ bs) ≡ 10 ∷ folded_after 0 bs
+line column bs = stays column 10 bs (line-stays column bs) ∙ ap (λ t. 10 ∷ folded_after (cond t 2 0) bs) (line-stays column bs)
 
-first-other : (t : Bool) (b : ℕ) (bs : List ℕ) → eqb b 10 ≡ false → eqb (slice_index (cond t (13 ∷ 10 ∷ 32 ∷ b ∷ []) (b ∷ []) ++ bs) 0) 10 ≡ false
-first-other true b bs e = refl
-first-other false b bs e = e
+-- the bytes after a byte begin no fold with it, if they began none before
+after-line : (bs : List ℕ) → fold_length (10 ∷ bs) ≡ 0 → fold_length (10 ∷ folded_after 0 bs) ≡ 0
+after-line [] e = refl
+after-line (c ∷ cs) e = e
 
--- what both texts give after their first byte
-abbrev Same : List ℕ → Type 0
-Same bs = (column : ℕ) → unfolded_of (folded_after column bs) ≡ unfolded_of bs
+after-return : (n : ℕ) (cs : List ℕ) → fold_length (13 ∷ 10 ∷ cs) ≡ 0 → fold_length (13 ∷ folded_after n (10 ∷ cs)) ≡ 0
+after-return n cs e = ap (λ bytes. fold_length (13 ∷ bytes)) (line n cs) ∙ within cs e
+  where
+    within : (cs : List ℕ) → fold_length (13 ∷ 10 ∷ cs) ≡ 0 → fold_length (13 ∷ 10 ∷ folded_after 0 cs) ≡ 0
+    within [] e = refl
+    within (d ∷ ds) e = e
 
--- after a line feed
-after-line : (bs : List ℕ) → Same bs → ((c : ℕ) (cs : List ℕ) → bs ≡ c ∷ cs → Same cs) → unfolded_of (10 ∷ folded_after 0 bs) ≡ unfolded_of (10 ∷ bs)
-after-line [] h g = refl
-after-line (c ∷ cs) h g =
-    let k = column_after 0 (c ∷ cs) in
-    let length_of : Bool → ℕ = λ t. cond t 2 0 in
-    elim (cases_Bool (is_blank c)) [
-      | inl blank ↦
-          ap (λ t. cond (eqb (length_of t) 0) (10 ∷ unfolded_after 0 (c ∷ folded_after k cs)) (unfolded_after (length_of t - 1) (c ∷ folded_after k cs))) blank
-          ∙ g c cs refl k
-          ∙ sym (ap (λ t. cond (eqb (length_of t) 0) (10 ∷ unfolded_after 0 (c ∷ cs)) (unfolded_after (length_of t - 1) (c ∷ cs))) blank)
-      | inr other ↦
-          ap (λ t. cond (eqb (length_of t) 0) (10 ∷ unfolded_after 0 (c ∷ folded_after k cs)) (unfolded_after (length_of t - 1) (c ∷ folded_after k cs))) other
-          ∙ ap (λ rest. 10 ∷ rest) (h 0)
-          ∙ sym (ap (λ t. cond (eqb (length_of t) 0) (10 ∷ unfolded_after 0 (c ∷ cs)) (unfolded_after (length_of t - 1) (c ∷ cs))) other)
-    ]
+first-other : (n c : ℕ) (cs : List ℕ) → eqb c 10 ≡ false → eqb (slice_index (folded_after n (c ∷ cs)) 0) 10 ≡ false
+first-other n c cs e = either (fold_before n (c ∷ cs)) (folded_after (column_after n (c ∷ cs)) cs)
+  where
+    either : (t : Bool) (bytes : List ℕ) → eqb (slice_index (cond t (13 ∷ 10 ∷ 32 ∷ c ∷ []) (c ∷ []) ++ bytes) 0) 10 ≡ false
+    either true bytes = refl
+    either false bytes = e
 
--- after a carriage return and a line feed
-after-return : (cs : List ℕ) → Same (10 ∷ cs) → ((d : ℕ) (ds : List ℕ) → cs ≡ d ∷ ds → Same ds)
-    → unfolded_of (13 ∷ 10 ∷ folded_after 0 cs) ≡ unfolded_of (13 ∷ 10 ∷ cs)
-after-return [] h g = refl
-after-return (d ∷ ds) h g =
-    let k = column_after 0 (d ∷ ds) in
-    let length_of : Bool → ℕ = λ t. cond t 3 0 in
-    elim (cases_Bool (is_blank d)) [
-      | inl blank ↦
-          ap (λ t. cond (eqb (length_of t) 0) (13 ∷ unfolded_after 0 (10 ∷ d ∷ folded_after k ds)) (unfolded_after (length_of t - 1) (10 ∷ d ∷ folded_after k ds))) blank
-          ∙ g d ds refl k
-          ∙ sym (ap (λ t. cond (eqb (length_of t) 0) (13 ∷ unfolded_after 0 (10 ∷ d ∷ ds)) (unfolded_after (length_of t - 1) (10 ∷ d ∷ ds))) blank)
-      | inr other ↦
-          ap (λ t. cond (eqb (length_of t) 0) (13 ∷ unfolded_after 0 (10 ∷ d ∷ folded_after k ds)) (unfolded_after (length_of t - 1) (10 ∷ d ∷ folded_after k ds))) other
-          ∙ ap (λ rest. 13 ∷ rest) (sym (ap unfolded_of (stays 0 10 (d ∷ ds) refl)) ∙ h 0)
-          ∙ sym (ap (λ t. cond (eqb (length_of t) 0) (13 ∷ unfolded_after 0 (10 ∷ d ∷ ds)) (unfolded_after (length_of t - 1) (10 ∷ d ∷ ds))) other)
-    ]
-
--- after any other byte
-first-not : (b m : ℕ) (bs : List ℕ) → eqb b 13 && eqb (slice_index bs 0) 10 ≡ false → eqb b 13 && eqb (slice_index (folded_after m bs) 0) 10 ≡ false
-first-not b m [] h = h
-first-not b m (c ∷ cs) h =
-    let rest = folded_after (column_after m (c ∷ cs)) cs in
+after-other : (b n : ℕ) (bs : List ℕ) → eqb b 10 ≡ false → fold_length (b ∷ bs) ≡ 0 → fold_length (b ∷ folded_after n bs) ≡ 0
+after-other b n [] other e = e
+after-other b n (c ∷ cs) other e =
     elim (cases_Bool (eqb c 10)) [
-      | inl line ↦ ap (λ t. t && eqb (slice_index (folded_after m (c ∷ cs)) 0) 10) (unless (eqb b 13) (sym (ap (λ t. eqb b 13 && t) line) ∙ h))
-      | inr other ↦ ap (λ t. eqb b 13 && t) (first-other (fold_before m (c ∷ cs)) c rest other) ∙ and-false (eqb b 13)
+      | inl feed ↦
+          let ten : c ≡ 10 = eqb-true c 10 feed in
+          elim (cases_Bool (eqb b 13)) [
+            | inl return ↦
+                let same : b ≡ 13 = eqb-true b 13 return in
+                ap (λ x. fold_length (x ∷ folded_after n (c ∷ cs))) same ∙ ap (λ x. fold_length (13 ∷ folded_after n (x ∷ cs))) ten
+                ∙ after-return n cs (sym (ap (λ x. fold_length (x ∷ c ∷ cs)) same ∙ ap (λ x. fold_length (13 ∷ x ∷ cs)) ten) ∙ e)
+            | inr plain ↦ no-fold b (folded_after n (c ∷ cs)) other (ap (λ t. t && eqb (slice_index (folded_after n (c ∷ cs)) 0) 10) plain)
+          ]
+      | inr plain ↦ no-fold b (folded_after n (c ∷ cs)) other (ap (λ t. eqb b 13 && t) (first-other n c cs plain) ∙ and-false (eqb b 13))
+    ]
+
+after-byte : (column b : ℕ) (bs : List ℕ) → fold_length (b ∷ bs) ≡ 0 → fold_length (b ∷ folded_after (column_after column (b ∷ bs)) bs) ≡ 0
+after-byte column b bs e =
+    elim (cases_Bool (eqb b 10)) [
+      | inl feed ↦
+          let ten : b ≡ 10 = eqb-true b 10 feed in
+          ap (λ x. fold_length (x ∷ folded_after (column_after column (x ∷ bs)) bs)) ten
+          ∙ ap (λ t. fold_length (10 ∷ folded_after (cond t 2 0) bs)) (line-stays column bs)
+          ∙ after-line bs (sym (ap (λ x. fold_length (x ∷ bs)) ten) ∙ e)
+      | inr other ↦ after-other b (column_after column (b ∷ bs)) bs other e
+    ]
+
+-- a fold stays, and folds come after it
+abbrev Stays : ℕ → List ℕ → ℕ → Type 0
+Stays column text n =
+    (m : ℕ) × (drop n (folded_after column text) ≡ folded_after m (drop n text)) × (fold_length (folded_after column text) ≡ n) × (fold_length text ≡ n)
+
+two-stay : (column c : ℕ) (cs : List ℕ) → is_blank c ≡ true → Stays column (10 ∷ c ∷ cs) 2
+two-stay column c cs blank =
+    let m = column_after 0 (c ∷ cs) in
+    let two : cond (is_blank c) 2 0 ≡ 2 = ap (λ t. cond t 2 0) blank in
+    (m, ap (drop 2) (line column (c ∷ cs)), ap fold_length (line column (c ∷ cs)) ∙ two, two)
+
+three-stay : (column c : ℕ) (cs : List ℕ) → is_blank c ≡ true → Stays column (13 ∷ 10 ∷ c ∷ cs) 3
+three-stay column c cs blank =
+    let plain : fold_before column (13 ∷ 10 ∷ c ∷ cs) ≡ false = and-false (nat_le 75 column) in
+    let n = column_after column (13 ∷ 10 ∷ c ∷ cs) in
+    let three : cond (is_blank c) 3 0 ≡ 3 = ap (λ t. cond t 3 0) blank in
+    let whole : folded_after column (13 ∷ 10 ∷ c ∷ cs) ≡ 13 ∷ 10 ∷ c ∷ folded_after (column_after 0 (c ∷ cs)) cs =
+    stays column 13 (10 ∷ c ∷ cs) plain ∙ ap (λ bytes. 13 ∷ bytes) (line n (c ∷ cs)) in
+    (column_after 0 (c ∷ cs), ap (drop 3) whole, ap fold_length whole ∙ three, three)
+
+fold-stays : (column : ℕ) (text : List ℕ) → 0 < fold_length text → Stays column text (fold_length text)
+fold-stays column [] some = absurd (omega (arith, some))
+fold-stays column (b ∷ []) some =
+    let none : fold_length (b ∷ []) ≡ 0 =
+    ap (λ t. cond t 2 (cond (eqb b 13 && false) 3 0)) (and-false (eqb b 10)) ∙ ap (λ t. cond t 3 0) (and-false (eqb b 13)) in
+    absurd (omega (arith, some, none))
+fold-stays column (b ∷ c ∷ cs) some =
+    let text = b ∷ c ∷ cs in
+    elim (cases_Bool (eqb b 10 && is_blank c)) [
+      | inl two ↦
+          let both = and_parts (eqb b 10) (is_blank c) two in
+          found 2 (subst (λ x. Stays column (x ∷ c ∷ cs) 2) (sym (eqb-true b 10 both.0)) (two-stay column c cs both.1))
+      | inr other ↦ elim (cases_Bool (eqb b 13 && (eqb c 10 && is_blank (slice_index cs 0)))) [
+        | inl three ↦
+            let both = and_parts (eqb b 13) _ three in
+            let last = and_parts (eqb c 10) (is_blank (slice_index cs 0)) both.1 in
+            found 3 (subst (λ x. Stays column (x ∷ c ∷ cs) 3) (sym (eqb-true b 13 both.0))
+            (subst (λ x. Stays column (13 ∷ x ∷ cs) 3) (sym (eqb-true c 10 last.0)) (after cs last.1)))
+        | inr none ↦
+            let plain : fold_length text ≡ 0 =
+            ap (λ t. cond t 2 (cond (eqb b 13 && (eqb c 10 && is_blank (slice_index cs 0))) 3 0)) other ∙ ap (λ t. cond t 3 0) none in
+            absurd (omega (arith, some, plain))
+      ]
     ]
   where
-    unless : (a : Bool) → a && true ≡ false → a ≡ false
-    unless true h = h
-    unless false h = refl
+    found : (n : ℕ) → Stays column (b ∷ c ∷ cs) n → Stays column (b ∷ c ∷ cs) (fold_length (b ∷ c ∷ cs))
+    found n its = subst (Stays column (b ∷ c ∷ cs)) (sym its.3) its
 
-after-other : (b m : ℕ) (bs : List ℕ) → eqb b 10 ≡ false → eqb b 13 && eqb (slice_index bs 0) 10 ≡ false → Same bs
-    → unfolded_of (b ∷ folded_after m bs) ≡ unfolded_of (b ∷ bs)
-after-other b m bs e f h = both-kept b (folded_after m bs) bs (no-fold b (folded_after m bs) e (first-not b m bs f)) (no-fold b bs e f) (h m)
+    after : (ds : List ℕ) → is_blank (slice_index ds 0) ≡ true → Stays column (13 ∷ 10 ∷ ds) 3
+    after [] blank = absurd (true≢false (sym blank))
+    after (d ∷ ds) blank = three-stay column d ds blank
 
--- after a byte other than a line feed
-after-byte : (b m : ℕ) (bs : List ℕ) → eqb b 10 ≡ false → Same bs → ((ds : List ℕ) → length ds < length bs → Same ds)
-    → unfolded_of (b ∷ folded_after m bs) ≡ unfolded_of (b ∷ bs)
-after-byte b m [] e h g = refl
-after-byte b m (c ∷ cs) e h g =
-    elim (cases_Bool (eqb b 13 && eqb c 10)) [
-      | inl ends ↦
-          let both = and_parts (eqb b 13) (eqb c 10) ends in
-          let return : b ≡ 13 = eqb-true b 13 both.0 in
-          let feed : c ≡ 10 = eqb-true c 10 both.1 in
-          let one : folded_after m (10 ∷ cs) ≡ 10 ∷ folded_after 0 cs =
-          stays m 10 cs (line-stays m cs) ∙ ap (λ t. 10 ∷ folded_after (cond t 2 0) cs) (line-stays m cs) in
-          ap (λ x. unfolded_of (x ∷ folded_after m (c ∷ cs))) return ∙ ap (λ x. unfolded_of (13 ∷ folded_after m (x ∷ cs))) feed
-          ∙ ap (λ rest. unfolded_of (13 ∷ rest)) one
-          ∙ after-return cs (subst (λ x. Same (x ∷ cs)) feed h) (λ d ds same. g ds (omega (arith, ap length same)))
-          ∙ sym (ap (λ x. unfolded_of (x ∷ c ∷ cs)) return ∙ ap (λ x. unfolded_of (13 ∷ x ∷ cs)) feed)
-      | inr other ↦ after-other b m (c ∷ cs) e other h
-    ]
+same-unfolded : (column : ℕ) (text unfolded : List ℕ) → IsUnfolded text unfolded → IsUnfolded (folded_after column text) unfolded
+same-unfolded column text unfolded no_byte = no_byte
+same-unfolded column text unfolded (a_byte b bs rest e h) =
+    let n = column_after column (b ∷ bs) in
+    either (fold_before column (b ∷ bs)) b (folded_after n bs) rest (a_byte b (folded_after n bs) rest (after-byte column b bs e) (same-unfolded n bs rest h))
+  where
+    either : (t : Bool) (b : ℕ) (bytes rest : List ℕ) → IsUnfolded (b ∷ bytes) (b ∷ rest) → IsUnfolded (cond t (13 ∷ 10 ∷ 32 ∷ b ∷ []) (b ∷ []) ++ bytes) (b ∷ rest)
+    either true b bytes rest h = a_fold (13 ∷ 10 ∷ 32 ∷ b ∷ bytes) (b ∷ rest) (omega arith) h
+    either false b bytes rest h = h
+same-unfolded column text unfolded (a_fold _ _ some h) =
+    let n = fold_length text in
+    let its = fold-stays column text some in
+    let past : drop (fold_length (folded_after column text)) (folded_after column text) ≡ folded_after its.0 (drop n text) =
+    ap (λ k. drop k (folded_after column text)) its.2 ∙ its.1 in
+    a_fold (folded_after column text) unfolded (omega (arith, its.2, some)) (subst (λ bytes. IsUnfolded bytes unfolded) (sym past) (same-unfolded its.0 (drop n text) unfolded h))
 
-same-within : (n : ℕ) (bs : List ℕ) → length bs ≤ n → Same bs
-same-within n [] few column = refl
-same-within zero (b ∷ bs) few column = absurd (omega (arith, few))
-same-within (suc n) (b ∷ bs) few column =
-    let m = column_after column (b ∷ bs) in
-    let h = same-within n bs (omega (arith, few)) in
-    without-fold (fold_before column (b ∷ bs)) b (folded_after m bs)
-    ∙ elim (cases_Bool (eqb b 10)) [
-      | inl line ↦
-          let feed : b ≡ 10 = eqb-true b 10 line in
-          ap (λ x. unfolded_of (x ∷ folded_after (column_after column (x ∷ bs)) bs)) feed
-          ∙ ap (λ t. unfolded_of (10 ∷ folded_after (cond t 2 0) bs)) (line-stays column bs)
-          ∙ after-line bs h (λ c cs same. same-within n cs (omega (arith, few, ap length same)))
-          ∙ ap (λ x. unfolded_of (x ∷ bs)) (sym feed)
-      | inr other ↦ after-byte b m bs other h (λ ds less. same-within n ds (omega (arith, few, less)))
-    ]
-
-pub unfolds : (text old new : List ℕ) (filled index column : ℕ) → IsFolded text old new filled index column → length text ≤ index
-    → unfolded_of (take filled new) ≡ unfolded_of text
-unfolds text old new filled index column h all =
-    ap unfolded_of (all_folded text old new filled index column h all).2 ∙ same-within (length text) text (omega arith) 0
+pub unfolds : (text old new : List ℕ) (filled index column : ℕ) → IsFolding text old new filled index column → length text ≤ index
+    → (unfolded : List ℕ) → (IsUnfolded (take filled new) unfolded ↔ IsUnfolded text unfolded)
+unfolds text old new filled index column h all unfolded =
+    let whole : take filled new ≡ folded_of text = (all_folded text old new filled index column h all).2 in
+    let its = some_unfolded text in
+    let same : IsUnfolded (take filled new) its.0 = subst (λ bytes. IsUnfolded bytes its.0) (sym whole) (same-unfolded 0 text its.0 its.1) in (
+      λ k. subst (IsUnfolded text) (one_unfolded (take filled new) its.0 unfolded same k) its.1,
+      λ k. subst (λ bytes. IsUnfolded bytes unfolded) (sym whole) (same-unfolded 0 text unfolded k),
+    )

@@ -16,10 +16,10 @@ pub mod GivenParts
 pub mod GivenNames
 pub mod GivenSets
 pub mod FirstNumbers
+pub mod NearestValues
 pub mod Sets
 pub mod DateTimeSets
 pub mod ZonedSearch
-pub mod ZoneReadings
 pub mod CountedSets
 pub mod TimeSteps
 pub mod TimeTests
@@ -31,4 +31,4 @@ pub mod SetValues
 pub mod Unfolding
 pub mod Puts
 pub mod FoldedLines
-pub mod ShortLines
+pub mod FoldedParts

@@ -40,7 +40,7 @@ Reads draft rest p = (before : List (List ℕ)) → AreValid before → parts_of
 abbrev put_line : SetDraft → List ℕ → Result SetDraft ParseSetErrorKind
 put_line draft text = unless_error (error_after draft text) (with_line draft text)
 
-without-return : (text : List ℕ) → without_return (text ++ 13 ∷ []) ≡ text
+pub without-return : (text : List ℕ) → without_return (text ++ 13 ∷ []) ≡ text
 unfolding first_bytes
 without-return text =
     let whole = text ++ 13 ∷ [] in

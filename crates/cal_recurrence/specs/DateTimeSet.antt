@@ -38,7 +38,3 @@ pub record IsNextFrom (test : ℤ → Bool) (n : ℕ) (r : Option ℤ) : Type 0 
   pub number : Option ℕ
   pub is : r ≡ option_map pos number
   pub next : IsNext (λ k. test (pos k)) n (last_date_time + 1) number
-
--- r is the first reading of the range after the reading z that passes a test.
-abbrev pub IsNextOf : (ℤ → Bool) → ℤ → Option ℤ → Type 0
-IsNextOf test z r = IsNextFrom test (unsigned_abs z + 1) r

@@ -7,6 +7,7 @@ pub mod RecurrenceText
 pub mod Written
 pub mod Spelled
 pub mod FaultText
+pub mod Nearest
 pub mod Sets
 pub mod TimesOfDay
 pub mod DateTimeRule
@@ -23,5 +24,4 @@ pub mod SetMeaning
 pub mod ZonedSet
 pub mod ZonedSetLaws
 pub mod CountedSet
-pub mod ZoneReadings
 pub mod Occurrences

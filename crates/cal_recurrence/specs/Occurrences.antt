@@ -3,7 +3,7 @@ use Rattle.std.specs.Prelude.{◌≡◌, ℕ, ◌+◌, ◌*◌, ℤ, pos, neg_�
 use Rattle.cal_time.specs.SignedDuration.{second}
 use Rattle.cal_datetime.specs.DateTime.{last_date_time}
 use Rattle.cal_datetime.specs.OffsetDateTime.{LocalAndOffset, instant}
-use Rattle.cal_recurrence.specs.ZonedSet.{IsNextAfter, Means}
+use Rattle.cal_recurrence.specs.ZonedSet.{IsNextAfter, Occurs}
 use Rattle.cal_recurrence.specs.declared.zoned_set.ZonedSet.{ZonedSet}
 
 -- A set and its next occurrence, if there is one.
@@ -11,15 +11,15 @@ pub record OccurrencesLeft : Type 0 where
   pub set : ZonedSet
   pub front : Option LocalAndOffset
 
--- An instant before all instants that a reading of the range can mean, in nanoseconds since its
--- first reading.
+-- The last instant before all instants that a reading of the range can mean, in nanoseconds since
+-- its first reading.
 abbrev pub before_all : ℤ
-before_all = neg_ℤ (pos (93_600 * second))
+before_all = neg_ℤ (pos (93_599 * second + 1))
 
 -- The iterator returns its next occurrence, and then has the first one after it.
 abbrev pub Continues : OccurrencesLeft → Option LocalAndOffset → OccurrencesLeft → Type 0
 Continues walk None rest = rest ≡ walk
-Continues walk (Some m) rest = (rest.set ≡ walk.set) × IsNextAfter (Means walk.set) (instant m) rest.front
+Continues walk (Some m) rest = (rest.set ≡ walk.set) × IsNextAfter (Occurs walk.set) (instant m) rest.front
 
 abbrev pub YieldsNext : OccurrencesLeft → Option LocalAndOffset → OccurrencesLeft → Type 0
 YieldsNext walk result rest = (result ≡ walk.front) × Continues walk result rest

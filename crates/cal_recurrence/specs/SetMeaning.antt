@@ -1,15 +1,13 @@
 -- The days, the readings or the instants that the parts of a recurrence set mean (RFC 5545).
-use Rattle.std.specs.Prelude.{◌≡◌, ℕ, ◌+◌, ◌==◌, not, Bool, true, false, ℤ, pos, List, length, filter_map, Option, Some, None, Result, Ok, Err, if◌then◌else◌}
-use Rattle.std.specs.List.{last_or}
+use Rattle.std.specs.Prelude.{ℕ, ◌==◌, not, Bool, true, false, ℤ, pos, List, length, filter_map, Option, Some, None, Result, Ok, Err, if◌then◌else◌}
+use Rattle.std.specs.List.{last_or, list_any}
 use Rattle.cal_datetime.specs.OffsetDateTime.{LocalAndOffset}
 use Rattle.cal_schedule.specs.Pattern.{rule_of}
 use Rattle.cal_recurrence.specs.DateOrTime.{date_of, last_reading}
 use Rattle.cal_recurrence.specs.DateTimeRule.{date_time_rule, DateTimeParts}
 use Rattle.cal_recurrence.specs.Days.{days_of}
 use Rattle.cal_recurrence.specs.RecurrenceReadings.{readings_of}
-use Rattle.cal_recurrence.specs.SetText.{is_local}
-use Rattle.cal_recurrence.specs.ZoneReadings.{AreReadingsOf}
-use Rattle.cal_zone.specs.Timeline.{Timeline}
+use Rattle.cal_recurrence.specs.SetText.{is_date}
 use Rattle.cal_recurrence.specs.declared.date_or_time.DateOrTime.{DateOrTime}
 use Rattle.cal_recurrence.specs.declared.date_or_time.DateOrTime.TheVariants.{Date, Local, Utc}
 use Rattle.cal_recurrence.specs.declared.recurrence.Recurrence.{Recurrence}
@@ -84,6 +82,14 @@ abbrev pub last_instant : RuleEnd → Option LocalAndOffset
 last_instant (Until last) = instant_of last
 last_instant end = None
 
+-- The rule of the readings of a recurrence from a start, to the last of them, or in a zone without an
+-- UNTIL with `Z`.
+abbrev pub counted_rule : Recurrence → ℤ → DateTimeParts
+counted_rule r start = date_time_rule start (last_counted_reading r start) r.pattern r.times
+
+abbrev pub zone_rule : Recurrence → ℤ → DateTimeParts
+zone_rule r start = date_time_rule start (last_local r start r.end) r.pattern r.times
+
 -- ---- sets
 -- The days of a set of dates that starts on day `first`, or the first line with a time of day.
 abbrev pub set_days_from : SetParts → ℕ → Result SetDays SetLine
@@ -104,10 +110,6 @@ set_days_at p (Utc z) = Err line.Start
 abbrev pub set_days : SetParts → Result SetDays SetLine
 set_days p = set_days_at p p.start
 
--- The rule of a set of readings that starts at a reading, up to a last possible one.
-abbrev pub reading_rule : SetParts → ℤ → Option ℤ → DateTimeParts
-reading_rule p start last = date_time_rule start last p.recurrence.pattern p.recurrence.times
-
 -- The readings of a set of times that starts at a reading, all with `Z` or all without it, or the
 -- first line with another value.
 abbrev pub set_readings_from : SetParts → Bool → ℤ → Result SetReadings SetLine
@@ -116,7 +118,8 @@ set_readings_from p is_utc start =
     if not (all_mean (reading_of is_utc) p.dates) then Err line.Dates else
     if not (all_mean (reading_of is_utc) p.exceptions) then Err line.Exceptions else
     Ok (record {
-      rule = reading_rule p start (last_counted_reading p.recurrence start);
+      start = start;
+      recurrence = p.recurrence;
       dates = filter_map (reading_of is_utc) p.dates;
       exceptions = filter_map (reading_of is_utc) p.exceptions;
     })
@@ -129,40 +132,27 @@ set_readings_at p (Utc z) = set_readings_from p true z
 abbrev pub set_readings : SetParts → Result SetReadings SetLine
 set_readings p = set_readings_at p p.start
 
--- The readings and the instants of a set that starts at a reading of a zone, with these readings of
--- its RDATE.
-abbrev pub instants_with : SetParts → ℤ → List ℤ → SetInstants
-instants_with p start dates = record {
-  readings = record {
-    rule = reading_rule p start (last_local p.recurrence start p.recurrence.end);
-    dates = dates;
-    exceptions = filter_map (reading_of false) p.exceptions;
-  };
-  until = last_instant p.recurrence.end;
-  exceptions = filter_map instant_of p.exceptions;
-}
+-- The readings and the instants of a set that starts at a reading of a zone, or the first line with a
+-- date.
+abbrev pub set_instants_from : SetParts → ℤ → Result SetInstants SetLine
+set_instants_from p start =
+    if list_any is_date p.dates then Err line.Dates else
+    if list_any is_date p.exceptions then Err line.Exceptions else
+    Ok (record {
+      readings = record {
+        start = start;
+        recurrence = p.recurrence;
+        dates = filter_map (reading_of false) p.dates;
+        exceptions = filter_map (reading_of false) p.exceptions;
+      };
+      instants = filter_map instant_of p.dates;
+      exceptions = filter_map instant_of p.exceptions;
+    })
 
--- No value is a date.
-abbrev pub all_timed : List DateOrTime → Bool
-all_timed values = length (filter_map (reading_of false) values) + length (filter_map instant_of values) == length values
+abbrev pub set_instants_at : SetParts → DateOrTime → Result SetInstants SetLine
+set_instants_at p (Date n) = Err line.Start
+set_instants_at p (Local z) = set_instants_from p z
+set_instants_at p (Utc z) = Err line.Start
 
--- s has the readings and the instants of a set in a zone.
-pub record AreInstants (zone : Timeline) (p : SetParts) (s : SetInstants) : Type 0 where
-  pub start : ℤ
-  pub dates : List ℤ
-  pub starts : p.start ≡ Local start
-  pub each_date : AreReadingsOf zone p.dates dates
-  pub timed : all_timed p.exceptions ≡ true
-  pub is : s ≡ instants_with p start dates
-
--- The set has a local start, and these are the readings of its RDATE.
-pub record HasReadings (zone : Timeline) (p : SetParts) (dates : List ℤ) : Type 0 where
-  pub start : is_local p.start ≡ true
-  pub each_date : AreReadingsOf zone p.dates dates
-
--- The first line of a set with a value that it can't have in a zone.
-abbrev pub IsInstantsError : Timeline → SetParts → SetLine → Type 0
-IsInstantsError zone p line.Start = is_local p.start ≡ false
-IsInstantsError zone p line.Rule = ⊥
-IsInstantsError zone p line.Dates = (is_local p.start ≡ true) × ((dates : List ℤ) → ¬ AreReadingsOf zone p.dates dates)
-IsInstantsError zone p line.Exceptions = (dates : List ℤ) × HasReadings zone p dates × (all_timed p.exceptions ≡ false)
+abbrev pub set_instants : SetParts → Result SetInstants SetLine
+set_instants p = set_instants_at p p.start

@@ -5,20 +5,15 @@ use Rattle.std.specs.List.{list_any}
 use Rattle.cal_time.specs.Date.{last_day}
 use Rattle.cal_time.specs.Occurrences.{days_from, days_back_from}
 use Rattle.cal_schedule.specs.Rule.{is_occurrence}
-use Rattle.cal_recurrence.specs.TimeSearch.{IsNext}
 use Rattle.cal_recurrence.specs.declared.set.RecurrenceSet.{RecurrenceSet}
 
 -- Day n is in a list.
 abbrev pub is_listed : List ℕ → ℕ → Bool
 is_listed days n = list_any (λ d. d == n) days
 
--- Day n is a day of the rule or one of the other days.
-abbrev pub candidates : RecurrenceSet → ℕ → Bool
-candidates set n = is_occurrence set.rule n || is_listed set.dates.now n
-
 -- Day n is a day of the rule or one of the other days, and isn't left out.
 unfoldable pub is_in_set : RecurrenceSet → ℕ → Bool
-is_in_set set n = candidates set n && not (is_listed set.exceptions.now n)
+is_in_set set n = (is_occurrence set.rule n || is_listed set.dates.now n) && not (is_listed set.exceptions.now n)
 
 -- The days of the set from day n on, in ascending order.
 abbrev pub set_days_from : RecurrenceSet → ℕ → List ℕ
@@ -36,7 +31,3 @@ set_days_before set n = filter (is_in_set set) (days_back_from n)
 abbrev pub set_days_left : RecurrenceSet → Option ℕ → List ℕ
 set_days_left set None = []
 set_days_left set (Some n) = n ∷ set_days_after set n
-
--- r is the first day of the range after day n that passes a test. If r is `None`, none passes.
-abbrev pub IsNextDay : (ℕ → Bool) → ℕ → Option ℕ → Type 0
-IsNextDay test n r = IsNext test (n + 1) (last_day + 1) r

@@ -1,9 +1,9 @@
 //! Recurrence sets whose `COUNT` is counted only as far as a search needs.
-ghost use Rattle.std.specs.Prelude.{◌≡◌, true, slice_get};
+ghost use Rattle.std.specs.Prelude.{◌≡◌, true, pos, slice_get};
 ghost use Rattle.cal_recurrence.specs.CountedSet.{ascend_from, first_number, whole_rule};
-ghost use Rattle.cal_recurrence.specs.DateTimeRule.{date_time_rule, readings_from};
+ghost use Rattle.cal_recurrence.specs.DateTimeRule.{readings_from};
 ghost use Rattle.cal_recurrence.specs.DateTimeSet.{is_in_set, set_readings_after, set_readings_from};
-ghost use Rattle.cal_recurrence.specs.SetMeaning.{last_counted_reading};
+ghost use Rattle.cal_recurrence.specs.SetMeaning.{counted_rule};
 
 use crate::counting::Uncounted;
 use crate::date_time_rule::DateTimeRule;
@@ -41,8 +41,7 @@ impl Recurrence {
     /// Returns the rule from a start, which ends before the readings of a `COUNT`, and these
     /// readings.
     pub(crate) fn uncounted(&self, start: PlainDateTime) -> (DateTimeRule, RuleReadings)
-        ensures whole { whole_rule result.0 result.1 ≡ date_time_rule start
-            (last_counted_reading self.now start) self.now.pattern self.now.times }
+        ensures whole { whole_rule result.0 result.1 ≡ counted_rule self.now start }
         ensures order { ascend_from result.0.until result.1 ≡ true }
     {
         if let RuleEnd::Count(_) = self.end {
@@ -63,8 +62,7 @@ impl Recurrence {
         dates: &'a [PlainDateTime],
         exceptions: &'a [PlainDateTime],
     ) -> CountedSet<'a>
-        ensures rule { result.rule ≡ date_time_rule start (last_counted_reading self.now start)
-            self.now.pattern self.now.times }
+        ensures rule { result.rule ≡ counted_rule self.now start }
         ensures dates { result.dates.now ≡ dates.now }
         ensures exceptions { result.exceptions.now ≡ exceptions.now }
     {
@@ -82,13 +80,13 @@ impl Recurrence {
 }
 
 impl<'a> DateTimeSet<'a> {
-    /// Returns the set, which has nothing left to count.
-    pub(crate) fn counted(self) -> CountedSet<'a>
-        ensures { result ≡ self.entry }
+    /// Returns a copy of the set, which has nothing left to count.
+    pub(crate) fn counted(&self) -> CountedSet<'a>
+        ensures { result ≡ self.now }
     {
         let left = self.rule.first_readings(0);
         CountedSet {
-            set: self,
+            set: self.copy(),
             left: Uncounted::new(left),
         }
     }
@@ -119,11 +117,41 @@ impl<'a> CountedSet<'a> {
 
     /// Returns the first reading of the set after a reading, or `None` if the range has no such
     /// reading.
-    pub(crate) fn next_after(&mut self, reading: PlainDateTime) -> Option<PlainDateTime>
+    pub fn next_after(&mut self, reading: PlainDateTime) -> Option<PlainDateTime>
         ensures value { result ≡ slice_get (set_readings_after self.old reading) 0 }
         ensures same { self.new ≡ self.old }
     {
         self.search(reading, true)
+    }
+
+    /// Returns the first reading of the set that isn't before a reading, or `None` if the range has
+    /// no such reading.
+    pub fn first_from(&mut self, reading: PlainDateTime) -> Option<PlainDateTime>
+        ensures value { result ≡ slice_get (set_readings_from self.old reading) 0 }
+        ensures same { self.new ≡ self.old }
+    {
+        self.search(reading, false)
+    }
+
+    /// Returns `true` if a reading is in the set.
+    pub fn contains(&mut self, reading: PlainDateTime) -> bool
+        ensures value { result ≡ is_in_set self.old reading }
+        ensures same { self.new ≡ self.old }
+    {
+        // This states that the reading is in range. It costs nothing.
+        let _ = reading.date();
+        match self.first_from(reading) {
+            Some(first) => first == reading,
+            None => false,
+        }
+    }
+
+    /// Returns an iterator over all readings of the set, in ascending order, each once.
+    pub fn readings(self) -> DateTimeSetReadings<'a>
+        ensures { result ≡ set_readings_from self.entry (pos 0) }
+    {
+        // The first reading of the range.
+        self.readings_from(midnight(to_date(0)))
     }
 
     /// Returns an iterator over the readings of the set from a reading on, in ascending order, each
@@ -131,7 +159,7 @@ impl<'a> CountedSet<'a> {
     pub fn readings_from(mut self, reading: PlainDateTime) -> DateTimeSetReadings<'a>
         ensures { result ≡ set_readings_from self.entry reading }
     {
-        let front = self.search(reading, false);
+        let front = self.first_from(reading);
         DateTimeSetReadings { set: self, front }
     }
 }

@@ -1,16 +1,18 @@
 //! Recurrence sets in a time zone whose `COUNT` is counted only as far as a search needs.
-ghost use Rattle.std.specs.Prelude.{◌≡◌, []};
+ghost use Rattle.std.specs.Prelude.{◌≡◌, ◌↔◌, ◌-ℤ◌, [], pos, IsTrue};
 ghost use Rattle.cal_datetime.specs.OffsetDateTime.{instant};
-ghost use Rattle.cal_recurrence.specs.DateTimeRule.{date_time_rule};
-ghost use Rattle.cal_recurrence.specs.SetMeaning.{last_instant, last_local};
-ghost use Rattle.cal_recurrence.specs.ZonedSet.{IsNextAfter, Means};
+ghost use Rattle.cal_recurrence.specs.CountedSet.{last_before};
+ghost use Rattle.cal_recurrence.specs.SetMeaning.{last_instant, zone_rule};
+ghost use Rattle.cal_recurrence.specs.Occurrences.{before_all};
+ghost use Rattle.cal_recurrence.specs.ZonedSet.{HasInstant, IsNextAfter, Occurs};
 
 use crate::counting::Uncounted;
 use crate::date_or_time::DateOrTime;
 use crate::date_time_set::DateTimeSet;
-use crate::reach::is_past;
+use crate::occurrences::Occurrences;
+use crate::reach::{first_moment, is_past};
 use crate::recurrence::{Recurrence, RuleEnd};
-use crate::zoned_set::ZonedSet;
+use crate::zoned_set::{ZonedSet, is_at};
 use cal_datetime::{OffsetDateTime, PlainDateTime};
 use cal_zone::Zone;
 use std::marker::Model;
@@ -41,7 +43,7 @@ impl<'a> Model for CountedZonedSet<'a> {
 
 impl Recurrence {
     /// Returns the set of the moments of the readings from a start in a zone, with other readings
-    /// (`RDATE`) and without exceptions (`EXDATE`). An `UNTIL` in UTC ends it at an instant.
+    /// (`RDATE`) and without exceptions (`EXDATE`). An `UNTIL` in UTC ends the rule at an instant.
     pub fn zoned_set<'a>(
         &self,
         start: PlainDateTime,
@@ -49,12 +51,12 @@ impl Recurrence {
         exceptions: &'a [PlainDateTime],
         zone: &'a Zone<'a>,
     ) -> CountedZonedSet<'a>
-        ensures rule { result.readings.rule ≡ date_time_rule start
-            (last_local self.now start self.now.end) self.now.pattern self.now.times }
+        ensures rule { result.readings.rule ≡ zone_rule self.now start }
         ensures dates { result.readings.dates.now ≡ dates.now }
         ensures readings { result.readings.exceptions.now ≡ exceptions.now }
         ensures zone { result.zone.now ≡ zone.now }
         ensures until { result.until ≡ last_instant self.now.end }
+        ensures instants { result.instants.now ≡ [] }
         ensures exceptions { result.exceptions.now ≡ [] }
     {
         let (rule, left, until) = match self.end {
@@ -77,6 +79,7 @@ impl Recurrence {
             readings,
             zone,
             until,
+            instants: &[],
             exceptions: &[],
         };
         CountedZonedSet {
@@ -86,14 +89,64 @@ impl Recurrence {
     }
 }
 
-impl CountedZonedSet<'_> {
-    /// Returns the first occurrence after an instant, or `None` if the set has no such occurrence.
-    pub fn next_after(&mut self, moment: OffsetDateTime) -> Option<OffsetDateTime>
-        ensures value { IsNextAfter (Means self.old) (instant moment) result }
+impl<'a> ZonedSet<'a> {
+    /// Returns a copy of the set, which has nothing left to count.
+    pub(crate) fn counted(&self) -> CountedZonedSet<'a>
+        ensures { result ≡ self.now }
+    {
+        let set = ZonedSet {
+            readings: self.readings.copy(),
+            zone: self.zone,
+            until: self.until,
+            instants: self.instants,
+            exceptions: self.exceptions,
+        };
+        let left = set.readings.rule.first_readings(0);
+        CountedZonedSet {
+            set,
+            left: Uncounted::new(left),
+        }
+    }
+}
+
+impl<'a> CountedZonedSet<'a> {
+    /// Returns the set with other instants (`RDATE` in UTC) and without exceptions (`EXDATE` in UTC),
+    /// in place of those that it has.
+    pub fn with_instants(
+        self,
+        instants: &'a [OffsetDateTime],
+        exceptions: &'a [OffsetDateTime],
+    ) -> Self
+        ensures readings { result.readings ≡ self.entry.readings }
+        ensures zone { result.zone ≡ self.entry.zone }
+        ensures until { result.until ≡ self.entry.until }
+        ensures instants { result.instants.now ≡ instants.now }
+        ensures exceptions { result.exceptions.now ≡ exceptions.now }
+    {
+        let set = ZonedSet {
+            readings: self.set.readings,
+            zone: self.set.zone,
+            until: self.set.until,
+            instants,
+            exceptions,
+        };
+        CountedZonedSet {
+            set,
+            left: self.left,
+        }
+    }
+
+    /// Returns the first occurrence after an instant, or from it on.
+    fn search(&mut self, moment: OffsetDateTime, after: bool) -> Option<OffsetDateTime>
+        ensures value { IsNextAfter (Occurs self.old) (last_before after (instant moment)) result }
         ensures same { self.new ≡ self.old }
     {
         loop {
-            let next = self.set.next_after(moment);
+            let next = if after {
+                self.set.next_after(moment)
+            } else {
+                self.set.first_from(moment)
+            };
             if let Some(last) = self.set.readings.rule.until() {
                 if is_past(&next, last) {
                     return next;
@@ -103,5 +156,49 @@ impl CountedZonedSet<'_> {
                 return next;
             }
         }
+    }
+
+    /// Returns the first occurrence after an instant, or `None` if the set has no such occurrence.
+    pub fn next_after(&mut self, moment: OffsetDateTime) -> Option<OffsetDateTime>
+        ensures value { IsNextAfter (Occurs self.old) (instant moment) result }
+        ensures same { self.new ≡ self.old }
+    {
+        self.search(moment, true)
+    }
+
+    /// Returns the first occurrence that isn't before an instant, or `None` if the set has no such
+    /// occurrence.
+    pub fn first_from(&mut self, moment: OffsetDateTime) -> Option<OffsetDateTime>
+        ensures value { IsNextAfter (Occurs self.old) (instant moment -ℤ pos 1) result }
+        ensures same { self.new ≡ self.old }
+    {
+        self.search(moment, false)
+    }
+
+    /// Returns `true` if an instant is an occurrence.
+    pub fn contains(&mut self, moment: OffsetDateTime) -> bool
+        ensures value { IsTrue result ↔ HasInstant self.old (instant moment) }
+        ensures same { self.new ≡ self.old }
+    {
+        is_at(self.first_from(moment), moment)
+    }
+
+    /// Returns an iterator over all occurrences, in ascending order, each instant once.
+    pub fn occurrences(mut self) -> Occurrences<'a>
+        ensures set { result.set ≡ self.entry }
+        ensures first { IsNextAfter (Occurs self.entry) before_all result.front }
+    {
+        let front = self.first_from(first_moment());
+        Occurrences { set: self, front }
+    }
+
+    /// Returns an iterator over the occurrences after an instant, in ascending order, each instant
+    /// once. It doesn't go through the occurrences before it.
+    pub fn occurrences_after(mut self, moment: OffsetDateTime) -> Occurrences<'a>
+        ensures set { result.set ≡ self.entry }
+        ensures first { IsNextAfter (Occurs self.entry) (instant moment) result.front }
+    {
+        let front = self.next_after(moment);
+        Occurrences { set: self, front }
     }
 }

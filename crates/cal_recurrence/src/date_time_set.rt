@@ -1,12 +1,11 @@
 //! Recurrence sets of date-times without a zone.
-ghost use Rattle.std.specs.Prelude.{◌≡◌, ◌<ℤ◌, IfSome, int_lt, slice_get, true, pos};
-ghost use Rattle.std.specs.Ordering.{int_eq};
+ghost use Rattle.std.specs.Prelude.{◌≡◌, ◌<ℤ◌, IfSome, slice_get, true, pos};
 ghost use Rattle.cal_datetime.specs.DateTime.{IsDateTime};
-ghost use Rattle.cal_recurrence.specs.DateTimeSet.{candidates, is_in_set, is_listed, set_readings_after, set_readings_from, IsNextOf};
-ghost use Rattle.cal_recurrence.specs.TimeSearch.{first_by};
+ghost use Rattle.cal_recurrence.specs.DateTimeSet.{is_in_set, set_readings_after, set_readings_from};
 
 use crate::counted_set::CountedSet;
 use crate::date_time_rule::DateTimeRule;
+use crate::nearest::nearest;
 use cal_datetime::{PlainDateTime, midnight};
 use cal_time::day_number::to_date;
 use std::marker::Model;
@@ -23,41 +22,18 @@ pub struct DateTimeSet<'a> {
     pub exceptions: &'a [PlainDateTime],
 }
 
-/// Returns the earlier reading, or the only one.
-fn earlier(reading: Option<PlainDateTime>, other: Option<PlainDateTime>) -> Option<PlainDateTime>
-    ensures { result ≡ first_by int_lt reading other }
-{
-    let Some(one) = reading else {
-        return other;
-    };
-    match other {
-        Some(two) if two < one => other,
-        _ => reading,
-    }
-}
-
-/// Returns a reading if it is after another one.
-fn if_after(one: PlainDateTime, reading: PlainDateTime) -> Option<PlainDateTime>
-    ensures { IsNextOf (int_eq one) reading result }
-{
-    // These calls state that both are in range. They cost nothing.
-    let _ = one.date();
-    let _ = reading.date();
-    if reading < one { Some(one) } else { None }
-}
-
-/// Returns the first reading of a list after a reading.
-fn next_listed(readings: &[PlainDateTime], reading: PlainDateTime) -> Option<PlainDateTime>
-    ensures { IsNextOf (is_listed readings.now) reading result }
-{
-    let mut next = None;
-    for one in readings {
-        next = earlier(next, if_after(*one, reading));
-    }
-    next
-}
-
 impl<'a> DateTimeSet<'a> {
+    /// Copies the set.
+    pub(crate) fn copy(&self) -> DateTimeSet<'a>
+        ensures { result ≡ self.now }
+    {
+        DateTimeSet {
+            rule: self.rule.copy(),
+            dates: self.dates,
+            exceptions: self.exceptions,
+        }
+    }
+
     /// Returns `true` if a reading is in the set. The set of 9:00 on every day without 2024-01-02
     /// 9:00 has 2024-01-01 9:00, and not 2024-01-02 9:00.
     #[tactic(auto, unfolding(crate::specs::DateTimeSet::is_in_set))]
@@ -70,16 +46,6 @@ impl<'a> DateTimeSet<'a> {
             && !self.exceptions.contains(&reading)
     }
 
-    /// Returns the first reading after a reading that the rule has or that is one of the others.
-    fn next_candidate(&self, reading: PlainDateTime) -> Option<PlainDateTime>
-        ensures { IsNextOf (candidates self.now) reading result }
-    {
-        earlier(
-            self.rule.next_after(reading),
-            next_listed(self.dates, reading),
-        )
-    }
-
     /// Returns the first reading of the set after a reading, or `None` if the range has no such
     /// reading. In the set of 9:00 on every day without 2024-01-02 9:00, 2024-01-03 9:00 comes
     /// after 2024-01-01 9:00.
@@ -87,10 +53,11 @@ impl<'a> DateTimeSet<'a> {
         ensures value { result ≡ slice_get (set_readings_after self.now reading) 0 }
         ensures found { IfSome result (λ z. (reading <ℤ z) × (is_in_set self.now z ≡ true)) }
     {
-        // This states that the reading is in range. It costs nothing.
+        // These calls state that the readings are in range. They cost nothing.
         let _ = reading.date();
         let mut last = reading;
-        while let Some(next) = self.next_candidate(last) {
+        while let Some(next) = nearest(true, last, self.rule.next_after(last), self.dates) {
+            let _ = next.date();
             if !self.exceptions.contains(&next) {
                 return Some(next);
             }
@@ -116,12 +83,7 @@ impl<'a> DateTimeSet<'a> {
     pub fn readings_from(&self, reading: PlainDateTime) -> DateTimeSetReadings<'a>
         ensures { result ≡ set_readings_from self.now reading }
     {
-        let set = DateTimeSet {
-            rule: self.rule.copy(),
-            dates: self.dates,
-            exceptions: self.exceptions,
-        };
-        set.counted().readings_from(reading)
+        self.counted().readings_from(reading)
     }
 
     /// Returns an iterator over all readings of the set, in ascending order, each once. The set of

@@ -1,8 +1,8 @@
 //! Folded lines.
-ghost use Rattle.std.specs.Prelude.{◌≡◌, ◌<◌, ◌≤◌, ◌^◌, IfSome, MatchOption, drop, length, slice_index, take};
+ghost use Rattle.std.specs.Prelude.{◌≡◌, ◌<◌, ◌≤◌, ◌↔◌, ◌+◌, ◌^◌, ◌==◌, ◌&&◌, ◌∷◌, ℕ, List, IfSome, MatchOption, drop, if◌then◌else◌, length, nat_le, not, slice_index, take};
 ghost use Rattle.std.specs.List.{All};
 ghost use Rattle.cal_recurrence.specs.Buffers.{IsPut};
-ghost use Rattle.cal_recurrence.specs.Folding.{column_after, first_folded, fold_before, fold_length, folded_of, is_blank, is_line_end, unfolded_of, IsShortLine};
+ghost use Rattle.cal_recurrence.specs.Folding.{fold_length, is_blank, is_line_end, IsFolded, IsShortLine, IsUnfolded};
 ghost use Rattle.cal_recurrence.specs.Words.{parts_at};
 
 use crate::buffers::put;
@@ -44,7 +44,7 @@ fn fold_length(bytes: &[u8]) -> usize
 pub fn unfold(text: &[u8], unfolded: &mut [u8]) -> Option<usize>
     ensures value { MatchOption result (length unfolded.old < length text.now) (λ n.
         (length text.now ≤ length unfolded.old) × (n ≤ length unfolded.new)
-        × (take n unfolded.new ≡ unfolded_of text.now)
+        × IsUnfolded text.now (take n unfolded.new)
         × (drop n unfolded.new ≡ drop n unfolded.old)) }
     ensures none { length unfolded.old < length text.now → unfolded.new ≡ unfolded.old }
 {
@@ -65,67 +65,71 @@ pub fn unfold(text: &[u8], unfolded: &mut [u8]) -> Option<usize>
     Some(filled)
 }
 
-/// Returns `true` if the line ends at the first byte: at a LF, or at a CR before one.
+/// Returns `true` if the line ends at the first byte: at a LF, or at a CR before one or at the end
+/// of the text.
 fn is_line_end(bytes: &[u8]) -> bool
     ensures { result ≡ is_line_end bytes.now }
 {
     let first = byte_at(bytes, 0);
-    first == b'\n' || first == b'\r' && byte_at(bytes, 1) == b'\n'
+    first == b'\n' || first == b'\r' && (byte_at(bytes, 1) == b'\n' || bytes.len() == 1)
 }
 
 /// Returns `true` if a fold comes before the first byte, which is after `column` bytes of its line.
 fn fold_before(column: usize, bytes: &[u8]) -> bool
-    ensures { result ≡ fold_before column bytes.now }
+    ensures { result ≡ (nat_le 75 column && not (is_line_end bytes.now)) }
 {
     column >= 75 && !is_line_end(bytes)
 }
 
-/// Returns the number of bytes in the line after the first byte, which is after `column` bytes.
-fn column_after(column: usize, bytes: &[u8]) -> usize
+/// Returns the number of bytes in the line after a byte, which is after `column` bytes, or after a
+/// fold. The space of the fold counts.
+fn column_after(folds: bool, column: usize, byte: u8) -> usize
     requires { column < 2 ^ 63 }
-    ensures { result ≡ column_after column bytes.now }
+    ensures { result ≡ if folds then 2 else if byte == 10 then 0 else (column + 1) }
 {
-    if fold_before(column, bytes) {
+    if folds {
         2
-    } else if byte_at(bytes, 0) == b'\n' {
+    } else if byte == b'\n' {
         0
     } else {
         column + 1
     }
 }
 
-/// Writes the first byte to the buffer, from this position on, with a fold before it if needed.
-fn put_folded(column: usize, bytes: &[u8], buffer: &mut [u8], at: usize) -> Option<usize>
-    requires some { 1 ≤ length bytes.now }
-    requires at { at ≤ length buffer.old }
-    ensures { IsPut at (first_folded column bytes.now) buffer.old buffer.new result }
+/// Writes bytes to the buffer, from this position on, after a fold if `folds` is true.
+fn put_folded(folds: bool, bytes: &[u8], buffer: &mut [u8], at: usize) -> Option<usize>
+    requires { at ≤ length buffer.old }
+    ensures { IsPut at (if folds then 13 ∷ 10 ∷ 32 ∷ bytes.now else bytes.now)
+        buffer.old buffer.new result }
 {
-    if fold_before(column, bytes) {
+    if folds {
         let next = put(buffer, at, b"\r\n ")?;
-        put(buffer, next, &bytes[..1])
+        put(buffer, next, bytes)
     } else {
-        put(buffer, at, &bytes[..1])
+        put(buffer, at, bytes)
     }
 }
 
 /// Copies a text with its lines folded, as in a calendar file: CR LF and a space come before the
-/// 76th byte of a line. So each line has at most 75 bytes, without its LF or CR LF. Returns the
-/// number of bytes, or `None` if `folded` is too short; then its bytes can be anything.
+/// 76th byte of a line. So each line has at most 75 bytes, without its LF, CR LF or last CR. Returns
+/// the number of bytes, or `None` if `folded` is too short; then its bytes can be anything.
 ///
 /// [`unfold`] gives the same for both texts, which is the text if it has no folds. A fold can be
 /// within a character of several bytes. A line of 76 bytes becomes one of 75, and a second one of 2.
 pub fn fold(text: &[u8], folded: &mut [u8]) -> Option<usize>
-    ensures text { IsPut 0 (folded_of text.now) folded.old folded.new result }
-    ensures unfolds { IfSome result (λ end.
-        unfolded_of (take end folded.new) ≡ unfolded_of text.now) }
+    ensures text { (whole : List ℕ) × (IsFolded text.now whole
+        × IsPut 0 whole folded.old folded.new result) }
+    ensures unfolds { IfSome result (λ end. (unfolded : List ℕ)
+        → (IsUnfolded (take end folded.new) unfolded ↔ IsUnfolded text.now unfolded)) }
     ensures lines { IfSome result (λ end.
         All IsShortLine (parts_at 10 (take end folded.new))) }
 {
     let (mut filled, mut index, mut column) = (0, 0, 0);
     while index < text.len() {
         let rest = &text[index..];
-        filled = put_folded(column, rest, folded, filled)?;
-        column = column_after(column, rest);
+        let folds = fold_before(column, rest);
+        filled = put_folded(folds, &rest[..1], folded, filled)?;
+        column = column_after(folds, column, rest[0]);
         index += 1;
     }
     Some(filled)

@@ -18,6 +18,7 @@ mod draft;
 mod fault;
 mod folding;
 mod lists;
+mod nearest;
 mod occurrences;
 mod parsing;
 mod positions;
@@ -38,7 +39,6 @@ mod times_of_day;
 mod words;
 mod writing;
 mod zone_name;
-mod zone_readings;
 mod zoned_set;
 
 pub use cal_schedule::{Pattern, Values};

@@ -2,8 +2,9 @@
 ghost use Rattle.std.specs.Prelude.{◌≡◌};
 ghost use Rattle.cal_datetime.specs.OffsetDateTime.{instant};
 ghost use Rattle.cal_recurrence.specs.Occurrences.{before_all};
-ghost use Rattle.cal_recurrence.specs.ZonedSet.{IsNextAfter, Means};
+ghost use Rattle.cal_recurrence.specs.ZonedSet.{IsNextAfter, Occurs};
 
+use crate::counted_zoned_set::CountedZonedSet;
 use crate::zoned_set::ZonedSet;
 use cal_datetime::OffsetDateTime;
 use std::marker::Model;
@@ -11,46 +12,40 @@ use std::marker::Model;
 /// An iterator over the occurrences of a set in a zone, in ascending order, each instant once.
 /// Contracts see the set and the next occurrence.
 #[derive(Drop)]
-pub struct Occurrences<'s, 'a> {
-    set: &'s ZonedSet<'a>,
-    front: Option<OffsetDateTime>,
+pub struct Occurrences<'a> {
+    pub(crate) set: CountedZonedSet<'a>,
+    pub(crate) front: Option<OffsetDateTime>,
 }
 
-impl<'s, 'a> Model for Occurrences<'s, 'a> {
+impl<'a> Model for Occurrences<'a> {
     ghost use Rattle.cal_recurrence.specs.Occurrences.{OccurrencesLeft};
 
     ghost Value = { OccurrencesLeft };
 
-    ghost view = { λ walk. record { set = walk.set.now; front = walk.front } };
+    ghost view = { λ walk. record { set = walk.set; front = walk.front } };
 }
 
 impl<'a> ZonedSet<'a> {
     /// Returns an iterator over all occurrences, in ascending order. For 2:30 on every day in
     /// Berlin from 2024-03-31 on it begins with 2024-03-31 3:30 +02:00:00.
-    pub fn occurrences(&self) -> Occurrences<'_, 'a>
+    pub fn occurrences(&self) -> Occurrences<'a>
         ensures set { result.set ≡ self.now }
-        ensures first { IsNextAfter (Means self.now) before_all result.front }
+        ensures first { IsNextAfter (Occurs self.now) before_all result.front }
     {
-        Occurrences {
-            set: self,
-            front: self.first(),
-        }
+        self.counted().occurrences()
     }
 
     /// Returns an iterator over the occurrences after an instant, in ascending order. It doesn't go
     /// through the occurrences before it.
-    pub fn occurrences_after(&self, moment: OffsetDateTime) -> Occurrences<'_, 'a>
+    pub fn occurrences_after(&self, moment: OffsetDateTime) -> Occurrences<'a>
         ensures set { result.set ≡ self.now }
-        ensures first { IsNextAfter (Means self.now) (instant moment) result.front }
+        ensures first { IsNextAfter (Occurs self.now) (instant moment) result.front }
     {
-        Occurrences {
-            set: self,
-            front: self.next_after(moment),
-        }
+        self.counted().occurrences_after(moment)
     }
 }
 
-impl Iterator for Occurrences<'_, '_> {
+impl Iterator for Occurrences<'_> {
     type Item = OffsetDateTime;
 
     ghost use Rattle.std.specs.Iterator.{at_most};

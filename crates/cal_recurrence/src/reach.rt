@@ -1,7 +1,8 @@
 //! How far a reading is from the instants that it can mean, and the order of moments.
-ghost use Rattle.std.specs.Prelude.{◌≡◌, ◌≤◌, ℤ, true, ◌+ℤ◌, ◌≤ℤ◌, ◌<ℤ◌, unsigned_abs, MatchOption};
+ghost use Rattle.std.specs.Prelude.{◌≡◌, ◌≤◌, ℤ, true, pos, ◌+ℤ◌, ◌-ℤ◌, ◌≤ℤ◌, ◌<ℤ◌, unsigned_abs, MatchOption};
 ghost use Rattle.cal_datetime.specs.DateTime.{IsDateTime};
 ghost use Rattle.cal_datetime.specs.OffsetDateTime.{instant};
+ghost use Rattle.cal_recurrence.specs.Occurrences.{before_all};
 ghost use Rattle.cal_recurrence.specs.TimeSearch.{first_by};
 ghost use Rattle.cal_recurrence.specs.ZonedSet.{is_earlier, reach};
 
@@ -21,6 +22,14 @@ fn utc_offset(seconds: i32) -> UtcOffset
         Ok(offset) => offset,
         Err(_) => unreachable!(),
     }
+}
+
+/// Returns a date-time at the first instant that a reading can mean.
+pub(crate) fn first_moment() -> OffsetDateTime
+    ensures { instant result -ℤ pos 1 ≡ before_all }
+{
+    // The first reading of the range.
+    midnight(to_date(0)).assume_offset(utc_offset(MAX_OFFSET))
 }
 
 /// Returns the first reading that can mean an instant or a later one.

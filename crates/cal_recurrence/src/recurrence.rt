@@ -9,6 +9,7 @@ use crate::fault::RulePart;
 use crate::times_of_day::TimesOfDay;
 use cal_schedule::{ByDay, Frequency, Pattern, Rule, RuleDays};
 use cal_time::Date;
+use cal_time::day_number::to_date;
 
 /// The end of a recurrence.
 #[derive(Clone, Copy, Debug, PartialEq, Eq)]
@@ -105,6 +106,17 @@ impl Recurrence {
             Some((RulePart::Weeks, RulePart::Frequency))
         } else {
             None
+        }
+    }
+
+    /// Copies the recurrence.
+    pub(crate) fn copy(&self) -> Self
+        ensures { result ≡ self.now }
+    {
+        Recurrence {
+            pattern: self.pattern.rule(to_date(0), None).pattern,
+            times: self.times.copy(),
+            end: self.end,
         }
     }
 

@@ -1,11 +1,9 @@
 //! Recurrence sets: the days of a rule and other days, without some of them.
-ghost use Rattle.std.specs.Prelude.{◌≡◌, ◌<◌, ◌==◌, ◌||◌, IfSome, nat_lt, slice_get, true};
+ghost use Rattle.std.specs.Prelude.{◌≡◌, ◌<◌, IfSome, slice_get, true};
 ghost use Rattle.cal_time.specs.Date.{IsDate};
-ghost use Rattle.cal_schedule.specs.Previous.{IsPreviousDay};
-ghost use Rattle.cal_schedule.specs.Rule.{is_occurrence};
-ghost use Rattle.cal_recurrence.specs.Sets.{candidates, is_in_set, is_listed, set_days_after, set_days_before, set_days_from, IsNextDay};
-ghost use Rattle.cal_recurrence.specs.TimeSearch.{first_by};
+ghost use Rattle.cal_recurrence.specs.Sets.{is_in_set, set_days_after, set_days_before, set_days_from};
 
+use crate::nearest::nearest;
 use cal_schedule::Rule;
 use cal_time::Date;
 use cal_time::day_number::{day_number, to_date};
@@ -23,72 +21,6 @@ pub struct RecurrenceSet<'a> {
     pub exceptions: &'a [Date],
 }
 
-/// Returns the earlier date, or the only one.
-fn earlier(date: Option<Date>, other: Option<Date>) -> Option<Date>
-    ensures { result ≡ first_by nat_lt date other }
-{
-    let Some(one) = date else {
-        return other;
-    };
-    match other {
-        Some(two) if two < one => other,
-        _ => date,
-    }
-}
-
-/// Returns the later date, or the only one.
-fn later(date: Option<Date>, other: Option<Date>) -> Option<Date>
-    ensures { result ≡ first_by (λ n m. nat_lt m n) date other }
-{
-    let Some(one) = date else {
-        return other;
-    };
-    match other {
-        Some(two) if one < two => other,
-        _ => date,
-    }
-}
-
-/// Returns a date if it is after another one.
-fn if_after(one: Date, date: Date) -> Option<Date>
-    ensures { IsNextDay (λ k. one == k) date result }
-{
-    if day_number(date) < day_number(one) {
-        Some(one)
-    } else {
-        None
-    }
-}
-
-/// Returns a date if it is before another one.
-fn if_before(one: Date, date: Date) -> Option<Date>
-    ensures { IsPreviousDay (λ k. one == k) date result }
-{
-    if one < date { Some(one) } else { None }
-}
-
-/// Returns the first date of a list after a date.
-fn next_listed(dates: &[Date], date: Date) -> Option<Date>
-    ensures { IsNextDay (is_listed dates.now) date result }
-{
-    let mut next = None;
-    for one in dates {
-        next = earlier(next, if_after(*one, date));
-    }
-    next
-}
-
-/// Returns the last date of a list before a date.
-fn previous_listed(dates: &[Date], date: Date) -> Option<Date>
-    ensures { IsPreviousDay (is_listed dates.now) date result }
-{
-    let mut previous = None;
-    for one in dates {
-        previous = later(previous, if_before(*one, date));
-    }
-    previous
-}
-
 impl<'a> RecurrenceSet<'a> {
     /// Returns `true` if a date is a day of the set. The set of the last Fridays of the months
     /// without 26 January 2024 has 23 February, and not 26 January.
@@ -100,23 +32,6 @@ impl<'a> RecurrenceSet<'a> {
         (self.rule.contains(date) || self.dates.contains(&date)) && !self.exceptions.contains(&date)
     }
 
-    /// Returns the first day after a date that is a day of the rule or one of the other days.
-    fn next_candidate(&self, date: Date) -> Option<Date>
-        ensures { IsNextDay (candidates self.now) date result }
-    {
-        earlier(self.rule.next_after(date), next_listed(self.dates, date))
-    }
-
-    /// Returns the last day before a date that is a day of the rule or one of the other days.
-    fn previous_candidate(&self, date: Date) -> Option<Date>
-        ensures { IsPreviousDay (candidates self.now) date result }
-    {
-        later(
-            self.rule.previous_before(date),
-            previous_listed(self.dates, date),
-        )
-    }
-
     /// Returns the first day of the set after a date, or `None` if the range has no such day. In
     /// the set of the last Fridays of the months without 26 January 2024, 23 February comes after
     /// 1 January 2024.
@@ -125,7 +40,9 @@ impl<'a> RecurrenceSet<'a> {
         ensures found { IfSome result (λ n. (date < n) × (is_in_set self.now n ≡ true)) }
     {
         let mut last = date;
-        while let Some(next) = self.next_candidate(last) {
+        while let Some(next) = nearest(true, last, self.rule.next_after(last), self.dates) {
+            // This states that the day is in range. It costs nothing.
+            let _ = day_number(next);
             if !self.exceptions.contains(&next) {
                 return Some(next);
             }
@@ -142,7 +59,12 @@ impl<'a> RecurrenceSet<'a> {
         ensures found { IfSome result (λ n. (n < date) × (is_in_set self.now n ≡ true)) }
     {
         let mut first = date;
-        while let Some(previous) = self.previous_candidate(first) {
+        while let Some(previous) = nearest(
+            false,
+            first,
+            self.rule.previous_before(first),
+            self.dates,
+        ) {
             if !self.exceptions.contains(&previous) {
                 return Some(previous);
             }

@@ -30,7 +30,7 @@ pub struct SetDraft<'a> {
 }
 
 /// Returns `true` if the value is a date.
-fn is_date(value: &DateOrTime) -> bool
+pub(crate) fn is_date(value: &DateOrTime) -> bool
     ensures { result ≡ is_date value.now }
 {
     matches!(value, DateOrTime::Date(_))

@@ -1,18 +1,19 @@
 //! The days, the readings or the instants of a parsed recurrence set.
-ghost use Rattle.std.specs.Prelude.{◌≡◌, IfOk, IfErr};
-ghost use Rattle.cal_recurrence.specs.SetMeaning.{ends_with, last_counted_day, last_counted_reading, set_days, set_readings, set_readings_from, AreInstants, IsInstantsError};
+ghost use Rattle.std.specs.Prelude.{◌≡◌};
+ghost use Rattle.std.specs.List.{list_any};
+ghost use Rattle.cal_recurrence.specs.SetMeaning.{counted_rule, ends_with, last_counted_day, last_instant, set_days, set_instants, set_readings, set_readings_from, zone_rule};
+ghost use Rattle.cal_recurrence.specs.SetText.{is_date};
 
+use crate::counted_set::CountedSet;
+use crate::counted_zoned_set::CountedZonedSet;
 use crate::date_or_time::DateOrTime;
-use crate::date_time_rule::DateTimeRule;
-use crate::date_time_set::DateTimeSet;
 use crate::recurrence::{Recurrence, RuleEnd};
 use crate::set::RecurrenceSet;
+use crate::set_draft::is_date;
 use crate::set_fault::SetLine;
 use crate::set_parts::SetParts;
 use crate::set_values::kept;
-use crate::zone_readings::readings_of;
-use crate::zoned_set::ZonedSet;
-use cal_datetime::{OffsetDateTime, PlainDateTime, midnight};
+use cal_datetime::{OffsetDateTime, PlainDateTime};
 use cal_schedule::{Rule, Values};
 use cal_time::Date;
 use cal_time::day_number::to_date;
@@ -29,24 +30,26 @@ pub struct SetDays {
     pub exceptions: Values<Date>,
 }
 
-/// The readings of a parsed set: its rule and its lists.
+/// The readings of a parsed set: its recurrence and its lists.
 #[derive(Debug, Drop)]
 pub struct SetReadings {
-    /// The rule (`DTSTART` and `RRULE`). A `COUNT` ends it at the last of the readings.
-    pub rule: DateTimeRule,
+    /// The start (`DTSTART`).
+    pub start: PlainDateTime,
+    /// The recurrence (`RRULE`).
+    pub recurrence: Recurrence,
     /// The other readings (`RDATE`).
     pub dates: Values<PlainDateTime>,
     /// The readings to leave out (`EXDATE`).
     pub exceptions: Values<PlainDateTime>,
 }
 
-/// The readings of a parsed set in a zone, and the instants that end it or that it leaves out.
+/// The readings of a parsed set in a zone, other instants and the instants that it leaves out.
 #[derive(Debug, Drop)]
 pub struct SetInstants {
     /// The readings (`DTSTART`, `RRULE`, `RDATE` and `EXDATE` with local times).
     pub readings: SetReadings,
-    /// The last possible instant (`UNTIL` in UTC).
-    pub until: Option<OffsetDateTime>,
+    /// The other instants (`RDATE` in UTC), at the offset 0.
+    pub instants: Values<OffsetDateTime>,
     /// The instants to leave out (`EXDATE` in UTC).
     pub exceptions: Values<OffsetDateTime>,
 }
@@ -68,35 +71,32 @@ impl SetDays {
 
 impl SetReadings {
     /// Returns the set of the readings, which borrows the lists.
-    pub fn set(&self) -> DateTimeSet<'_>
-        ensures rule { result.rule ≡ self.now.rule }
+    pub fn set(&self) -> CountedSet<'_>
+        ensures rule { result.rule ≡ counted_rule self.now.recurrence self.now.start }
         ensures dates { result.dates.now ≡ self.now.dates }
         ensures exceptions { result.exceptions.now ≡ self.now.exceptions }
     {
-        DateTimeSet {
-            rule: self.rule.copy(),
-            dates: self.dates.as_slice(),
-            exceptions: self.exceptions.as_slice(),
-        }
+        let (dates, exceptions) = (self.dates.as_slice(), self.exceptions.as_slice());
+        self.recurrence.counted_set(self.start, dates, exceptions)
     }
 }
 
 impl SetInstants {
     /// Returns the set of the instants in a zone, which borrows the lists and the zone.
-    pub fn set<'a>(&'a self, zone: &'a Zone<'a>) -> ZonedSet<'a>
+    pub fn set<'a>(&'a self, zone: &'a Zone<'a>) -> CountedZonedSet<'a>
         ensures zone { result.zone.now ≡ zone.now }
-        ensures rule { result.readings.rule ≡ self.now.readings.rule }
+        ensures rule { result.readings.rule ≡ zone_rule self.now.readings.recurrence self.now.readings.start }
         ensures dates { result.readings.dates.now ≡ self.now.readings.dates }
         ensures readings { result.readings.exceptions.now ≡ self.now.readings.exceptions }
-        ensures until { result.until ≡ self.now.until }
+        ensures until { result.until ≡ last_instant self.now.readings.recurrence.end }
+        ensures instants { result.instants.now ≡ self.now.instants }
         ensures exceptions { result.exceptions.now ≡ self.now.exceptions }
     {
-        ZonedSet {
-            readings: self.readings.set(),
-            zone,
-            until: self.until,
-            exceptions: self.exceptions.as_slice(),
-        }
+        let its = &self.readings;
+        let (dates, exceptions) = (its.dates.as_slice(), its.exceptions.as_slice());
+        its.recurrence
+            .zoned_set(its.start, dates, exceptions, zone)
+            .with_instants(self.instants.as_slice(), self.exceptions.as_slice())
     }
 }
 
@@ -118,24 +118,6 @@ impl Recurrence {
             }
         }
     }
-
-    /// Returns the last possible reading from a start: the reading of an `UNTIL`, or the last of
-    /// `COUNT` readings. Without such a reading it is the first one of the range.
-    fn last_counted_reading(&self, first: PlainDateTime) -> Option<PlainDateTime>
-        ensures { result ≡ last_counted_reading self.now first }
-    {
-        match self.end {
-            RuleEnd::Never => None,
-            RuleEnd::Until(last) => Some(last.last_reading()),
-            RuleEnd::Count(_) => {
-                let mut last = Some(midnight(to_date(0)));
-                for reading in self.readings(first) {
-                    last = Some(reading);
-                }
-                last
-            }
-        }
-    }
 }
 
 /// Returns `true` unless the end is an `UNTIL` with `Z` and the start has none, or the other way
@@ -148,6 +130,13 @@ fn ends_with(end: RuleEnd, is_utc: bool) -> bool
         RuleEnd::Until(DateOrTime::Utc(_)) => is_utc,
         RuleEnd::Until(DateOrTime::Date(_)) | RuleEnd::Never | RuleEnd::Count(_) => true,
     }
+}
+
+/// Returns `true` if one of the values is a date.
+fn any_date(values: &[DateOrTime]) -> bool
+    ensures { result ≡ list_any is_date values.now }
+{
+    values.iter().any(is_date)
 }
 
 impl SetParts<'_> {
@@ -183,7 +172,7 @@ impl SetParts<'_> {
     ///
     /// Returns the first of the lines `Start`, `Rule`, `Dates` and `Exceptions` with a value of
     /// another kind: a date, except in an `UNTIL`, or a time with `Z` if the start has none, or
-    /// without it. With a `COUNT` it walks over the readings of the rule once.
+    /// without it.
     pub fn readings(&self) -> Result<SetReadings, SetLine>
         ensures { result ≡ set_readings self.now }
     {
@@ -209,9 +198,9 @@ impl SetParts<'_> {
         if exceptions.as_slice().len() != self.exceptions.as_slice().len() {
             return Err(SetLine::Exceptions);
         }
-        let last = self.recurrence.last_counted_reading(first);
         Ok(SetReadings {
-            rule: self.recurrence.rule_until(first, last),
+            start: first,
+            recurrence: self.recurrence.copy(),
             dates,
             exceptions,
         })
@@ -221,38 +210,29 @@ impl SetParts<'_> {
     /// zone, and values with `Z` are instants. An `UNTIL` that is a date includes the whole day.
     ///
     /// Returns the first of the lines `Start`, `Dates` and `Exceptions` with another value. A
-    /// `DTSTART` with `Z` means UTC, so it is one; then use `readings`. So is an `RDATE` with `Z`
-    /// at the second pass of a fold, as the readings of a set mean the first one. With a `COUNT` it
-    /// walks over the readings of the rule once.
-    pub fn instants(&self, zone: &Zone<'_>) -> Result<SetInstants, SetLine>
-        ensures value { IfOk result (AreInstants zone.now self.now) }
-        ensures error { IfErr result (IsInstantsError zone.now self.now) }
+    /// `DTSTART` with `Z` means UTC, so it is one; then use `readings`.
+    pub fn instants(&self) -> Result<SetInstants, SetLine>
+        ensures { result ≡ set_instants self.now }
     {
         let DateOrTime::Local(first) = self.start else {
             return Err(SetLine::Start);
         };
-        let Some(dates) = readings_of(zone, &self.dates, first) else {
+        if any_date(self.dates.as_slice()) {
             return Err(SetLine::Dates);
-        };
-        let locals = kept(&self.exceptions, false, first);
-        let moments = kept(&self.exceptions, true, first.assume_utc());
-        let count = locals.as_slice().len() + moments.as_slice().len();
-        if count != self.exceptions.as_slice().len() {
+        }
+        if any_date(self.exceptions.as_slice()) {
             return Err(SetLine::Exceptions);
         }
-        let (last, until) = match self.recurrence.end {
-            RuleEnd::Until(DateOrTime::Utc(last)) => (None, Some(last.assume_utc())),
-            _ => (self.recurrence.last_counted_reading(first), None),
-        };
-        let readings = SetReadings {
-            rule: self.recurrence.rule_until(first, last),
-            dates,
-            exceptions: locals,
-        };
+        let filler = first.assume_utc();
         Ok(SetInstants {
-            readings,
-            until,
-            exceptions: moments,
+            readings: SetReadings {
+                start: first,
+                recurrence: self.recurrence.copy(),
+                dates: kept(&self.dates, false, first),
+                exceptions: kept(&self.exceptions, false, first),
+            },
+            instants: kept(&self.dates, true, filler),
+            exceptions: kept(&self.exceptions, true, filler),
         })
     }
 }

@@ -1,26 +1,24 @@
 //! Recurrence sets in a time zone.
-ghost use Rattle.std.specs.Prelude.{◌≡◌, ◌↔◌, ℤ, true, ◌+ℤ◌, ◌≤ℤ◌, ◌<ℤ◌, IsTrue, option_map};
+ghost use Rattle.std.specs.Prelude.{◌≡◌, ◌↔◌, ◌+◌, ℤ, true, pos, ◌+ℤ◌, ◌-ℤ◌, ◌≤ℤ◌, ◌<ℤ◌, ◌⊎◌, unsigned_abs, None, IsTrue, MatchOption, SomeIff, option_map};
 ghost use Rattle.cal_time.specs.UtcOffset.{IsOffset};
 ghost use Rattle.cal_datetime.specs.DateTime.{IsDateTime};
 ghost use Rattle.cal_datetime.specs.OffsetDateTime.{instant, unix_epoch, unix_nanoseconds, IsInstant};
 ghost use Rattle.cal_recurrence.specs.DateTimeRule.{is_not_after};
-ghost use Rattle.cal_recurrence.specs.DateTimeSet.{is_in_set};
-ghost use Rattle.cal_recurrence.specs.Occurrences.{before_all};
-ghost use Rattle.cal_recurrence.specs.ZonedSet.{is_kept, reach, HasInstant, IsNextAfter, Means, MeansAt};
+ghost use Rattle.cal_recurrence.specs.DateTimeSet.{candidates};
+ghost use Rattle.cal_recurrence.specs.ZonedSet.{is_kept, is_selected, reach, HasInstant, IsListed, IsNextAfter, IsNextReading, IsPast, Means, MeansAt, NoReading, Occurs};
+ghost use Rattle.cal_recurrence.specs.declared.zoned_set.ZonedSet.{ZonedSet};
 
 use crate::date_time_set::DateTimeSet;
+use crate::nearest::nearest;
 use crate::reach::{earlier, earliest_reading, is_past};
-use cal_datetime::{OffsetDateTime, PlainDateTime, midnight};
-use cal_time::day_number::to_date;
+use cal_datetime::{OffsetDateTime, PlainDateTime};
 use cal_zone::Zone;
 use cal_zone::laws::one_local;
 
-/// The nanoseconds from 1970-01-01 0:00 UTC to 26 hours before the first reading of the range.
-const BEFORE_ALL: i128 = -(365_961_662 * 86_400 + 93_600) * 1_000_000_000;
-
 /// A recurrence set in a time zone, as in RFC 5545. Each reading of the set means an instant: a
 /// reading in a gap is taken at the offset before the gap, and a reading in a fold is the earlier
-/// one.
+/// one. Other instants are returned as they are in their list, unless a reading means the same
+/// instant. The lists can be in any order.
 ///
 /// A count (`COUNT`) and exceptions without a zone go by the readings, and belong to the set of
 /// readings.
@@ -30,8 +28,10 @@ pub struct ZonedSet<'a> {
     pub readings: DateTimeSet<'a>,
     /// The zone (`TZID`).
     pub zone: &'a Zone<'a>,
-    /// The last possible instant (`UNTIL` in UTC).
+    /// The last possible instant of the rule (`UNTIL` in UTC). `RDATE` can have later ones.
     pub until: Option<OffsetDateTime>,
+    /// The other instants (`RDATE` in UTC).
+    pub instants: &'a [OffsetDateTime],
     /// The instants to leave out (`EXDATE` in UTC).
     pub exceptions: &'a [OffsetDateTime],
 }
@@ -58,18 +58,67 @@ fn is_not_after(last: Option<OffsetDateTime>, moment: OffsetDateTime) -> bool
     }
 }
 
+/// Returns a reading, or `None` if it is past a moment.
+fn up_to(moment: &Option<OffsetDateTime>, reading: Option<PlainDateTime>) -> Option<PlainDateTime>
+    ensures { (result ≡ reading) ⊎ (IsPast moment.now reading × (result ≡ None)) }
+{
+    match reading {
+        Some(one) if is_past(moment, one) => None,
+        _ => reading,
+    }
+}
+
+/// Returns `true` if the first occurrence from an instant on is at this instant.
+pub(crate) fn is_at(first: Option<OffsetDateTime>, moment: OffsetDateTime) -> bool
+    ensures { (set : ZonedSet) → IsNextAfter (Occurs set) (instant moment -ℤ pos 1) first
+        → (IsTrue result ↔ HasInstant set (instant moment)) }
+{
+    match first {
+        Some(one) => one == moment,
+        None => false,
+    }
+}
+
 impl<'a> ZonedSet<'a> {
-    /// Returns `true` if a moment isn't after the last one, and isn't an exception.
+    /// Returns `true` if a moment isn't an exception.
     fn is_kept(&self, moment: OffsetDateTime) -> bool
         ensures { result ≡ is_kept self.now (instant moment) }
     {
-        is_not_after(self.until, moment) && !self.exceptions.contains(&moment)
+        !self.exceptions.contains(&moment)
     }
 
-    /// Returns the moment that a reading of the set means, if it isn't left out and is later than
-    /// some nanoseconds after 1970-01-01 0:00 UTC.
+    /// Returns `true` if a candidate and the moment that it means aren't left out, and the end
+    /// allows them.
+    #[tactic(auto, unfolding(crate::specs::DateTimeSet::is_in_set))]
+    fn is_selected(&self, reading: PlainDateTime, moment: OffsetDateTime) -> bool
+        requires { candidates self.now.readings reading ≡ true }
+        ensures { result ≡ is_selected self.now reading (instant moment) }
+    {
+        !self.readings.exceptions.contains(&reading)
+            && (is_not_after(self.until, moment) || self.readings.dates.contains(&reading))
+            && self.is_kept(moment)
+    }
+
+    /// Returns the first candidate after a reading. If it is past the end of the rule, it is one of
+    /// the other readings.
+    fn next_reading(&self, reading: PlainDateTime) -> Option<PlainDateTime>
+        ensures { MatchOption result (NoReading self.now (unsigned_abs reading + 1))
+            (IsNextReading self.now (unsigned_abs reading + 1)) }
+    {
+        // These calls state that the readings are in range. They cost nothing.
+        let _ = reading.date();
+        let found = up_to(&self.until, self.readings.rule.next_after(reading));
+        let Some(next) = nearest(true, reading, found, self.readings.dates) else {
+            return None;
+        };
+        let _ = next.date();
+        Some(next)
+    }
+
+    /// Returns the moment that a candidate means, if it is an occurrence and is later than some
+    /// nanoseconds after 1970-01-01 0:00 UTC.
     fn moment_after(&self, reading: PlainDateTime, after: i128) -> Option<OffsetDateTime>
-        requires { is_in_set self.now.readings reading ≡ true }
+        requires { candidates self.now.readings reading ≡ true }
         ensures { IsNextAfter (MeansAt self.now reading) (unix_epoch +ℤ after) result }
     {
         let _ = reading.date();
@@ -77,16 +126,16 @@ impl<'a> ZonedSet<'a> {
         let Some(moment) = self.zone.resolve(reading).compatible() else {
             return None;
         };
-        if after < nanoseconds(moment) && self.is_kept(moment) {
+        if after < nanoseconds(moment) && self.is_selected(reading, moment) {
             Some(moment)
         } else {
             None
         }
     }
 
-    /// Returns the first occurrence that is later than some nanoseconds after 1970-01-01 0:00 UTC.
-    /// The readings before `start` can't mean such an instant.
-    fn first_after(&self, start: PlainDateTime, after: i128) -> Option<OffsetDateTime>
+    /// Returns the first moment that a reading means, if it is later than some nanoseconds after
+    /// 1970-01-01 0:00 UTC. The readings before `start` can't mean such an instant.
+    fn first_meant(&self, start: PlainDateTime, after: i128) -> Option<OffsetDateTime>
         requires { (z : ℤ) → IsDateTime z → (unix_epoch +ℤ after) <ℤ (z +ℤ reach) → start ≤ℤ z }
         ensures { IsNextAfter (Means self.now) (unix_epoch +ℤ after) result }
     {
@@ -96,8 +145,8 @@ impl<'a> ZonedSet<'a> {
         };
         let mut last = reading;
         let mut first = self.moment_after(last, after);
-        while let Some(next) = self.readings.next_after(last) {
-            if is_past(&first, next) || is_past(&self.until, next) {
+        while let Some(next) = self.next_reading(last) {
+            if is_past(&first, next) {
                 break;
             }
             let moment = self.moment_after(next, after);
@@ -107,20 +156,55 @@ impl<'a> ZonedSet<'a> {
         first
     }
 
-    /// Returns the first occurrence, or `None` without one.
-    pub(crate) fn first(&self) -> Option<OffsetDateTime>
-        ensures { IsNextAfter (Means self.now) before_all result }
+    /// Returns a moment if it isn't an exception and is later than some nanoseconds after
+    /// 1970-01-01 0:00 UTC.
+    fn if_after(&self, moment: OffsetDateTime, after: i128) -> Option<OffsetDateTime>
+        ensures value { SomeIff result (((unix_epoch +ℤ after) <ℤ instant moment)
+            × (is_kept self.now (instant moment) ≡ true)) moment }
+        ensures in_range { IsInstant (instant moment) }
     {
-        // The first reading of the range.
-        self.first_after(midnight(to_date(0)), BEFORE_ALL)
+        if after < nanoseconds(moment) && self.is_kept(moment) {
+            Some(moment)
+        } else {
+            None
+        }
+    }
+
+    /// Returns the first of the other instants that isn't an exception and is later than some
+    /// nanoseconds after 1970-01-01 0:00 UTC.
+    fn first_listed(&self, after: i128) -> Option<OffsetDateTime>
+        ensures { IsNextAfter (IsListed self.now) (unix_epoch +ℤ after) result }
+    {
+        let mut first = None;
+        for moment in self.instants {
+            first = earlier(&first, &self.if_after(*moment, after));
+        }
+        first
+    }
+
+    /// Returns the first occurrence that is later than some nanoseconds after 1970-01-01 0:00 UTC.
+    /// The readings before `start` can't mean such an instant.
+    fn first_after(&self, start: PlainDateTime, after: i128) -> Option<OffsetDateTime>
+        requires { (z : ℤ) → IsDateTime z → (unix_epoch +ℤ after) <ℤ (z +ℤ reach) → start ≤ℤ z }
+        ensures { IsNextAfter (Occurs self.now) (unix_epoch +ℤ after) result }
+    {
+        earlier(&self.first_meant(start, after), &self.first_listed(after))
     }
 
     /// Returns the first occurrence after an instant, or `None` if the set has no such occurrence.
     /// For 2:30 on every day in Berlin, 2024-03-31 3:30 +02:00:00 comes after 2024-03-31 0:00 UTC.
     pub fn next_after(&self, moment: OffsetDateTime) -> Option<OffsetDateTime>
-        ensures { IsNextAfter (Means self.now) (instant moment) result }
+        ensures { IsNextAfter (Occurs self.now) (instant moment) result }
     {
         self.first_after(earliest_reading(moment), nanoseconds(moment))
+    }
+
+    /// Returns the first occurrence that isn't before an instant, or `None` if the set has no such
+    /// occurrence.
+    pub fn first_from(&self, moment: OffsetDateTime) -> Option<OffsetDateTime>
+        ensures { IsNextAfter (Occurs self.now) (instant moment -ℤ pos 1) result }
+    {
+        self.first_after(earliest_reading(moment), nanoseconds(moment) - 1)
     }
 
     /// Returns `true` if an instant is an occurrence. For 2:30 on every day in Berlin, 2024-03-31
@@ -128,9 +212,6 @@ impl<'a> ZonedSet<'a> {
     pub fn contains(&self, moment: OffsetDateTime) -> bool
         ensures { IsTrue result ↔ HasInstant self.now (instant moment) }
     {
-        match self.first_after(earliest_reading(moment), nanoseconds(moment) - 1) {
-            Some(first) => first == moment,
-            None => false,
-        }
+        is_at(self.first_from(moment), moment)
     }
 }

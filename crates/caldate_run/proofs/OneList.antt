@@ -1,36 +1,29 @@
 -- A list of a recurrence has one answer.
-use Rattle.std.proofs.Common.{◌≡◌, ◌∙◌, ap, refl, subst, sym, arith, ℕ, Option, Some, Result, Ok, Err, ℤ, List, [], ◌∷◌}
+use Rattle.std.proofs.Common.{◌≡◌, ◌∙◌, ap, inl, inr, refl, subst, sym, ℕ, Option, Some, Result, Ok, Err, ℤ, List, [], ◌∷◌, slice_get}
 use Rattle.std.specs.Prelude.{◌&&◌, ◌||◌, not, IsOk, option_map}
 use Rattle.std.specs.List.{flat_map, list_any}
 use Rattle.std.specs.Ordering.{int_eq}
 use Rattle.std.proofs.lemmas.Bool.{false≢true}
-use Rattle.std.proofs.lemmas.Int.{ints}
 use Rattle.cal_datetime.specs.OffsetDateTime.{LocalAndOffset, instant}
 use Rattle.cal_recurrence.specs.DateTimeRule.{is_not_after, is_occurrence}
 use Rattle.cal_recurrence.specs.DateTimeSet.{is_in_set, is_listed}
-use Rattle.cal_recurrence.specs.ZonedSet.{IsMeant, Means, is_kept}
+use Rattle.cal_recurrence.specs.ZonedSet.{IsMeant, Means, Occurs, is_in_time, is_kept}
+use Rattle.cal_recurrence.proofs.ZonedSearch.{first-one}
 use Rattle.cal_recurrence.specs.declared.recurrence.Recurrence.{Recurrence}
 use Rattle.cal_recurrence.specs.declared.zoned_set.ZonedSet.{ZonedSet}
-use Rattle.cal_zone.specs.Local.{IsCompatible, IsLocalOf}
+use Rattle.cal_zone.specs.Local.{IsLocalOf}
 use Rattle.cal_zone.specs.Timeline.{Timeline}
 use Rattle.cal_zone.specs.declared.local.Local.{Local}
 use Rattle.caldate_run.specs.Recurring.{AreNextIn, IsEndIn, IsNextIn, IsSetIn, ListsSet, ListsSpan, moment_line}
-use Rattle.caldate_run.specs.declared.request.Policy.TheVariants.{Compatible}
 use Rattle.caldate_run.specs.declared.request.Span.{Span}
 use Rattle.caldate_run.specs.declared.request.Span.TheVariants.{Dates, InZone, Moments}
 use Rattle.caldate_run.specs.declared.run.run_error.RunError.{RunError}
 use Rattle.caldate_run.proofs.Listed.{pages-one}
 use Rattle.caldate_run.proofs.OneAnswer.{took-one}
-use Rattle.caldate_run.proofs.OneMoment.{policy-one}
 
 -- A reading has one result in the zone.
 abbrev OneLocal : Timeline → Type 0
 OneLocal zone = (reading : ℤ) (a b : Local) → IsLocalOf zone reading a → IsLocalOf zone reading b → a ≡ b
-
-one_meant : (zone : Timeline) (z : ℤ) (m k : LocalAndOffset) → OneLocal zone → IsMeant zone z m → IsMeant zone z k → m ≡ k
-one_meant zone z m k one a b =
-    let local = one z a.local b.local a.shown b.shown in
-    let same = policy-one Compatible b.local (Some m) (Some k) (subst (λ (l : Local). IsCompatible l (Some m)) local a.selected) b.selected in cc
 
 -- ---- two sets of a recurrence in a zone have the same moments
 same_on : (zone : Timeline) (r : Recurrence) (first : LocalAndOffset) (s t : ZonedSet) → IsSetIn zone r first s → IsSetIn zone r first t → (z : ℤ)
@@ -45,9 +38,15 @@ same_on zone r first s t a b z =
 same_kept : (zone : Timeline) (r : Recurrence) (first : LocalAndOffset) (s t : ZonedSet) → IsSetIn zone r first s → IsSetIn zone r first t → (x : ℤ)
     → is_kept s x ≡ is_kept t x
 same_kept zone r first s t a b x =
+    let left_out = a.left_out ∙ sym b.left_out in
+    λ i. not (list_any (λ e. int_eq (instant e) x) (left_out i))
+
+same_time : (zone : Timeline) (r : Recurrence) (first : LocalAndOffset) (s t : ZonedSet) → IsSetIn zone r first s → IsSetIn zone r first t → (z x : ℤ)
+    → is_in_time s z x ≡ is_in_time t z x
+same_time zone r first s t a b z x =
     let until = a.until ∙ sym b.until in
-    let instants = a.instants ∙ sym b.instants in
-    λ i. is_not_after (option_map instant (until i)) x && not (list_any (λ e. int_eq (instant e) x) (instants i))
+    let dates = a.dates ∙ sym b.dates in
+    λ i. is_not_after (option_map instant (until i)) x || is_listed (dates i) z
 
 same_means : (zone : Timeline) (r : Recurrence) (first : LocalAndOffset) (s t : ZonedSet) → IsSetIn zone r first s → IsSetIn zone r first t
     → (z : ℤ) (m : LocalAndOffset) → Means s z m → Means t z m
@@ -55,30 +54,36 @@ same_means zone r first s t a b z m h = record {
   range = h.range;
   on = sym (same_on zone r first s t a b z) ∙ h.on;
   meant = subst (λ y. IsMeant y z m) (a.zone_is ∙ sym b.zone_is) h.meant;
+  in_time = sym (same_time zone r first s t a b z (instant m)) ∙ h.in_time;
   kept = sym (same_kept zone r first s t a b (instant m)) ∙ h.kept;
 }
+
+same_occurs : (zone : Timeline) (r : Recurrence) (first : LocalAndOffset) (s t : ZonedSet) → IsSetIn zone r first s → IsSetIn zone r first t
+    → (z : ℤ) (m : LocalAndOffset) → Occurs s z m → Occurs t z m
+same_occurs zone r first s t a b z m (inl h) = inl (same_means zone r first s t a b z m h)
+same_occurs zone r first s t a b z m (inr h) = inr (record {
+  index = h.index;
+  after = h.after;
+  listed = ap (λ l. slice_get l h.index) (b.instants ∙ sym a.instants) ∙ h.listed;
+  range = h.range;
+  kept = sym (same_kept zone r first s t a b (instant m)) ∙ h.kept;
+})
 
 -- ---- the first moment after an instant, and all of them
 module _ (zone : Timeline) (r : Recurrence) (first last : LocalAndOffset) (one : OneLocal zone) where
   same_next : (s t : ZonedSet) → IsSetIn zone r first s → IsSetIn zone r first t → (x : ℤ) (m : LocalAndOffset) → IsNextIn s last x m → IsNextIn t last x m
   same_next s t a b x m h = record {
     first = record {
-      reading = h.first.reading;
-      meant = same_means zone r first s t a b h.first.reading m h.first.meant;
+      place = h.first.place;
+      is = same_occurs zone r first s t a b h.first.place m h.first.is;
       later = h.first.later;
-      first = λ z k is later. h.first.first z k (same_means zone r first t s b a z k is) later;
+      first = λ z k is later. h.first.first z k (same_occurs zone r first t s b a z k is) later;
     };
     not_past = h.not_past;
   }
 
   one_next : (s : ZonedSet) → IsSetIn zone r first s → (x : ℤ) (m k : LocalAndOffset) → IsNextIn s last x m → IsNextIn s last x k → m ≡ k
-  one_next s a x m k h j =
-      let before = h.first.first j.first.reading k j.first.meant j.first.later in
-      let after = j.first.first h.first.reading m h.first.meant h.first.later in
-      let same : instant k ≡ instant m = omega (arith, ints, before.0, after.0) in
-      let reading : j.first.reading ≡ h.first.reading = omega (arith, ints, before.1 same, after.1 (sym same)) in
-      one_meant zone h.first.reading m k one (subst (λ y. IsMeant y h.first.reading m) a.zone_is h.first.meant.meant)
-      (subst (λ y. IsMeant y h.first.reading k) a.zone_is (subst (λ y. IsMeant s.zone.now y k) reading j.first.meant.meant))
+  one_next s a x m k h j = first-one s (subst OneLocal (sym a.zone_is) one) x m k h.first j.first
 
   one_list : (s t : ZonedSet) → IsSetIn zone r first s → IsSetIn zone r first t → (x : ℤ) (ms ks : List LocalAndOffset)
       → AreNextIn s last (IsEndIn s last) x ms → AreNextIn t last (IsEndIn t last) x ks → ms ≡ ks

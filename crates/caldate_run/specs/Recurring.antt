@@ -2,11 +2,10 @@
 use Rattle.std.specs.Prelude.{◌≡◌, ℕ, ⊤, nat_le, Bool, ℤ, pos, ◌-ℤ◌, ◌≤ℤ◌, int_le, List, [], ◌∷◌, ◌++◌, filter, Option, Some, Result}
 use Rattle.std.specs.List.{flat_map, take_while}
 use Rattle.cal_datetime.specs.OffsetDateTime.{LocalAndOffset, instant}
-use Rattle.cal_recurrence.specs.DateTimeRule.{DateTimeParts, date_time_rule}
 use Rattle.cal_recurrence.specs.Days.{days_of}
 use Rattle.cal_recurrence.specs.RecurrenceReadings.{readings_of}
-use Rattle.cal_recurrence.specs.SetMeaning.{last_instant, last_local}
-use Rattle.cal_recurrence.specs.ZonedSet.{IsFirstAfter, Means}
+use Rattle.cal_recurrence.specs.SetMeaning.{last_instant, zone_rule}
+use Rattle.cal_recurrence.specs.ZonedSet.{IsFirstAfter, Occurs}
 use Rattle.cal_recurrence.specs.declared.recurrence.Recurrence.{Recurrence}
 use Rattle.cal_recurrence.specs.declared.zoned_set.ZonedSet.{ZonedSet}
 use Rattle.cal_zone.specs.Timeline.{Timeline}
@@ -36,23 +35,20 @@ abbrev pub reading_line : ℤ → ℤ → List ℕ
 reading_line offset z = moment_line (record { local = z; offset = offset })
 
 -- ---- in a zone
--- The rule of a recurrence in a zone from a reading on. It doesn't end at an UNTIL with `Z`.
-abbrev pub rule_in : Recurrence → ℤ → DateTimeParts
-rule_in r start = date_time_rule start (last_local r start r.end) r.pattern r.times
-
 -- The set has the readings of a recurrence, from the reading of the zone's clocks at a moment on. An
 -- UNTIL with `Z` ends it at that instant.
 pub record IsSetIn (zone : Timeline) (r : Recurrence) (first : LocalAndOffset) (set : ZonedSet) : Type 0 where
-  pub rule : set.readings.rule ≡ rule_in r (moment_in (Some zone) (instant first)).local
+  pub rule : set.readings.rule ≡ zone_rule r (moment_in (Some zone) (instant first)).local
   pub dates : set.readings.dates.now ≡ []
   pub exceptions : set.readings.exceptions.now ≡ []
   pub zone_is : set.zone.now ≡ zone
   pub until : set.until ≡ last_instant r.end
-  pub instants : set.exceptions.now ≡ []
+  pub instants : set.instants.now ≡ []
+  pub left_out : set.exceptions.now ≡ []
 
 -- m is the first moment of the set after the instant x, and not past the last moment.
 pub record IsNextIn (set : ZonedSet) (last : LocalAndOffset) (x : ℤ) (m : LocalAndOffset) : Type 0 where
-  pub first : IsFirstAfter (Means set) x m
+  pub first : IsFirstAfter (Occurs set) x m
   pub not_past : instant m ≤ℤ instant last
 
 -- The set doesn't have such a moment.

@@ -1,13 +1,13 @@
 //! Recurrence sets, their text, and their occurrences in a time zone.
-ghost use Rattle.std.specs.Prelude.{◌≡◌, ◌<◌, ◌<ℤ◌, ◌≤ℤ◌, ℤ, IfSome, take, true, false};
+ghost use Rattle.std.specs.Prelude.{◌≡◌, ◌<◌, ◌<ℤ◌, ◌≤ℤ◌, ℤ, [], IfSome, take, true, false};
 ghost use Rattle.std.specs.List.{All};
 ghost use Rattle.cal_datetime.specs.OffsetDateTime.{LocalAndOffset, instant};
 ghost use Rattle.cal_recurrence.specs.DateTimeSet.{is_in_set as is_reading};
-ghost use Rattle.cal_recurrence.specs.Folding.{unfolded_of, IsShortLine};
+ghost use Rattle.cal_recurrence.specs.Folding.{IsShortLine, IsUnfolded};
 ghost use Rattle.cal_recurrence.specs.Sets.{is_in_set, is_listed};
 ghost use Rattle.cal_recurrence.specs.SetText.{lines_of, SaysSet};
 ghost use Rattle.cal_recurrence.specs.Words.{parts_at};
-ghost use Rattle.cal_recurrence.specs.ZonedSet.{Means};
+ghost use Rattle.cal_recurrence.specs.ZonedSet.{Occurs};
 ghost use Rattle.cal_recurrence.specs.declared.set_parts.SetParts.{SetParts};
 ghost use Rattle.cal_zone.specs.Local.{Shows};
 
@@ -59,21 +59,29 @@ fn respell(text: &[u8], buffer: &mut [u8]) -> Option<usize>
 fn fold_and_unfold(text: &[u8], folded: &mut [u8], again: &mut [u8]) -> Option<(usize, usize)>
     ensures short { IfSome result (λ ends.
         All IsShortLine (parts_at 10 (take ends.0 folded.new))) }
-    ensures same { IfSome result (λ ends. take ends.1 again.new ≡ unfolded_of text.now) }
+    ensures same { IfSome result (λ ends. IsUnfolded text.now (take ends.1 again.new)) }
 {
     let end = fold(text, folded)?;
     let same = unfold(&folded[..end], again)?;
     Some((end, same))
 }
 
-/// Returns the first moment of a set in a zone after another one. The clocks of the zone show a
-/// reading of the set there, unless they skip it.
-#[tactic(auto, using(cal_recurrence::specs::ZonedSetLaws::shown))]
+/// Returns the first moment of a set in a zone after another one. None comes between them.
+#[tactic(auto, using(cal_recurrence::specs::ZonedSetLaws::none_between))]
 fn next_moment(set: &ZonedSet<'_>, moment: OffsetDateTime) -> Option<OffsetDateTime>
-    ensures later { IfSome result (λ next. instant moment <ℤ instant next) }
-    ensures first { IfSome result (λ next. (z : ℤ) (m : LocalAndOffset) → Means set.now z m
+    ensures { IfSome result (λ next. (z : ℤ) (m : LocalAndOffset) → Occurs set.now z m
         → instant moment <ℤ instant m → instant next ≤ℤ instant m) }
-    ensures shown { IfSome result (λ next. (z : ℤ) × ((is_reading set.now.readings z ≡ true)
+{
+    set.next_after(moment)
+}
+
+/// Returns the same for a set without other instants. The clocks of the zone show a reading of the
+/// set then, unless they skip it.
+#[tactic(auto, using(cal_recurrence::specs::ZonedSetLaws::by_reading, cal_recurrence::specs::ZonedSetLaws::shown))]
+fn next_shown(set: &ZonedSet<'_>, moment: OffsetDateTime) -> Option<OffsetDateTime>
+    ensures later { IfSome result (λ next. instant moment <ℤ instant next) }
+    ensures shown { set.now.instants.now ≡ [] → IfSome result (λ next. (z : ℤ)
+        × ((is_reading set.now.readings z ≡ true)
         × ((m : LocalAndOffset) → Shows set.now.zone.now z m → Shows set.now.zone.now z next))) }
 {
     set.next_after(moment)
@@ -122,9 +130,15 @@ fn show_moment(rt: &impl Print, first: Date) -> io::Result<()> {
         readings,
         zone: &berlin,
         until: None,
+        instants: &[],
         exceptions: &[],
     };
-    println!(rt; "{:?}", next_moment(&set, midnight(change).assume_utc()))
+    let change = midnight(change).assume_utc();
+    println!(rt;
+        "{:?} {:?}",
+        next_moment(&set, change),
+        next_shown(&set, change)
+    )
 }
 
 pub fn show(rt: &impl Print) -> io::Result<()> {

@@ -1,7 +1,6 @@
 //! Lists of the moments of a recurrence in a zone.
-ghost use Rattle.std.specs.Prelude.{◌≡◌, ◌++◌, ◌-ℤ◌, ◌≤ℤ◌, ◌<ℤ◌, pos, MatchOption, Some};
+ghost use Rattle.std.specs.Prelude.{◌≡◌, ◌++◌, ◌≤ℤ◌, ◌<ℤ◌, MatchOption, Some};
 ghost use Rattle.cal_datetime.specs.OffsetDateTime.{LocalAndOffset, instant};
-ghost use Rattle.cal_recurrence.specs.ZonedSet.{IsNextAfter, Means};
 ghost use Rattle.cal_recurrence.specs.declared.zoned_set.ZonedSet.{ZonedSet};
 ghost use Rattle.caldate_run.specs.Calls.{Writes, write_failure};
 ghost use Rattle.caldate_run.specs.Recurring.{IsSetIn, ListsSet, moment_line};
@@ -14,7 +13,7 @@ use crate::run::make_room;
 use crate::run::run_error::RunError;
 use crate::streams::Sink;
 use cal_datetime::OffsetDateTime;
-use cal_recurrence::{DateOrTime, DateTimeSet, Recurrence, SetParts, Values, ZonedSet};
+use cal_recurrence::{CountedZonedSet, Recurrence};
 use cal_zone::Zone;
 
 /// Writes the moments of the recurrence in order, each in RFC 3339 at the offset of the zone with a
@@ -31,72 +30,42 @@ pub fn list_in_zone<W: Sink>(
         × ListsSet set first last result (W.contents writer.old) (W.contents writer.new) }
     ensures writes { Writes W.write_gives writer.old (write_failure result) writer.new }
 {
-    write_moments(&set_in(zone, recurrence, first), first, last, writer)
+    let mut set = set_in(zone, &recurrence, first);
+    write_moments(&mut set, first, last, writer)
 }
 
 /// Returns the set of a recurrence that starts at the reading of the zone's clocks at a moment.
-fn set_in<'a>(zone: &'a Zone<'a>, recurrence: Recurrence, first: OffsetDateTime) -> ZonedSet<'a>
-    ensures { IsSetIn zone.now recurrence first result }
+fn set_in<'a>(
+    zone: &'a Zone<'a>,
+    recurrence: &Recurrence,
+    first: OffsetDateTime,
+) -> CountedZonedSet<'a>
+    ensures { IsSetIn zone.now recurrence.now first result }
 {
     let start = moment_in(zone, first).local();
-    let parts = SetParts {
-        start: DateOrTime::Local(start),
-        recurrence,
-        dates: Values::none(DateOrTime::Local(start)),
-        exceptions: Values::none(DateOrTime::Local(start)),
-        zone: None,
-    };
-    match parts.instants(zone) {
-        Ok(instants) => ZonedSet {
-            readings: DateTimeSet {
-                rule: instants.readings.rule,
-                dates: &[],
-                exceptions: &[],
-            },
-            zone,
-            until: instants.until,
-            exceptions: &[],
-        },
-        // A set with a local start and without other values has readings.
-        Err(_) => unreachable!(),
-    }
+    recurrence.zoned_set(start, &[], &[], zone)
 }
 
 /// Writes the lines of the moments of the set.
 #[tactic(auto, using(crate::proofs::Calls::sent_all, crate::proofs::Calls::writes_then))]
 fn write_moments<W: Sink>(
-    set: &ZonedSet<'_>,
+    set: &mut CountedZonedSet<'_>,
     first: OffsetDateTime,
     last: OffsetDateTime,
     writer: &mut W,
 ) -> Result<(), RunError>
-    ensures lists { ListsSet set.now first last result (W.contents writer.old) (W.contents writer.new) }
+    ensures lists { ListsSet set.old first last result (W.contents writer.old) (W.contents writer.new) }
     ensures writes { Writes W.write_gives writer.old (write_failure result) writer.new }
 {
     let mut buffer = Buffer::new();
-    let mut next = first_from(set, first);
+    // The reading of the start may mean an earlier moment, if clocks show it twice.
+    let mut next = set.first_from(first);
     while let Some(moment) = up_to(next, last) {
         make_room(&mut buffer, 0, writer)?;
         push_moment(&mut buffer, moment);
         next = set.next_after(moment);
     }
     write_all(writer, buffer.as_bytes())
-}
-
-/// Returns the first moment of the set that isn't before a moment.
-fn first_from(set: &ZonedSet<'_>, first: OffsetDateTime) -> Option<OffsetDateTime>
-    ensures { IsNextAfter (Means set.now) (instant first -ℤ pos 1) result }
-{
-    // These calls state that the moment is in range. They cost nothing.
-    let _ = first.local();
-    let _ = first.offset();
-    // The reading of the start may mean an earlier moment, if clocks show it twice.
-    for moment in set.occurrences() {
-        if moment >= first {
-            return Some(moment);
-        }
-    }
-    None
 }
 
 /// Returns the moment if it isn't past the last one.

@@ -62,6 +62,17 @@ fn fold(text: &[u8], a: &mut [u8], b: &mut [u8]) -> Twice<Option<usize>>
     (cal_recurrence::fold(text, a), cal_recurrence::fold(text, b))
 }
 
+fn unfold(text: &[u8], a: &mut [u8], b: &mut [u8]) -> Twice<Option<usize>>
+    requires { length a.old ≡ length b.old }
+    ensures result { result.0 ≡ result.1 }
+    ensures text { IfSome result.0 (λ end. take end a.new ≡ take end b.new) }
+{
+    (
+        cal_recurrence::unfold(text, a),
+        cal_recurrence::unfold(text, b),
+    )
+}
+
 fn text(recurrence: &Recurrence) -> Twice<RecurrenceText>
     ensures { result.0 ≡ result.1 }
 {

@@ -103,6 +103,8 @@ fn folds(rt: HostRuntime) {
     folded(rt, &text, &text);
     text[75] = b'\n';
     folded(rt, &text[..76], &text[..76]);
+    text[75] = b'\r';
+    folded(rt, &text[..76], &text[..76]);
     let mut wanted = [b'a'; 79];
     (wanted[75], wanted[76], wanted[77]) = (b'\r', b'\n', b' ');
     folded(rt, &line[..76], &wanted);

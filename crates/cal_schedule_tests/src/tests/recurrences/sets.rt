@@ -122,6 +122,35 @@ fn readings_of_sets(rt: HostRuntime) {
     check_readings(rt, text, &[(1997_07_14, 12_30_00)]);
 }
 
+/// A search counts only as far as it needs.
+#[test]
+fn long_counts(rt: HostRuntime) {
+    let rt = &rt;
+    let text = "DTSTART:20240101T090000\nRRULE:FREQ=DAILY;COUNT=4294967295\n\
+        RDATE:20240102T120000\nEXDATE:20240103T090000";
+    let parts = read_set(rt, text);
+    let readings = parts.readings().expect(rt, "no set of readings");
+    let mut set = readings.set();
+    let mut walk = readings.set().readings();
+    for row in [
+        (2024_01_01, 9_00_00),
+        (2024_01_02, 9_00_00),
+        (2024_01_02, 12_00_00),
+        (2024_01_04, 9_00_00),
+    ] {
+        let its = reading(rt, row);
+        same_at(rt, row, walk.next(), Some(its));
+        same_at(rt, row, set.contains(its), true);
+        same_at(rt, row, set.first_from(its), Some(its));
+    }
+    let exception = reading(rt, (2024_01_03, 9_00_00));
+    same(rt, set.contains(exception), false);
+    let next = reading(rt, (2024_01_04, 9_00_00));
+    same(rt, set.next_after(exception), Some(next));
+    let mut walk = readings.set().readings_from(exception);
+    same(rt, walk.next(), Some(next));
+}
+
 /// The dates of the second example of RFC 5545, section 3.8.5.2, and a `COUNT`.
 #[test]
 fn days_of_sets(rt: HostRuntime) {

@@ -4,7 +4,7 @@
 mod one_answer;
 
 use super::{APIA, berlin, island, kind, moment, reading, sunday, zone};
-use crate::tests::same;
+use crate::tests::{same, same_at};
 use cal_datetime::{OffsetDateTime, PlainDateTime};
 use cal_recurrence::{
     DateTimeRule, DateTimeSet, Pattern, SetLine, TimesOfDay, ZonedSet, parse_set,
@@ -29,6 +29,7 @@ fn in_zone<'a>(readings: DateTimeSet<'a>, zone: &'a Zone<'a>) -> ZonedSet<'a> {
         readings,
         zone,
         until: None,
+        instants: &[],
         exceptions: &[],
     }
 }
@@ -148,14 +149,16 @@ fn daily_until_christmas(rt: HostRuntime) {
 /// Checks all instants of the set that a text says, in a zone.
 fn check_text(rt: &impl Abort, text: &str, zone: &Zone<'_>, wanted: &[(i64, i32)]) {
     let parts = parse_set(text.as_bytes()).expect(rt, text);
-    let instants = parts.instants(zone).expect(rt, "no set of instants");
-    let set = instants.set(zone);
-    let mut occurrences = set.occurrences();
+    let instants = parts.instants().expect(rt, "no set of instants");
+    let mut set = instants.set(zone);
+    let mut occurrences = instants.set(zone).occurrences();
     for one in wanted {
-        same(rt, moment(occurrences.next()), Some(*one));
-        same(rt, set.contains(at(rt, one.0)), true);
+        same_at(rt, text, moment(occurrences.next()), Some(*one));
+        same_at(rt, text, set.contains(at(rt, one.0)), true);
+        let first = set.first_from(at(rt, one.0));
+        same_at(rt, text, moment(first), Some(*one));
     }
-    same(rt, moment(occurrences.next()), None);
+    same_at(rt, text, moment(occurrences.next()), None);
 }
 
 /// Rows of `dateutil` 2.9 and `zoneinfo`, with a gap on 2024-03-31 and a fold on 2024-10-27.
@@ -202,8 +205,8 @@ fn texts_in_berlin(rt: HostRuntime) {
     check_text(rt, text, &berlin, &rows);
 }
 
-/// An `RDATE` in UTC, with the rows of `dateutil` 2.9 and `zoneinfo`, and one at the first pass of
-/// the fold.
+/// An `RDATE` in UTC, with the rows of `dateutil` 2.9 and `zoneinfo`, and both passes of the fold on
+/// 2024-10-27.
 #[test]
 fn dates_in_utc(rt: HostRuntime) {
     let rt = &rt;
@@ -212,41 +215,87 @@ fn dates_in_utc(rt: HostRuntime) {
         RDATE:20241026T100000Z,20241028T093000Z";
     let rows = [
         (1_729_902_600, 7_200),
-        (1_729_936_800, 7_200),
+        (1_729_936_800, 0),
         (1_729_989_000, 7_200),
-        (1_730_107_800, 3_600),
+        (1_730_107_800, 0),
     ];
     check_text(rt, text, &berlin, &rows);
-    let text = "DTSTART;TZID=Europe/Berlin:20241026T023000\nRDATE:20241027T003000Z";
-    check_text(
-        rt,
-        text,
-        &berlin,
-        &[(1_729_902_600, 7_200), (1_729_989_000, 7_200)],
-    );
+    let start = (1_729_902_600, 7_200);
+    let (first, second) = (1_729_989_000, 1_729_992_600);
+    let text = "DTSTART;TZID=Europe/Berlin:20241026T023000\n\
+        RDATE:20241027T013000Z,20241027T003000Z,20241027T013000Z";
+    check_text(rt, text, &berlin, &[start, (first, 0), (second, 0)]);
+    // The first pass is also a reading of the set.
+    let text = "DTSTART;TZID=Europe/Berlin:20241026T023000\nRRULE:FREQ=DAILY;COUNT=2\n\
+        RDATE:20241027T003000Z\nRDATE:20241027T013000Z";
+    check_text(rt, text, &berlin, &[start, (first, 7_200), (second, 0)]);
+    let text = "DTSTART;TZID=Europe/Berlin:20241026T023000\nRRULE:FREQ=DAILY;COUNT=2\n\
+        RDATE:20241027T003000Z\nRDATE:20241027T013000Z\nEXDATE:20241027T003000Z";
+    check_text(rt, text, &berlin, &[start, (second, 0)]);
+    let text = "DTSTART;TZID=Europe/Berlin:20241026T023000\nRRULE:FREQ=DAILY;COUNT=2\n\
+        RDATE:20241027T013000Z\nEXDATE:20241027T013000Z,20241026T003000Z";
+    check_text(rt, text, &berlin, &[(first, 7_200)]);
 }
 
-/// Sets that have no instants in Berlin, and the line with the value.
+/// An `UNTIL` ends the rule, and not `RDATE` (RFC 5545, section 3.3.10), as in `dateutil` 2.9.
+#[test]
+fn dates_after_an_end(rt: HostRuntime) {
+    let rt = &rt;
+    let berlin = berlin(rt);
+    let rows = [
+        (1_711_762_200, 3_600),
+        (1_711_848_600, 7_200),
+        (1_712_052_000, 7_200),
+        (1_712_138_400, 0),
+    ];
+    let text = "DTSTART;TZID=Europe/Berlin:20240330T023000\n\
+        RRULE:FREQ=DAILY;UNTIL=20240331T013000Z\n\
+        RDATE;TZID=Europe/Berlin:20240402T120000\nRDATE:20240403T100000Z";
+    check_text(rt, text, &berlin, &rows);
+    let text = "DTSTART;TZID=Europe/Berlin:20240330T023000\n\
+        RRULE:FREQ=DAILY;UNTIL=20240331T013000Z\n\
+        RDATE;TZID=Europe/Berlin:20240402T120000,20240401T120000\n\
+        RDATE:20240403T100000Z\n\
+        EXDATE;TZID=Europe/Berlin:20240401T120000";
+    check_text(rt, text, &berlin, &rows);
+}
+
+/// A search counts only as far as it needs.
+#[test]
+fn long_counts(rt: HostRuntime) {
+    let rt = &rt;
+    let berlin = berlin(rt);
+    let text = "DTSTART;TZID=Europe/Berlin:20240330T023000\n\
+        RRULE:FREQ=DAILY;COUNT=4294967295";
+    let parts = parse_set(text.as_bytes()).expect(rt, text);
+    let instants = parts.instants().expect(rt, "no set of instants");
+    let mut occurrences = instants.set(&berlin).occurrences();
+    for one in [(1_711_762_200, 3_600), (1_711_848_600, 7_200)] {
+        same(rt, moment(occurrences.next()), Some(one));
+    }
+    let next = instants.set(&berlin).next_after(at(rt, 1_711_848_600));
+    same(rt, moment(next), Some((1_711_931_400, 7_200)));
+    let mut after = instants
+        .set(&berlin)
+        .occurrences_after(at(rt, 1_711_848_600));
+    same(rt, moment(after.next()), Some((1_711_931_400, 7_200)));
+}
+
+/// Sets that have no instants in a zone, and the line with the value.
 #[test]
 fn other_kinds_of_values(rt: HostRuntime) {
     let rt = &rt;
-    let berlin = berlin(rt);
     for (text, line) in [
         ("DTSTART:20240101", SetLine::Start),
         ("DTSTART:20240101T090000Z", SetLine::Start),
         ("DTSTART:20240101T090000\nRDATE:20240101", SetLine::Dates),
-        // The second pass of the fold.
-        (
-            "DTSTART:20240101T090000\nRDATE:20241027T013000Z",
-            SetLine::Dates,
-        ),
         (
             "DTSTART:20240101T090000\nEXDATE:20240101",
             SetLine::Exceptions,
         ),
     ] {
         let parts = parse_set(text.as_bytes()).expect(rt, text);
-        same(rt, parts.instants(&berlin).err(), Some(line));
+        same_at(rt, text, parts.instants().err(), Some(line));
     }
 }
 

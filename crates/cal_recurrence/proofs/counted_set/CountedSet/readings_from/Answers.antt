@@ -6,6 +6,6 @@ use Rattle.cal_recurrence.proofs.counted_set.CountedSet.readings_from.Goals as g
 
 pub returns : goal.returns
 returns c =
-    let front = c.search-front.result in
-    ap (λ set. set_readings_left set front) c.search-front.ensures.same
-    ∙ left-from (is_in_set c.args.self) (unsigned_abs c.args.reading) front c.search-front.ensures.value
+    let front = c.first_from-front.result in
+    ap (λ set. set_readings_left set front) c.first_from-front.ensures.same
+    ∙ left-from (is_in_set c.args.self) (unsigned_abs c.args.reading) front c.first_from-front.ensures.value

@@ -1,9 +1,11 @@
-use Rattle.std.proofs.Common.{◌+◌, arith, sym, ◌∙◌, None, Some}
+use Rattle.std.proofs.Common.{true, ◌+◌, refl, arith, sym, ◌∙◌, Some}
+use Rattle.std.specs.Ordering.{nat_cmp}
 use Rattle.cal_time.specs.Date.{last_day}
-use Rattle.cal_recurrence.specs.Sets.{candidates, is_in_set, is_listed}
+use Rattle.cal_recurrence.specs.Nearest.{is_past}
+use Rattle.cal_recurrence.specs.Sets.{is_in_set, is_listed}
 use Rattle.cal_recurrence.specs.TimeSearch.{IsFirst}
-use Rattle.cal_recurrence.proofs.FirstNumbers.{ended, kept, skipped}
-use Rattle.cal_recurrence.proofs.Sets.{is_next_day, leaves}
+use Rattle.cal_recurrence.proofs.NearestValues.{days_after, ended, is-after, kept, skipped}
+use Rattle.cal_recurrence.proofs.Sets.{after_rule, first_after, is_next_day, next_candidates, next_days, none_after, rule_days}
 use Rattle.cal_recurrence.proofs.set.RecurrenceSet.next_after.Goals as goal
 
 pub returns-then-not-contains : goal.returns-then-not-contains
@@ -11,24 +13,29 @@ returns-then-not-contains c =
     let set = c.args.self.now in
     let at = c.loop-next in
     let n = c.args.date in
-    let first : IsFirst (is_in_set set) (n + 1) (last_day + 1) c.in-Some.next = kept (is_in_set set) (candidates set) (is_listed set.exceptions.now) (leaves set)
-    (n + 1) (at.last + 1) (last_day + 1) c.in-Some.next (omega (arith, at.invariant.later)) at.invariant.none c.in-Some.ensures (sym c.contains.ensures.value ∙ c.if-not-contains.true) in
-    record { value = is_next_day (is_in_set set) n (Some c.in-Some.next) first; found = (omega (arith, first.not_before), first.passes) }
+    let x = c.in-Some.next in
+    let first : IsFirst (is_in_set set) (n + 1) (last_day + 1) x = first_after set n x c.day_number.ensures.in_range
+    (kept (is_past nat_cmp true) (next_days set) (next_candidates set) (is_listed set.exceptions.now) n at.last x (λ k. refl) at.invariant
+    (c.in-Some.ensures (rule_days set) (after_rule set at.last _ c.next_after.ensures.value)) (sym c.contains.ensures.value ∙ c.if-not-contains.true)) in
+    record { value = is_next_day (is_in_set set) n (Some x) first; found = (omega (arith, first.not_before), first.passes) }
 
 pub loop-next-preserved : goal.loop-next-preserved
 loop-next-preserved c =
     let set = c.args.self.now in
     let at = c.loop-next in
-    let next : IsFirst (candidates set) (at.last + 1) (last_day + 1) c.in-Some.next = c.in-Some.ensures in
-    record {
-      later = omega (arith, at.invariant.later, next.not_before);
-      none = skipped (is_in_set set) (candidates set) (is_listed set.exceptions.now) (leaves set)
-          (c.args.date + 1) (at.last + 1) (last_day + 1) c.in-Some.next at.invariant.none next (sym c.contains.ensures.value ∙ c.if-not-contains.false);
-    }
+    skipped (is_past nat_cmp true) (next_days set) (next_candidates set) (is_listed set.exceptions.now) c.args.date at.last c.in-Some.next days_after (λ k. refl) at.invariant
+    (c.in-Some.ensures (rule_days set) (after_rule set at.last _ c.next_after.ensures.value)) (sym c.contains.ensures.value ∙ c.if-not-contains.false)
+
+pub loop-next-smaller : goal.loop-next-smaller
+loop-next-smaller c =
+    let set = c.args.self.now in
+    let next = c.in-Some.ensures (rule_days set) (after_rule set c.loop-next.last _ c.next_after.ensures.value) in
+    omega (arith, is-after c.loop-next.last c.in-Some.next next.beyond, c.day_number.ensures.in_range)
 
 pub returns-clause-value : goal.returns-clause-value
 returns-clause-value c =
     let set = c.args.self.now in
     let at = c.loop-next in
-    is_next_day (is_in_set set) c.args.date None
-    (ended (is_in_set set) (candidates set) (is_listed set.exceptions.now) (leaves set) (c.args.date + 1) (at.last + 1) (last_day + 1) at.invariant.none c.in_default.ensures)
+    none_after set c.args.date
+    (ended (is_past nat_cmp true) (next_days set) (next_candidates set) (is_listed set.exceptions.now) c.args.date at.last (λ k. refl) at.invariant
+    (c.in_default.ensures (rule_days set) (after_rule set at.last _ c.next_after.ensures.value)))

@@ -3,8 +3,7 @@
 ghost use Rattle.std.specs.Prelude.{◌≡◌};
 
 use cal_datetime::OffsetDateTime;
-use cal_recurrence::{SetInstants, SetLine, SetParts, ZonedSet};
-use cal_zone::Zone;
+use cal_recurrence::{CountedZonedSet, SetInstants, SetLine, SetParts, ZonedSet};
 use cal_zone::laws::one_local;
 
 /// The results of two calls.
@@ -23,8 +22,21 @@ fn contains(set: &ZonedSet<'_>, moment: OffsetDateTime) -> Twice<bool>
     (set.contains(moment), set.contains(moment))
 }
 
-fn instants(parts: &SetParts<'_>, zone: &Zone<'_>) -> Twice<Result<SetInstants, SetLine>>
+fn first_from(set: &ZonedSet<'_>, moment: OffsetDateTime) -> Twice<Option<OffsetDateTime>>
     ensures { result.0 ≡ result.1 }
 {
-    (parts.instants(zone), parts.instants(zone))
+    one_local(set.zone);
+    (set.first_from(moment), set.first_from(moment))
+}
+
+fn counted_contains(set: &mut CountedZonedSet<'_>, moment: OffsetDateTime) -> Twice<bool>
+    ensures { result.0 ≡ result.1 }
+{
+    (set.contains(moment), set.contains(moment))
+}
+
+fn instants(parts: &SetParts<'_>) -> Twice<Result<SetInstants, SetLine>>
+    ensures { result.0 ≡ result.1 }
+{
+    (parts.instants(), parts.instants())
 }

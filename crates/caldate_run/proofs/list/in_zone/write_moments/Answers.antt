@@ -4,6 +4,7 @@ use Rattle.std.proofs.KnownBytes.{Appends-nil, Appends-trans}
 use Rattle.cal_datetime.specs.OffsetDateTime.{instant}
 use Rattle.cal_recurrence.specs.Occurrences.{nanoseconds_left}
 use Rattle.cal_recurrence.proofs.ZonedSearch.{fewer-left}
+use Rattle.cal_recurrence.specs.ZonedSet.{IsNextAfter, Occurs}
 use Rattle.caldate_run.specs.Calls.Writes.{no_more}
 use Rattle.caldate_run.specs.Recurring.{AreNextIn, IsEndIn, moment_line}
 use Rattle.caldate_run.specs.Runs.{IsOfWrite}
@@ -15,7 +16,7 @@ use Rattle.caldate_run.proofs.list.in_zone.write_moments.Goals as goal
 
 pub loop-moment-init : goal.loop-moment-init
 loop-moment-init g c =
-    (([], instant c.args.first -ℤ pos 1, [], refl, c.first_from-next.ensures, sym c.new-buffer.ensures, Appends-nil _), no_more _)
+    (([], instant c.args.first -ℤ pos 1, [], refl, c.first_from-next.ensures.value, sym c.new-buffer.ensures, Appends-nil _), (no_more _, c.first_from-next.ensures.same))
 
 pub returns-in_err-make_room-clause-lists : goal.returns-in_err-make_room-clause-lists
 returns-in_err-make_room-clause-lists g c =
@@ -40,17 +41,17 @@ loop-moment-preserved g c =
         instant moment,
         inv.2 ++ room.0,
         one_more_in c.args.set.now c.args.last (instant c.args.first -ℤ pos 1) inv.1 inv.0 moment inv.3 next,
-        c.next_after-next.ensures,
+        subst (λ s. IsNextAfter (Occurs s) (instant moment) c.next_after-next.result) c.loop-moment.invariant.1.1 c.next_after-next.ensures.value,
         one_line_more moment_line inv.0 moment (inv.2 ++ room.0) c.make_room.new.buffer whole ∙ ap (λ l. inv.2 ++ room.0 ++ l) (sym c.push_moment.ensures),
         Appends-trans _ _ _ _ _ inv.6 room.2,
       ),
-      writes_then _ _ _ _ _ c.loop-moment.invariant.1 c.in_ok-make_room.ensures.writes,
+      (writes_then _ _ _ _ _ c.loop-moment.invariant.1.0 c.in_ok-make_room.ensures.writes, c.next_after-next.ensures.same ∙ c.loop-moment.invariant.1.1),
     )
 
 pub loop-moment-smaller : goal.loop-moment-smaller
 loop-moment-smaller g c =
     subst (λ f. nanoseconds_left c.next_after-next.result < nanoseconds_left f) (sym c.in-Some.ensures.0)
-    (fewer-left c.args.set.now c.in-Some.moment c.next_after-next.result c.next_after-next.ensures)
+    (fewer-left c.loop-moment.set c.in-Some.moment c.next_after-next.result c.next_after-next.ensures.value)
 
 pub returns-clause-lists : goal.returns-clause-lists
 returns-clause-lists g c =

@@ -1,7 +1,7 @@
 use Rattle.std.proofs.Common.{◌∙◌, arith, subst, sym}
 use Rattle.std.proofs.lemmas.Grind.{common_steps}
 use Rattle.cal_datetime.specs.OffsetDateTime.{instant}
-use Rattle.cal_recurrence.specs.ZonedSet.{IsFirstAfter, Means, NoneAfter}
+use Rattle.cal_recurrence.specs.ZonedSet.{IsFirstAfter, Occurs, NoneAfter}
 use Rattle.cal_c.specs.Moments.{IsMoment}
 use Rattle.cal_c.specs.TextSets.{before, no_moment}
 use Rattle.cal_c.proofs.Recurring.{kept_more, written_more}
@@ -16,7 +16,7 @@ returns-in_default c =
       fits = omega arith;
       valid = kept.valid;
       moments = kept.written;
-      all = λ less. subst (λ s. NoneAfter (Means s) (before x c.loop-index.moments c.loop-index.index)) kept.same (subst (NoneAfter (Means c.loop-index.set)) kept.last c.in_default.ensures.value);
+      all = λ less. subst (λ s. NoneAfter (Occurs s) (before x c.loop-index.moments c.loop-index.index)) kept.same (subst (NoneAfter (Occurs c.loop-index.set)) kept.last c.in_default.ensures.value);
       others = kept.others;
     }
 
@@ -28,9 +28,9 @@ loop-index-preserved c =
     let ms = c.loop-index.moments in
     let index = c.loop-index.index in
     let m = c.c_moment.result in
-    let first = subst (λ s. IsFirstAfter (Means s) (before x ms index) c.in-Some.moment) kept.same
-    (subst (λ y. IsFirstAfter (Means c.loop-index.set) y c.in-Some.moment) kept.last c.in-Some.ensures.value) in
-    let here = subst (IsFirstAfter (Means set) (before x ms index)) (sym c.c_moment.ensures.value) first in
+    let first = subst (λ s. IsFirstAfter (Occurs s) (before x ms index) c.in-Some.moment) kept.same
+    (subst (λ y. IsFirstAfter (Occurs c.loop-index.set) y c.in-Some.moment) kept.last c.in-Some.ensures.value) in
+    let here = subst (IsFirstAfter (Occurs set) (before x ms index)) (sym c.c_moment.ensures.value) first in
     record {
       same = c.in-Some.ensures.same ∙ kept.same;
       room = grind (arith, common_steps);

@@ -1,6 +1,6 @@
 use Rattle.std.proofs.Common.{◌≡◌, ℕ, ◌<◌, ◌≤◌, get_or, length}
 use Rattle.cal_datetime.specs.OffsetDateTime.{instant}
-use Rattle.cal_recurrence.specs.ZonedSet.{IsFirstAfter, Means}
+use Rattle.cal_recurrence.specs.ZonedSet.{IsFirstAfter, Occurs}
 use Rattle.cal_c.specs.Moments.{local_and_offset_in, IsMoment}
 use Rattle.cal_c.specs.TextSets.{before, no_moment}
 use Rattle.cal_c.proofs.schedule.recurrences.moments.write_moments.Given as goal
@@ -11,6 +11,6 @@ invariant-loop-index l = record {
   room : length l.moments ≡ length l.initial.moments;
   last : instant l.last ≡ before (instant l.fn.after) l.moments l.index;
   valid : (k : ℕ) → k < l.index → IsMoment (get_or l.moments k no_moment);
-  written : (k : ℕ) → k < l.index → IsFirstAfter (Means l.fn.set) (before (instant l.fn.after) l.moments k) (local_and_offset_in (get_or l.moments k no_moment));
+  written : (k : ℕ) → k < l.index → IsFirstAfter (Occurs l.fn.set) (before (instant l.fn.after) l.moments k) (local_and_offset_in (get_or l.moments k no_moment));
   others : (k : ℕ) → l.index ≤ k → get_or l.moments k no_moment ≡ get_or l.initial.moments k no_moment;
 }

@@ -1,0 +1,72 @@
+use Rattle.std.proofs.Common.{◌+◌, ◌+ℤ◌, sym, subst, Some, None}
+use Rattle.std.specs.Prelude.{unsigned_abs}
+use Rattle.std.proofs.lemmas.Int.{to_z-of_z}
+use Rattle.cal_datetime.specs.OffsetDateTime.{unix_epoch}
+use Rattle.cal_recurrence.specs.DateTimeSet.{is_in_set}
+use Rattle.cal_recurrence.specs.ZonedSet.{IsNextAfter, IsNextReading, MeansAt}
+use Rattle.cal_recurrence.proofs.DateTimeSets.{of-list}
+use Rattle.cal_recurrence.proofs.ZonedSearch.{begins, candidate, empty, ends, is-at, none-left, step, stops, up-to_next, Covered}
+use Rattle.cal_recurrence.proofs.zoned_set.ZonedSet.first_meant.Goals as goal
+
+pub returns-in_default : goal.returns-in_default
+returns-in_default c =
+    let set = c.args.self.now in
+    let start = c.args.start in
+    let n = unsigned_abs start in
+    empty set start (unix_epoch +ℤ c.args.after) c.requires c.date.ensures.in_range
+    (none-left set (is_in_set set.readings) n (λ z e. e) (of-list (is_in_set set.readings) n None c.in_default.ensures))
+
+pub moment_after-first-requires : goal.moment_after-first-requires
+moment_after-first-requires c =
+    let set = c.args.self.now in
+    let n = unsigned_abs c.args.start in
+    let reading = c.in-Some.reading in
+    let at : IsNextReading set n reading =
+    is-at set (is_in_set set.readings) n reading (candidate set.readings) (λ z e. e) (of-list (is_in_set set.readings) n (Some reading) c.in-Some.ensures) in
+    at.on
+
+pub loop-next-init : goal.loop-next-init
+loop-next-init c =
+    let set = c.args.self.now in
+    let start = c.args.start in
+    let n = unsigned_abs start in
+    let reading = c.in-Some.reading in
+    let at : IsNextReading set n reading =
+    is-at set (is_in_set set.readings) n reading (candidate set.readings) (λ z e. e) (of-list (is_in_set set.readings) n (Some reading) c.in-Some.ensures) in
+    record {
+      covered = subst (λ a. IsNextAfter (Covered set reading) (unix_epoch +ℤ a) c.moment_after-first.result) (sym (to_z-of_z _ c.args.after c.ranges.after))
+          (begins set start (unix_epoch +ℤ c.args.after) reading c.moment_after-first.result c.requires c.date.ensures.in_range at
+          (subst (λ a. IsNextAfter (MeansAt set reading) (unix_epoch +ℤ a) c.moment_after-first.result) (to_z-of_z _ c.args.after c.ranges.after) c.moment_after-first.ensures));
+      range = at.range;
+    }
+
+pub loop-next-preserved : goal.loop-next-preserved
+loop-next-preserved c =
+    let set = c.args.self.now in
+    let last = c.loop-next.last in
+    let n = c.in-Some-next_reading.next in
+    let at : IsNextReading set (unsigned_abs last + 1) n = c.in-Some-next_reading.ensures in
+    record {
+      covered = subst (IsNextAfter (Covered set n) _) (sym c.earlier-first.ensures)
+          (step set last n _ c.loop-next.first c.moment_after-moment.result c.loop-next.invariant.range at c.loop-next.invariant.covered c.moment_after-moment.ensures);
+      range = at.range;
+    }
+
+pub returns-then-is_past : goal.returns-then-is_past
+returns-then-is_past c =
+    let set = c.args.self.now in
+    let last = c.loop-next.last in
+    let first = c.loop-next.first in
+    let n = c.in-Some-next_reading.next in
+    let x = unix_epoch +ℤ c.args.after in
+    stops set n x first (up-to_next set last n x first c.loop-next.invariant.range c.in-Some-next_reading.ensures
+    (subst (λ a. IsNextAfter (Covered set last) (unix_epoch +ℤ a) first) (to_z-of_z _ c.args.after c.ranges.after) c.loop-next.invariant.covered))
+    (c.is_past.ensures c.if-is_past.true)
+
+pub returns-in_default-next_reading : goal.returns-in_default-next_reading
+returns-in_default-next_reading c =
+    let set = c.args.self.now in
+    let last = c.loop-next.last in
+    let first = c.loop-next.first in
+    ends set last (unix_epoch +ℤ c.args.after) first c.loop-next.invariant.range c.in_default-next_reading.ensures
+    (subst (λ a. IsNextAfter (Covered set last) (unix_epoch +ℤ a) first) (to_z-of_z _ c.args.after c.ranges.after) c.loop-next.invariant.covered)

@@ -1,0 +1,5 @@
+use Rattle.cal_recurrence.proofs.ZonedSearch.{next-one}
+use Rattle.cal_schedule_tests.proofs.tests.zones.occurrences.one_answer.first_from.Goals as goal
+
+pub returns : goal.returns
+returns c = next-one c.args.set.now c.one_local.ensures _ _ _ c.first_from.ensures c.first_from-2.ensures
