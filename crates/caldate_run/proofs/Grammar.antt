@@ -205,6 +205,10 @@ map_or_none f o d y e h = rw e h
 pub map_or_some : {X Y : Type 0} (f : X → Y) (o : Option X) (d y : Y) (x : X) → o ≡ Some x → f x ≡ y → option_map_or f o d ≡ y
 map_or_some f o d y x e h = rw e h
 
+pub map_or_case : {P X Y : Type 0} (f : X → Y) (o : Option X) (d y : Y) → option_map_or f o d ≡ y → ((x : X) → o ≡ Some x → f x ≡ y → P) → (o ≡ None → d ≡ y → P) → P
+map_or_case f None d y h g k = k refl h
+map_or_case f (Some x) d y h g k = g x refl h
+
 -- ---- tests
 pub not_none : {X : Type 0} (a : Bool) (o : Option X) (x : X) → o ≡ Some x → (a && is_none o) ≡ false
 not_none true o x e = rw e refl

@@ -9,6 +9,7 @@ pub mod Ends
 pub mod Known
 pub mod Lacks
 pub mod Laters
+pub mod Tables
 pub mod Takes
 pub mod Texts
 pub mod Numbers
@@ -54,6 +55,7 @@ mod DigitStarts
 pub mod Scans
 pub mod OneScan
 pub mod Grammar
+pub mod GrammarNames
 mod GrammarRequests
 mod GrammarLists
 mod GrammarOptions

@@ -1,7 +1,7 @@
 -- The command that the arguments give, or the first invalid word and its expected kind.
 use denote.Ref.{Bor}
 use Rattle.std.specs.Prelude.{ℕ, ◌+◌, ◌-◌, nat_le, nat_lt, slice_index, max, not, ◌&&◌, ◌||◌, Bool, true, false, is_none, is_some, unwrap_or, ℤ, pos, neg_ℤ, ◌*ℤ◌, int_le, nat_abs, List, [], ◌∷◌, ◌++◌, ◌==◌, length, take, drop, set, map, Option, Some, None, option_map, option_and_then, ok_or, Result, Ok, Err, slice_get, position, bytes_eq, codes, if◌then◌else◌, ◌*◌}
-use Rattle.std.specs.List.{slice_split}
+use Rattle.std.specs.List.{list_any, slice_split}
 use Rattle.std.specs.Option.{option_map_or}
 use Rattle.std.specs.Result.{result_ok}
 use Rattle.std.specs.Str.{all_ascii_digits}
@@ -31,9 +31,15 @@ use Rattle.caldate_run.specs.Targets.{reads_other, target_name}
 use Rattle.caldate_run.specs.Zones.{is_zone_like, workdays_of, zone_of}
 use Rattle.caldate_run.specs.declared.on_invalid.OnInvalid.{OnInvalid}
 use Rattle.caldate_run.specs.declared.on_invalid.OnInvalid.TheVariants as invalid
+use Rattle.caldate_run.specs.declared.args.names.CommandName.{CommandName}
+use Rattle.caldate_run.specs.declared.args.names.CommandName.TheVariants as named
 use Rattle.caldate_run.specs.declared.args.names.NamedReader.{NamedReader}
 use Rattle.caldate_run.specs.declared.args.names.NamedReader.TheVariants as known
-use Rattle.caldate_run.specs.declared.args.names.TheConstants.{FORMS, MODES, PERIODS, POLICIES, READERS, ROUNDINGS, UNITS}
+use Rattle.caldate_run.specs.declared.args.names.OptionName.{OptionName}
+use Rattle.caldate_run.specs.declared.args.names.OptionName.TheVariants as option
+use Rattle.caldate_run.specs.declared.args.names.TheConstants.{COMMANDS, FORMS, MODES, OPTIONS, PERIODS, POLICIES, READERS, ROUNDINGS, UNITS, VERBS}
+use Rattle.caldate_run.specs.declared.args.names.Verb.{Verb}
+use Rattle.caldate_run.specs.declared.args.names.Verb.TheVariants as verb
 use Rattle.caldate_run.specs.declared.args.options.Options.{Options}
 use Rattle.caldate_run.specs.declared.args.options.OptionsAfter.{OptionsAfter}
 use Rattle.caldate_run.specs.declared.args.options.OptionsAfter.TheVariants.{Continued, Ended, Invalid}
@@ -281,6 +287,10 @@ abbrev pub start_at : List (List ℕ) → ℕ → Result Request UsageError
 start_at words at =
     option_map_or (floor_at words (at + 1)) (option_and_then minutes_of (slice_get words at)) (only_at words at start_of expected.StartPeriod)
 
+-- `end PERIOD`
+abbrev pub end_at : List (List ℕ) → ℕ → Result Request UsageError
+end_at words at = and_then (only_at words at period_of expected.Period) (λ p. Ok (Move (move.End p)))
+
 -- `OFFSET`, `ZONE`
 abbrev pub place_at : Meanings → List (List ℕ) → ℕ → Result Place UsageError
 place_at meanings words at =
@@ -291,28 +301,29 @@ place_at meanings words at =
 abbrev pub expected_verb : ℕ → Expected
 expected_verb at = if at == 0 then expected.Start else expected.Verb
 
--- The request of `start`, `end`, `on-or-after`, `on-or-before`, `at` or `keep`.
-abbrev pub further_request_at : Option LocalAndOffset → Meanings → List (List ℕ) → ℕ → List ℕ → Result Request UsageError
-further_request_at now meanings words at word =
-    if bytes_eq word (codes "start") then start_at words (at + 1) else
-    if bytes_eq word (codes "end") then and_then (only_at words (at + 1) period_of expected.Period) (λ p. Ok (Move (move.End p))) else
-    if bytes_eq word (codes "on-or-after") then and_then (only_at words (at + 1) weekday_of expected.Weekday) (λ w. Ok (Move (move.OnOrAfter w))) else
-    if bytes_eq word (codes "on-or-before") then and_then (only_at words (at + 1) weekday_of expected.Weekday) (λ w. Ok (Move (move.OnOrBefore w))) else
-    if bytes_eq word (codes "at") then and_then (place_at meanings words (at + 1)) (λ place. Ok (At place)) else
-    if bytes_eq word (codes "keep") then and_then (bounds_at now meanings words (at + 1)) (λ bounds. Ok (Keep bounds)) else
-    Err (usage_error_at at (expected_verb at))
+-- The verb with a name.
+unfoldable pub verb_of : List ℕ → Option Verb
+verb_of word = value_named word (map (λ row. (row.0.now, row.1)) VERBS)
+
+-- The request of a verb, whose arguments begin at the index.
+abbrev pub request_of : Option LocalAndOffset → Meanings → List (List ℕ) → ℕ → Verb → Result Request UsageError
+request_of now meanings words at verb.To = only_at words at (to_of meanings) expected.Form
+request_of now meanings words at verb.Add = amount_at words at
+request_of now meanings words at verb.Next = and_then (occurrence_at words at) (λ o. Ok (Move (move.Next o.0 o.1)))
+request_of now meanings words at verb.Last = and_then (occurrence_at words at) (λ o. Ok (Move (move.Last o.0 o.1)))
+request_of now meanings words at verb.Until = and_then (target_at now meanings words at) (λ t. Ok (Until t.0 t.1))
+request_of now meanings words at verb.Since = and_then (target_at now meanings words at) (λ t. Ok (Since t.0 t.1))
+request_of now meanings words at verb.Start = start_at words at
+request_of now meanings words at verb.End = end_at words at
+request_of now meanings words at verb.OnOrAfter = and_then (only_at words at weekday_of expected.Weekday) (λ w. Ok (Move (move.OnOrAfter w)))
+request_of now meanings words at verb.OnOrBefore = and_then (only_at words at weekday_of expected.Weekday) (λ w. Ok (Move (move.OnOrBefore w)))
+request_of now meanings words at verb.At = and_then (place_at meanings words at) (λ place. Ok (At place))
+request_of now meanings words at verb.Keep = and_then (bounds_at now meanings words at) (λ bounds. Ok (Keep bounds))
 
 -- The request whose verb is the word at the index.
 abbrev pub request_at : Option LocalAndOffset → Meanings → List (List ℕ) → ℕ → Result Request UsageError
 request_at now meanings words at =
-    and_then (word_as words at Some (expected_verb at)) (λ word.
-    if bytes_eq word (codes "to") then only_at words (at + 1) (to_of meanings) expected.Form else
-    if bytes_eq word (codes "add") then amount_at words (at + 1) else
-    if bytes_eq word (codes "next") then and_then (occurrence_at words (at + 1)) (λ o. Ok (Move (move.Next o.0 o.1))) else
-    if bytes_eq word (codes "last") then and_then (occurrence_at words (at + 1)) (λ o. Ok (Move (move.Last o.0 o.1))) else
-    if bytes_eq word (codes "until") then and_then (target_at now meanings words (at + 1)) (λ t. Ok (Until t.0 t.1)) else
-    if bytes_eq word (codes "since") then and_then (target_at now meanings words (at + 1)) (λ t. Ok (Since t.0 t.1)) else
-    further_request_at now meanings words at word)
+    and_then (word_as words at verb_of (expected_verb at)) (request_of now meanings words (at + 1))
 
 -- ---- lists: `from A to B`, and a step or a rule
 -- The day of a date. A moment has none.
@@ -413,9 +424,6 @@ abbrev pub field_in : List ℕ → Option FieldNumbers
 field_in value = if is_name value then Some (record { first = 1; joined = 0 }) else field_numbers_of value
 
 -- Up to four fields may be given.
-abbrev pub has_room_for_field : Options → Bool
-has_room_for_field options = is_none options.fields || nat_lt (length options.more) 3
-
 abbrev pub with_named : Options → Option (List ℕ) → FieldNumbers → Option Options
 with_named options name field =
     if is_none options.fields then Some (record options { fields = Some field; names = set options.names 0 name }) else
@@ -471,96 +479,113 @@ abbrev pub reader_of : Meanings → List ℕ → Option Reader
 reader_of meanings word = if is_format word then option_and_then reader_with (meanings word).items else reader_named word
 
 -- Up to four forms may be given.
-abbrev pub has_room : List Reader → Bool
-has_room readers = nat_lt (length readers) 4
-
 abbrev pub with_reader : Options → Reader → Option Options
-with_reader options form = if has_room options.readers then Some (record options { readers = options.readers ++ form ∷ [] }) else None
+with_reader options form = if nat_lt (length options.readers) 4 then Some (record options { readers = options.readers ++ form ∷ [] }) else None
 
--- `--csv`, `--scan` or `--header`, if it is not given yet.
-abbrev pub is_flag : Options → List ℕ → Bool
-is_flag options word =
-    if bytes_eq word (codes "--csv") then not options.csv else
-    if bytes_eq word (codes "--scan") then not options.scan else
-    bytes_eq word (codes "--header") && not options.header
+-- The option with a name.
+unfoldable pub option_of : List ℕ → Option OptionName
+option_of word = value_named word (map (λ row. (row.0.now, row.1)) OPTIONS)
 
-abbrev pub with_flag : Options → List ℕ → Options
-with_flag options word =
-    if bytes_eq word (codes "--csv") then record options { csv = true } else
-    if bytes_eq word (codes "--scan") then record options { scan = true } else
-    record options { header = true }
+-- `--csv`, `--header` and `--scan` take no value.
+abbrev pub takes_value : OptionName → Bool
+takes_value option.Csv = false
+takes_value option.Header = false
+takes_value option.Scan = false
+takes_value other = true
 
--- The value that comes after the word, if the word is an option that is not given yet.
-abbrev pub value_of : Options → List ℕ → Option Expected
-value_of options word =
-    if bytes_eq word (codes "--invalid") && is_none options.on_invalid then Some expected.Invalid else
-    if bytes_eq word (codes "--field") && has_room_for_field options then Some expected.FieldNumber else
-    if bytes_eq word (codes "--append") && is_none options.append then Some expected.Column else
-    if bytes_eq word (codes "--separator") && is_none options.separator then Some expected.Separator else
-    if bytes_eq word (codes "--skip") && is_none options.skip then Some expected.Skip else
-    if bytes_eq word (codes "--read") && has_room options.readers then Some expected.Reading else
-    if bytes_eq word (codes "--assume") && is_none options.offset then Some expected.Offset else
-    if bytes_eq word (codes "--assume-year") && is_none options.year then Some expected.Year else
-    if bytes_eq word (codes "--zone") && is_none options.zone then Some expected.Zone else
-    if bytes_eq word (codes "--ambiguous") && is_none options.policy then Some expected.Policy else
-    if bytes_eq word (codes "--holidays") && is_none options.workdays then Some expected.Holidays else
-    None
+-- The option can be given: `--field` and `--read` up to four times, and any other once.
+abbrev pub has_room_for : Options → OptionName → Bool
+has_room_for options option.Invalid = is_none options.on_invalid
+has_room_for options option.Field = is_none options.fields || nat_lt (length options.more) 3
+has_room_for options option.Append = is_none options.append
+has_room_for options option.Csv = not options.csv
+has_room_for options option.Header = not options.header
+has_room_for options option.Scan = not options.scan
+has_room_for options option.Separator = is_none options.separator
+has_room_for options option.Skip = is_none options.skip
+has_room_for options option.Read = nat_lt (length options.readers) 4
+has_room_for options option.Assume = is_none options.offset
+has_room_for options option.AssumeYear = is_none options.year
+has_room_for options option.Zone = is_none options.zone
+has_room_for options option.Ambiguous = is_none options.policy
+has_room_for options option.Holidays = is_none options.workdays
+
+-- The option that the word names, if it can be given.
+abbrev pub option_in : Options → List ℕ → Option OptionName
+option_in options word = option_and_then (λ option. if has_room_for options option then Some option else None) (option_of word)
+
+-- The value that the option takes.
+abbrev pub expected_value : OptionName → Expected
+expected_value option.Invalid = expected.Invalid
+expected_value option.Field = expected.FieldNumber
+expected_value option.Append = expected.Column
+expected_value option.Separator = expected.Separator
+expected_value option.Skip = expected.Skip
+expected_value option.Read = expected.Reading
+expected_value option.Assume = expected.Offset
+expected_value option.AssumeYear = expected.Year
+expected_value option.Zone = expected.Zone
+expected_value option.Ambiguous = expected.Policy
+expected_value option.Holidays = expected.Holidays
+expected_value other = expected.End
+
+-- The options with one more, if its value is valid. One that takes no value ignores it.
+abbrev pub with_value : Meanings → Options → OptionName → List ℕ → Option Options
+with_value meanings options option.Invalid value = option_map (λ mode. record options { on_invalid = Some mode }) (invalid_of value)
+with_value meanings options option.Field value = option_and_then (with_named options (name_in value)) (field_in value)
+with_value meanings options option.Append value = Some (record options { append = Some value })
+with_value meanings options option.Csv value = Some (record options { csv = true })
+with_value meanings options option.Header value = Some (record options { header = true })
+with_value meanings options option.Scan value = Some (record options { scan = true })
+with_value meanings options option.Separator value = option_map (λ c. record options { separator = Some c }) (byte_of value)
+with_value meanings options option.Skip value = option_map (λ k. record options { skip = Some k }) (skip_of value)
+with_value meanings options option.Read value = option_and_then (with_reader options) (reader_of meanings value)
+with_value meanings options option.Assume value = option_map (λ o. record options { offset = Some o }) (offset_of value)
+with_value meanings options option.AssumeYear value = option_map (λ y. record options { year = Some y }) (year_of value)
+with_value meanings options option.Zone value = option_map (λ zone. record options { zone = Some zone }) (zone_of meanings value)
+with_value meanings options option.Ambiguous value = option_map (λ p. record options { policy = Some p }) (policy_of value)
+with_value meanings options option.Holidays value = option_map (λ week. record options { workdays = Some week }) (workdays_of meanings value)
+
+-- The same for the value in the word at the index.
+abbrev pub value_at : Meanings → Options → OptionName → ℕ → List ℕ → Result Options UsageError
+value_at meanings options option at value = ok_or (with_value meanings options option value) (usage_error_at at (expected_value option))
+
+-- `NAME=VALUE`
+abbrev pub is_joined : List ℕ → Bool
+is_joined word = is_some (position (λ b. b == 61) word)
 
 -- The word is an option, whatever the others are.
 abbrev pub is_option : List ℕ → Bool
-is_option word = is_flag no_options word || is_some (value_of no_options (name_of word))
-
--- The options, with this value for the option that needs it.
-abbrev pub with_value : Meanings → Options → List ℕ → Expected → Option Options
-with_value meanings options value expected.Invalid = option_map (λ mode. record options { on_invalid = Some mode }) (invalid_of value)
-with_value meanings options value expected.FieldNumber = option_and_then (with_named options (name_in value)) (field_in value)
-with_value meanings options value expected.Column = Some (record options { append = Some value })
-with_value meanings options value expected.Separator = option_map (λ c. record options { separator = Some c }) (byte_of value)
-with_value meanings options value expected.Skip = option_map (λ k. record options { skip = Some k }) (skip_of value)
-with_value meanings options value expected.Reading = option_and_then (with_reader options) (reader_of meanings value)
-with_value meanings options value expected.Offset = option_map (λ o. record options { offset = Some o }) (offset_of value)
-with_value meanings options value expected.Year = option_map (λ y. record options { year = Some y }) (year_of value)
-with_value meanings options value expected.Zone = option_map (λ zone. record options { zone = Some zone }) (zone_of meanings value)
-with_value meanings options value expected.Policy = option_map (λ p. record options { policy = Some p }) (policy_of value)
-with_value meanings options value expected.Holidays = option_map (λ week. record options { workdays = Some week }) (workdays_of meanings value)
-with_value meanings options value other = None
-
--- The options, with the option and its value in this word.
-abbrev pub with_joined : Meanings → Options → ℕ → List ℕ → Result Options UsageError
-with_joined meanings options at word =
-    option_map_or (λ what. ok_or (with_value meanings options (value_in word) what) (usage_error_at at what)) (value_of options (name_of word)) (Ok options)
+is_option word = option_map_or (λ option. takes_value option || not (is_joined word)) (option_of (name_of word)) false
 
 -- The options at the front of the words, the first of which has index `at`, and the index of the
 -- word after them. The first word may be the value of the option before it.
-abbrev pub options_from : Meanings → Option Expected → Options → ℕ → List (List ℕ) → Result (Options × ℕ) UsageError
+abbrev pub options_from : Meanings → Option OptionName → Options → ℕ → List (List ℕ) → Result (Options × ℕ) UsageError
 options_from meanings None options at [] = Ok (options, at)
 options_from meanings None options at (word ∷ words) =
-    if is_flag options word then options_from meanings None (with_flag options word) (at + 1) words else
-    if is_some (value_of options word) then options_from meanings (value_of options word) options (at + 1) words else
-    if is_some (value_of options (name_of word)) then and_then (with_joined meanings options at word) (λ more. options_from meanings None more (at + 1) words) else
-    Ok (options, at)
-options_from meanings (Some what) options at [] = Err (usage_error_at at what)
-options_from meanings (Some what) options at (word ∷ words) =
-    option_map_or (λ more. options_from meanings None more (at + 1) words) (with_value meanings options word what) (Err (usage_error_at at what))
+    option_map_or (λ option.
+    if takes_value option && not (is_joined word) then options_from meanings (Some option) options (at + 1) words else
+    if is_joined word && not (takes_value option) then Ok (options, at) else
+    and_then (value_at meanings options option at (value_in word)) (λ more. options_from meanings None more (at + 1) words))
+    (option_in options (name_of word)) (Ok (options, at))
+options_from meanings (Some option) options at [] = Err (usage_error_at at (expected_value option))
+options_from meanings (Some option) options at (word ∷ words) =
+    and_then (value_at meanings options option at word) (λ more. options_from meanings None more (at + 1) words)
 
 -- The options after a word at an index, and after the words that follow it.
 abbrev pub options_after : Meanings → OptionsAfter → ℕ → List (List ℕ) → Result (Options × ℕ) UsageError
-options_after meanings (Continued options what) at words = options_from meanings what options (at + 1) words
+options_after meanings (Continued options given) at words = options_from meanings given options (at + 1) words
 options_after meanings (Ended options) at words = Ok (options, at)
 options_after meanings (Invalid what) at words = Err (usage_error_at at what)
 
 -- ---- the whole: `--help`, `--version`, a list, or a request, perhaps after options
--- The word asks for the help page.
-abbrev pub asks_for_help : List ℕ → Bool
-asks_for_help word = bytes_eq word (codes "--help") || bytes_eq word (codes "-h") || bytes_eq word (codes "help")
-
--- The words that begin like this give no command that reads an input.
-abbrev pub reads_no_input : List ℕ → Bool
-reads_no_input word = asks_for_help word || bytes_eq word (codes "--version") || bytes_eq word (codes "list") || bytes_eq word (codes "--date")
+-- The command with a name. A command without one reads an input.
+unfoldable pub command_of : List ℕ → Option CommandName
+command_of word = value_named word (map (λ row. (row.0.now, row.1)) COMMANDS)
 
 abbrev pub reads_input : List (List ℕ) → Bool
 reads_input [] = true
-reads_input (word ∷ words) = not (reads_no_input word)
+reads_input (word ∷ words) = is_none (command_of word)
 
 -- The fields that the options select. The default separator is a tab, or a comma in CSV.
 abbrev pub field_of : Options → Option Field
@@ -587,61 +612,40 @@ abbrev pub is_yearless : Reader → Bool
 is_yearless (reader.Yearless format) = true
 is_yearless form = false
 
-abbrev pub any_yearless : List Reader → Bool
-any_yearless [] = false
-any_yearless (form ∷ forms) = is_yearless form || any_yearless forms
-
--- The texts of the format have no offset, or have one.
-abbrev pub lacks_offset : ValueFormat → Bool
-lacks_offset (format.DateTimes items) = true
-lacks_offset other = false
-
-abbrev pub shows_offset : ValueFormat → Bool
-shows_offset (format.Moments items) = true
-shows_offset other = false
-
 -- The form has no offset.
 abbrev pub is_local : Reader → Bool
 is_local reader.Local = true
-is_local (reader.Format format) = lacks_offset format
-is_local (reader.Yearless format) = lacks_offset format
+is_local (reader.Format (format.DateTimes items)) = true
+is_local (reader.Yearless (format.DateTimes items)) = true
 is_local form = false
-
-abbrev pub any_local : List Reader → Bool
-any_local [] = false
-any_local (form ∷ forms) = is_local form || any_local forms
 
 -- The form has an offset of its own.
 abbrev pub has_own : Reader → Bool
 has_own (reader.Named read.Any) = true
 has_own (reader.Named (read.Unix unit)) = true
 has_own (reader.Spelled spelling) = true
-has_own (reader.Format format) = shows_offset format
-has_own (reader.Yearless format) = shows_offset format
+has_own (reader.Format (format.Moments items)) = true
+has_own (reader.Yearless (format.Moments items)) = true
 has_own form = false
-
-abbrev pub any_own : List Reader → Bool
-any_own [] = false
-any_own (form ∷ forms) = has_own form || any_own forms
 
 -- The requirement of `--zone` that the options don't meet: no `--assume`, and only forms without an
 -- offset.
 abbrev pub conflict_with_zone : Options → Option Expected
 conflict_with_zone options =
     if is_some options.offset then Some expected.OffsetOrZone else
-    if not (any_local options.readers) || any_own options.readers then Some expected.LocalOnly else
+    if not (list_any is_local options.readers) || list_any has_own options.readers then Some expected.LocalOnly else
     None
 
 -- A format without a year and `--assume-year` require each other, and so do a form without an offset
 -- and `--assume` or `--zone`.
 abbrev pub conflict_with_readers : Options → Option Expected
 conflict_with_readers options =
-    if any_yearless options.readers && is_none options.year then Some expected.AssumeYear else
-    if is_some options.year && not (any_yearless options.readers) then Some expected.Yearless else
+    if list_any is_yearless options.readers && is_none options.year then Some expected.AssumeYear else
+    if is_some options.year && not (list_any is_yearless options.readers) then Some expected.Yearless else
     if is_some options.policy && is_none options.zone then Some expected.ZoneOption else
     if is_some options.zone then conflict_with_zone options else
-    if any_local options.readers && is_none options.offset then Some expected.Assume else
-    if is_some options.offset && not (any_local options.readers) then Some expected.Local else
+    if list_any is_local options.readers && is_none options.offset then Some expected.Assume else
+    if is_some options.offset && not (list_any is_local options.readers) then Some expected.Local else
     None
 
 -- The option that is missing or excluded: `--scan` excludes fields, and `--separator`, `--csv` and
@@ -736,14 +740,18 @@ once_of now meanings words =
     and_then (word_as words 1 some_text expected.Target) (λ text.
     and_then (filter_at now meanings words 2) (λ filter. Ok (once_command filter)))
 
+-- The command with this name, or a request for the lines of the input.
+abbrev pub command_with : Option ℤ → Meanings → List (List ℕ) → Option CommandName → Result Command UsageError
+command_with now meanings words None = and_then (filter_at now meanings words 0) (λ filter. Ok (lines_command filter))
+command_with now meanings words (Some named.Help) = ended words 1 Help
+command_with now meanings words (Some named.Version) = ended words 1 Version
+command_with now meanings words (Some named.List) = list_of (now_in None now) meanings words
+command_with now meanings words (Some named.Date) = once_of now meanings words
+
 -- The command that the arguments give, or the first invalid word. A single empty argument counts as
 -- no arguments. `now` is the date-time at UTC at which the program started, if the clock was read.
 abbrev pub parse_args : Option ℤ → Meanings → List (List ℕ) → Result Command UsageError
 parse_args now meanings words =
     and_then (word_as words 0 Some expected.Something) (λ first.
     if bytes_eq first [] && ends_at words 1 then Err (usage_error_at 0 expected.Something) else
-    if asks_for_help first then ended words 1 Help else
-    if bytes_eq first (codes "--version") then ended words 1 Version else
-    if bytes_eq first (codes "list") then list_of (now_in None now) meanings words else
-    if bytes_eq first (codes "--date") then once_of now meanings words else
-    and_then (filter_at now meanings words 0) (λ filter. Ok (lines_command filter)))
+    command_with now meanings words (command_of first))

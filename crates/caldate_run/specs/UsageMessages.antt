@@ -18,7 +18,7 @@ use Rattle.caldate_run.specs.ReadZoneErrors.{fault_words}
 use Rattle.caldate_run.specs.Zones.{file_in, is_zone_name, name_in}
 use Rattle.caldate_run.specs.contracts.args.usage_error.Expected.{the_type as expected_type}
 use Rattle.caldate_run.specs.declared.args.messages.TheConstants.{MESSAGES}
-use Rattle.caldate_run.specs.declared.args.names.TheConstants.{FORMATS, FORMS, MODES, PERIODS, POLICIES, READERS, ROUNDINGS, UNITS}
+use Rattle.caldate_run.specs.declared.args.names.TheConstants.{FORMATS, FORMS, MODES, PERIODS, POLICIES, READERS, ROUNDINGS, UNITS, VERBS}
 use Rattle.caldate_run.specs.declared.args.usage_error.UsageError.{UsageError}
 use Rattle.caldate_run.specs.declared.args.usage_error.Expected.{Expected}
 use Rattle.caldate_run.specs.declared.args.usage_error.Expected.TheVariants as expected
@@ -45,6 +45,7 @@ expected_of names = codes "; expected " ++ one_of names
 
 -- The expected words, if the message needs them.
 unfoldable pub expected_phrase : Expected → List ℕ
+expected_phrase expected.Verb = expected_of (map (λ row. row.0.now) VERBS ++ codes "another option" ∷ [])
 expected_phrase expected.Invalid = expected_of (map (λ row. row.0.now) MODES)
 expected_phrase expected.Policy = expected_of (map (λ row. row.0.now) POLICIES)
 expected_phrase expected.Reading =

@@ -7,7 +7,7 @@ ghost use Rattle.caldate_run.specs.Meanings.{AreMeanings, Meanings};
 ghost use Rattle.caldate_run.specs.Moves.{monday_to_friday};
 ghost use Rattle.caldate_run.specs.Zones.{AreOfFiles, is_zone_like, zone_of};
 ghost use Rattle.std.specs.Option.{option_map_or};
-ghost use Rattle.caldate_run.specs.Requests.{amount_at, amount_of, arguments_of, parse_args, clock_of, conflict_with_request, count_at, default_mode, duration_of, filter_at, filter_of, filter_with, floor_at, further_request_at, occurrence_at, lines_command, named_field, once_command, once_of, only_at, place_at, request_at, skip_in, start_at, to_of, unit_at, expected_verb, weekday_of, words_left};
+ghost use Rattle.caldate_run.specs.Requests.{amount_at, amount_of, arguments_of, parse_args, clock_of, conflict_with_request, count_at, default_mode, duration_of, end_at, filter_at, filter_of, filter_with, floor_at, occurrence_at, lines_command, named_field, once_command, once_of, only_at, place_at, request_at, request_of, skip_in, start_at, to_of, unit_at, expected_verb, weekday_of, words_left};
 
 pub mod arguments;
 pub(crate) mod bounds;
@@ -29,13 +29,14 @@ use crate::args::bounds::bounds_at;
 use crate::args::clock_words::now_in;
 use crate::args::formats::to_of;
 use crate::args::listing::list_of;
+use crate::args::names::{CommandName, Verb};
 use crate::args::offset::offset_of;
 use crate::args::options::{
     Options, assumptions_in, conflict_in, field_of, options_of, readers_in,
 };
 use crate::args::spelling::{
-    asks_for_help, minutes_of, minutes_word, parse_i64, parse_u8, period_of, start_of, unit_of,
-    weekday_of,
+    command_of, minutes_of, minutes_word, parse_i64, parse_u8, period_of, start_of, unit_of,
+    verb_of, weekday_of,
 };
 use crate::args::target::target_at;
 use crate::args::usage_error::{Expected, UsageError, usage_error_at};
@@ -67,17 +68,14 @@ pub fn parse_args<'a>(
     let nothing = usage_error_at(0, Expected::Something);
     let first = word_at(words, 0).ok_or(nothing)?;
     if first == b"".as_slice() && ends_at(words, 1) {
-        Err(nothing)
-    } else if asks_for_help(first) {
-        ended(words, 1, Command::Help)
-    } else if first == b"--version".as_slice() {
-        ended(words, 1, Command::Version)
-    } else if first == b"list".as_slice() {
-        list_of(words, &now_in(&None, now), files)
-    } else if first == b"--date".as_slice() {
-        once_of(words, now, files)
-    } else {
-        Ok(lines_command(filter_at(words, Some(words), 0, now, files)?))
+        return Err(nothing);
+    }
+    match command_of(first) {
+        Some(CommandName::List) => list_of(words, &now_in(&None, now), files),
+        Some(CommandName::Date) => once_of(words, now, files),
+        Some(CommandName::Help) => ended(words, 1, Command::Help),
+        Some(CommandName::Version) => ended(words, 1, Command::Version),
+        None => Ok(lines_command(filter_at(words, Some(words), 0, now, files)?)),
     }
 }
 
@@ -200,23 +198,13 @@ fn filter_of<'a>(options: Options<'a>, request: Request<'a>) -> Filter<'a>
         scans: options.scan,
         skip: skip_in(&options),
         assumptions: assumptions_in(&options),
-        workdays: workdays_in(options.workdays),
+        workdays: options.workdays.unwrap_or(moves::workdays()),
         names: options.names,
         more: options.more,
         column: column_of(options.header, options.append),
         readers: readers_in(options.readers),
         clock: clock_of(options.zone, options.policy),
     }
-}
-
-/// Returns the working days. The default is Monday to Friday.
-fn workdays_in<'a>(workdays: Option<Workdays<'a>>) -> Workdays<'a>
-    ensures { result ≡ unwrap_or workdays.entry monday_to_friday }
-{
-    let Some(workdays) = workdays else {
-        return moves::workdays();
-    };
-    workdays
 }
 
 /// Returns the name of a new field in the header, if there is one.
@@ -233,13 +221,10 @@ fn column_of<'a>(header: bool, name: Option<FieldName<'a>>) -> Option<FieldName<
 fn clock_of<'a>(zone: Option<Zone<'a>>, policy: Option<Policy>) -> Option<Clock<'a>>
     ensures { result ≡ clock_of zone.entry policy }
 {
-    match zone {
-        Some(zone) => Some(Clock {
-            zone,
-            policy: policy.unwrap_or(Policy::Compatible),
-        }),
-        None => None,
-    }
+    Some(Clock {
+        zone: zone?,
+        policy: policy.unwrap_or(Policy::Compatible),
+    })
 }
 
 /// Returns how many lines are passed on at the start. A header is the first of them.
@@ -273,55 +258,47 @@ fn request_at<'a>(
     ensures { (meanings : Meanings) → AreMeanings meanings (arguments_of words.now)
         → AreOfFiles files.now meanings → result ≡ request_at now meanings (arguments_of words.now) at }
 {
-    let usage_error = usage_error_at(at, expected_verb(at));
-    let verb = word_at(words, at).ok_or(usage_error)?;
-    if verb == b"to".as_slice() {
-        to_at(words, at + 1)
-    } else if verb == b"add".as_slice() {
-        amount_at(words, at + 1)
-    } else if verb == b"next".as_slice() {
-        let (weekday, count) = occurrence_at(words, at + 1)?;
-        Ok(Request::Move(DayMove::Next(weekday, count)))
-    } else if verb == b"last".as_slice() {
-        let (weekday, count) = occurrence_at(words, at + 1)?;
-        Ok(Request::Move(DayMove::Last(weekday, count)))
-    } else if verb == b"until".as_slice() {
-        let (target, unit) = target_at(words, at + 1, now)?;
-        Ok(Request::Until(target, unit))
-    } else if verb == b"since".as_slice() {
-        let (target, unit) = target_at(words, at + 1, now)?;
-        Ok(Request::Since(target, unit))
-    } else {
-        further_request_at(words, at, verb, now, files)
-    }
+    let verb = word_as(words, at, verb_of, expected_verb(at))?;
+    request_of(verb, words, at + 1, now, files)
 }
 
-/// Parses a request that has one of the other verbs.
-fn further_request_at<'a>(
-    words: &[u8],
+/// Parses the arguments of a verb.
+fn request_of<'a>(
+    verb: Verb,
+    words: &'a [u8],
     at: usize,
-    verb: &[u8],
     now: Option<OffsetDateTime>,
     files: &DataFiles<'a>,
 ) -> Result<Request<'a>, UsageError>
-    requires { at + 5 < 2 ^ 64 }
+    requires { at + 4 < 2 ^ 64 }
     ensures { (meanings : Meanings) → AreMeanings meanings (arguments_of words.now)
-        → AreOfFiles files.now meanings → result ≡ further_request_at now meanings (arguments_of words.now) at verb.now }
+        → AreOfFiles files.now meanings → result ≡ request_of now meanings (arguments_of words.now) at verb }
 {
-    if verb == b"start".as_slice() {
-        start_at(words, at + 1)
-    } else if verb == b"end".as_slice() {
-        Ok(Request::Move(DayMove::End(only_at(words, at + 1, period_of, Expected::Period)?)))
-    } else if verb == b"on-or-after".as_slice() {
-        Ok(Request::Move(DayMove::OnOrAfter(weekday_at(words, at + 1)?)))
-    } else if verb == b"on-or-before".as_slice() {
-        Ok(Request::Move(DayMove::OnOrBefore(weekday_at(words, at + 1)?)))
-    } else if verb == b"at".as_slice() {
-        Ok(Request::At(place_at(words, at + 1, files)?))
-    } else if verb == b"keep".as_slice() {
-        Ok(Request::Keep(bounds_at(words, at + 1, now)?))
-    } else {
-        Err(usage_error_at(at, expected_verb(at)))
+    match verb {
+        Verb::To => to_at(words, at),
+        Verb::Add => amount_at(words, at),
+        Verb::Next => {
+            let (weekday, count) = occurrence_at(words, at)?;
+            Ok(Request::Move(DayMove::Next(weekday, count)))
+        }
+        Verb::Last => {
+            let (weekday, count) = occurrence_at(words, at)?;
+            Ok(Request::Move(DayMove::Last(weekday, count)))
+        }
+        Verb::Until => {
+            let (target, unit) = target_at(words, at, now)?;
+            Ok(Request::Until(target, unit))
+        }
+        Verb::Since => {
+            let (target, unit) = target_at(words, at, now)?;
+            Ok(Request::Since(target, unit))
+        }
+        Verb::Start => start_at(words, at),
+        Verb::End => end_at(words, at),
+        Verb::OnOrAfter => Ok(Request::Move(DayMove::OnOrAfter(weekday_at(words, at)?))),
+        Verb::OnOrBefore => Ok(Request::Move(DayMove::OnOrBefore(weekday_at(words, at)?))),
+        Verb::At => Ok(Request::At(place_at(words, at, files)?)),
+        Verb::Keep => Ok(Request::Keep(bounds_at(words, at, now)?)),
     }
 }
 
@@ -340,13 +317,9 @@ fn to_at(words: &[u8], at: usize) -> Result<Request<'static>, UsageError>
         → result ≡ only_at (arguments_of words.now) at (to_of meanings) Expected.Form }
 {
     let usage_error = usage_error_at(at, Expected::Form);
-    let Some(word) = word_at(words, at) else {
-        return Err(usage_error);
-    };
-    match to_of(word) {
-        Some(request) => ended(words, at + 1, request),
-        None => Err(usage_error),
-    }
+    let word = word_at(words, at).ok_or(usage_error)?;
+    let request = to_of(word).ok_or(usage_error)?;
+    ended(words, at + 1, request)
 }
 
 /// Parses `PERIOD`, `day`, `hour`, `minute` or `N minutes`.
@@ -366,6 +339,15 @@ fn floor_at(words: &[u8], at: usize, minutes: u16) -> Result<Request<'static>, U
 {
     only_at(words, at, minutes_word, Expected::Minutes)?;
     Ok(Request::Floor(minutes))
+}
+
+/// Parses `PERIOD`.
+fn end_at(words: &[u8], at: usize) -> Result<Request<'static>, UsageError>
+    requires { at + 1 < 2 ^ 64 }
+    ensures { result ≡ end_at (arguments_of words.now) at }
+{
+    let period = only_at(words, at, period_of, Expected::Period)?;
+    Ok(Request::Move(DayMove::End(period)))
 }
 
 /// Parses `OFFSET` or `ZONE`.
@@ -402,13 +384,9 @@ pub(crate) fn zone_at<'a>(
         → result ≡ only_at (arguments_of words.now) at (zone_of meanings) Expected.Zone }
 {
     let usage_error = usage_error_at(at, Expected::Zone);
-    let Some(word) = word_at(words, at) else {
-        return Err(usage_error);
-    };
-    match zone_of(files, word) {
-        Some(zone) => ended(words, at + 1, zone),
-        None => Err(usage_error),
-    }
+    let word = word_at(words, at).ok_or(usage_error)?;
+    let zone = zone_of(files, word).ok_or(usage_error)?;
+    ended(words, at + 1, zone)
 }
 
 /// Returns the word expected for the verb. At index 0, options such as `--help` are allowed too.

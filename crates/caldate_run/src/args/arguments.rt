@@ -1,8 +1,8 @@
 //! The arguments of the program.
 ghost use Rattle.std.specs.Prelude.{◌≡◌, ◌≤◌, IfSome, length};
-ghost use Rattle.caldate_run.specs.Requests.{arguments_of, reads_input, reads_no_input};
+ghost use Rattle.caldate_run.specs.Requests.{arguments_of, reads_input};
 
-use crate::args::spelling::asks_for_help;
+use crate::args::spelling::command_of;
 use crate::args::words::cut;
 use std::env::{Env, FillError};
 
@@ -68,15 +68,5 @@ fn has_arg<E: Env>(env: &E, i: usize) -> bool {
 fn reads_input(words: &[u8]) -> bool
     ensures { result ≡ reads_input (arguments_of words.now) }
 {
-    !reads_no_input(cut(words).0)
-}
-
-/// Returns whether words that begin like this give no command that reads an input.
-fn reads_no_input(word: &[u8]) -> bool
-    ensures { result ≡ reads_no_input word.now }
-{
-    asks_for_help(word)
-        || word == b"--version".as_slice()
-        || word == b"list".as_slice()
-        || word == b"--date".as_slice()
+    command_of(cut(words).0).is_none()
 }

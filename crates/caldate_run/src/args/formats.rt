@@ -62,15 +62,9 @@ pub fn to_of(word: &[u8]) -> Option<Request<'static>>
         → result ≡ to_of meanings word.now }
 {
     if is_format(word) {
-        match format_of(word) {
-            Some(format) => Some(Request::Print(format)),
-            None => None,
-        }
+        Some(Request::Print(format_of(word)?))
     } else {
-        match form_of(word) {
-            Some(form) => Some(Request::To(form)),
-            None => None,
-        }
+        Some(Request::To(form_of(word)?))
     }
 }
 

@@ -19,6 +19,95 @@ pub enum NamedReader {
     Local,
 }
 
+/// An option before a request.
+#[derive(Clone, Copy)]
+pub enum OptionName {
+    Invalid,
+    Field,
+    Append,
+    Csv,
+    Header,
+    Scan,
+    Separator,
+    Skip,
+    Read,
+    Assume,
+    AssumeYear,
+    Zone,
+    Ambiguous,
+    Holidays,
+}
+
+/// The first word of a request.
+#[derive(Clone, Copy)]
+pub enum Verb {
+    To,
+    Add,
+    Next,
+    Last,
+    Until,
+    Since,
+    Start,
+    End,
+    OnOrAfter,
+    OnOrBefore,
+    At,
+    Keep,
+}
+
+/// The first word of a command that reads no input.
+#[derive(Clone, Copy)]
+pub enum CommandName {
+    List,
+    Date,
+    Help,
+    Version,
+}
+
+/// The options before a request.
+pub(crate) const OPTIONS: [(&str, OptionName); 14] = [
+    ("--invalid", OptionName::Invalid),
+    ("--field", OptionName::Field),
+    ("--append", OptionName::Append),
+    ("--csv", OptionName::Csv),
+    ("--header", OptionName::Header),
+    ("--scan", OptionName::Scan),
+    ("--separator", OptionName::Separator),
+    ("--skip", OptionName::Skip),
+    ("--read", OptionName::Read),
+    ("--assume", OptionName::Assume),
+    ("--assume-year", OptionName::AssumeYear),
+    ("--zone", OptionName::Zone),
+    ("--ambiguous", OptionName::Ambiguous),
+    ("--holidays", OptionName::Holidays),
+];
+
+/// The verbs.
+pub(crate) const VERBS: [(&str, Verb); 12] = [
+    ("to", Verb::To),
+    ("add", Verb::Add),
+    ("next", Verb::Next),
+    ("last", Verb::Last),
+    ("until", Verb::Until),
+    ("since", Verb::Since),
+    ("start", Verb::Start),
+    ("end", Verb::End),
+    ("on-or-after", Verb::OnOrAfter),
+    ("on-or-before", Verb::OnOrBefore),
+    ("at", Verb::At),
+    ("keep", Verb::Keep),
+];
+
+/// The commands that read no input.
+pub(crate) const COMMANDS: [(&str, CommandName); 6] = [
+    ("list", CommandName::List),
+    ("--date", CommandName::Date),
+    ("--help", CommandName::Help),
+    ("--version", CommandName::Version),
+    ("-h", CommandName::Help),
+    ("help", CommandName::Help),
+];
+
 /// The modes of `--invalid`.
 pub(crate) const MODES: [(&str, OnInvalid); 4] = [
     ("keep", OnInvalid::Keep),

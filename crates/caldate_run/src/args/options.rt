@@ -1,11 +1,12 @@
 //! The options before a request.
+ghost use Rattle.std.specs.List.{list_any};
 ghost use Rattle.std.specs.Prelude.{◌≡◌, ℕ, ◌+◌, ◌≤◌, ◌^◌, ◌∷◌, List, IfOk, None, length, true};
 ghost use Rattle.caldate_run.specs.Meanings.{AreMeanings, AreMeant, IsMeaning, Meanings, name_of, value_in};
-ghost use Rattle.caldate_run.specs.Requests.{any_local, any_own, any_yearless, assumptions_in, byte_of, field_in, field_number_of, field_numbers_of, field_of, fields_from, has_own, has_room, has_room_for_field, is_flag, is_local, is_name, is_option, name_in, is_yearless, lacks_offset, shows_offset, year_of, conflict_in, conflict_with_readers, conflict_with_zone, no_options, options_after, options_from, readers_in, skip_of, value_of, with_flag, with_named, with_reader, with_value, words_left};
+ghost use Rattle.caldate_run.specs.Requests.{assumptions_in, byte_of, field_in, field_number_of, field_numbers_of, field_of, fields_from, has_own, is_local, is_name, is_option, name_in, is_yearless, year_of, conflict_in, conflict_with_readers, conflict_with_zone, and_then, expected_value, has_room_for, is_joined, option_in, option_of, takes_value, value_at, no_options, options_after, options_from, readers_in, skip_of, with_named, with_reader, with_value, words_left};
 ghost use Rattle.caldate_run.specs.Zones.{AreOfFiles};
 
 use crate::args::formats::reader_of;
-use crate::args::names::{MODES, POLICIES, value_named};
+use crate::args::names::{MODES, OPTIONS, OptionName, POLICIES, value_named};
 use crate::args::offset::offset_of;
 use crate::args::spelling::parse_i64;
 use crate::args::usage_error::{Expected, UsageError, usage_error_at};
@@ -90,8 +91,8 @@ fn no_options() -> Options<'static>
 /// A result of parsing one more word: the options so far.
 #[derive(Drop)]
 pub enum OptionsAfter<'a> {
-    /// The word is part of the options. The next word has this value, if one is given.
-    Continued(Options<'a>, Option<Expected>),
+    /// The word is part of the options. The next word is the value of an option, if one is given.
+    Continued(Options<'a>, Option<OptionName>),
     /// The word is not an option.
     Ended(Options<'a>),
     /// The word is not a valid value.
@@ -111,59 +112,82 @@ pub fn options_of<'a>(
     ensures within { IfOk result (λ front. front.1 ≤ 2 ^ 63) }
 {
     let mut options = no_options();
-    let mut expected = None;
+    let mut given = None;
     let mut index = at;
     let mut left = words;
     while let Some(some) = left {
         let (word, rest) = cut(some);
-        match parse_word(options, expected, word, files) {
-            OptionsAfter::Continued(more, value) => {
+        match parse_word(options, given, word, files) {
+            OptionsAfter::Continued(more, option) => {
                 options = more;
-                expected = value;
+                given = option;
             }
             OptionsAfter::Ended(all) => return Ok((all, index)),
-            OptionsAfter::Invalid(value) => return Err(usage_error_at(index, value)),
+            OptionsAfter::Invalid(expected) => return Err(usage_error_at(index, expected)),
         }
         left = rest;
         index += 1;
     }
-    match expected {
-        Some(value) => Err(usage_error_at(index, value)),
+    match given {
+        Some(option) => Err(usage_error_at(index, expected_value(option))),
         None => Ok((options, index)),
     }
 }
 
-/// Parses one more word: an option, or if `expected` is given, the value of the option before it.
+/// Parses one more word: an option, or if `given` is an option, its value.
 fn parse_word<'a>(
     options: Options<'a>,
-    expected: Option<Expected>,
+    given: Option<OptionName>,
     word: &'a [u8],
     files: &DataFiles<'a>,
 ) -> OptionsAfter<'a>
     ensures { (meanings : Meanings) → AreMeant meanings word.now → AreOfFiles files.now meanings
         → (at : ℕ) (words : List (List ℕ)) → options_after meanings result at words
-        ≡ options_from meanings expected options.entry at (word.now ∷ words) }
+        ≡ options_from meanings given options.entry at (word.now ∷ words) }
 {
-    if let Some(expected) = expected {
-        return match with_value(options, word, expected, files) {
-            Some(more) => OptionsAfter::Continued(more, None),
-            None => OptionsAfter::Invalid(expected),
-        };
-    }
-    if is_flag(&options, word) {
-        return OptionsAfter::Continued(with_flag(options, word), None);
-    }
-    if let Some(expected) = value_of(&options, word) {
-        return OptionsAfter::Continued(options, Some(expected));
+    if let Some(option) = given {
+        return after_value(options, option, word, files);
     }
     let (name, value) = cut_value(word);
-    match value_of(&options, name) {
-        Some(expected) => match with_value(options, value, expected, files) {
-            Some(more) => OptionsAfter::Continued(more, None),
-            None => OptionsAfter::Invalid(expected),
-        },
-        None => OptionsAfter::Ended(options),
+    let Some(option) = option_in(&options, name) else {
+        return OptionsAfter::Ended(options);
+    };
+    if takes_value(option) {
+        if is_joined(word) {
+            after_value(options, option, value, files)
+        } else {
+            OptionsAfter::Continued(options, Some(option))
+        }
+    } else if is_joined(word) {
+        OptionsAfter::Ended(options)
+    } else {
+        after_value(options, option, value, files)
     }
+}
+
+/// Returns the options after the value of one more option.
+fn after_value<'a>(
+    options: Options<'a>,
+    option: OptionName,
+    value: &'a [u8],
+    files: &DataFiles<'a>,
+) -> OptionsAfter<'a>
+    ensures { (meanings : Meanings) → IsMeaning meanings value.now → AreOfFiles files.now meanings
+        → (at : ℕ) (words : List (List ℕ)) → options_after meanings result at words
+        ≡ and_then (value_at meanings options.entry option at value.now)
+        (λ more. options_from meanings None more (at + 1) words) }
+{
+    match with_value(options, option, value, files) {
+        Some(more) => OptionsAfter::Continued(more, None),
+        None => OptionsAfter::Invalid(expected_value(option)),
+    }
+}
+
+/// Returns whether the word contains a `=`.
+fn is_joined(word: &[u8]) -> bool
+    ensures { result ≡ is_joined word.now }
+{
+    index_of(b'=', word).is_some()
 }
 
 /// Splits `NAME=VALUE` into the name of an option and its value, which is empty without a `=`.
@@ -178,70 +202,76 @@ pub fn cut_value(word: &[u8]) -> (&[u8], &[u8])
     }
 }
 
-/// Returns the value that an option needs, or `None` for any other word and a repeated option.
-fn value_of(options: &Options<'_>, word: &[u8]) -> Option<Expected>
-    ensures { result ≡ value_of options.now word.now }
+/// Returns the option that the word names, unless it can't be given again.
+fn option_in(options: &Options<'_>, word: &[u8]) -> Option<OptionName>
+    ensures { result ≡ option_in options.now word.now }
 {
-    if word == b"--invalid".as_slice() && options.on_invalid.is_none() {
-        Some(Expected::Invalid)
-    } else if word == b"--field".as_slice() && has_room_for_field(options) {
-        Some(Expected::FieldNumber)
-    } else if word == b"--append".as_slice() && options.append.is_none() {
-        Some(Expected::Column)
-    } else if word == b"--separator".as_slice() && options.separator.is_none() {
-        Some(Expected::Separator)
-    } else if word == b"--skip".as_slice() && options.skip.is_none() {
-        Some(Expected::Skip)
-    } else if word == b"--read".as_slice() && options.readers.as_slice().len() < 4 {
-        Some(Expected::Reading)
-    } else if word == b"--assume".as_slice() && options.offset.is_none() {
-        Some(Expected::Offset)
-    } else if word == b"--assume-year".as_slice() && options.year.is_none() {
-        Some(Expected::Year)
-    } else if word == b"--zone".as_slice() && options.zone.is_none() {
-        Some(Expected::Zone)
-    } else if word == b"--ambiguous".as_slice() && options.policy.is_none() {
-        Some(Expected::Policy)
-    } else if word == b"--holidays".as_slice() && options.workdays.is_none() {
-        Some(Expected::Holidays)
+    let option = option_of(word)?;
+    if has_room_for(options, option) {
+        Some(option)
     } else {
         None
     }
 }
 
-/// Returns whether less than four fields are given.
-fn has_room_for_field(options: &Options<'_>) -> bool
-    ensures { result ≡ has_room_for_field options.now }
+#[tactic(auto, unfolding(crate::specs::Requests::option_of))]
+fn option_of(word: &[u8]) -> Option<OptionName>
+    ensures { result ≡ option_of word.now }
 {
-    options.fields.is_none() || options.more.as_slice().len() < MAX_MORE
+    value_named(word, &OPTIONS)
 }
 
-/// Returns whether the word is `--csv`, `--scan` or `--header`, and not given yet.
-fn is_flag(options: &Options<'_>, word: &[u8]) -> bool
-    ensures { result ≡ is_flag options.now word.now }
+/// Returns whether the option can be given: `--field` and `--read` up to four times, and any other
+/// once.
+fn has_room_for(options: &Options<'_>, option: OptionName) -> bool
+    ensures { result ≡ has_room_for options.now option }
 {
-    if word == b"--csv".as_slice() {
-        !options.csv
-    } else if word == b"--scan".as_slice() {
-        !options.scan
-    } else {
-        word == b"--header".as_slice() && !options.header
+    match option {
+        OptionName::Invalid => options.on_invalid.is_none(),
+        OptionName::Field => options.fields.is_none() || options.more.as_slice().len() < MAX_MORE,
+        OptionName::Append => options.append.is_none(),
+        OptionName::Csv => !options.csv,
+        OptionName::Header => !options.header,
+        OptionName::Scan => !options.scan,
+        OptionName::Separator => options.separator.is_none(),
+        OptionName::Skip => options.skip.is_none(),
+        OptionName::Read => options.readers.as_slice().len() < 4,
+        OptionName::Assume => options.offset.is_none(),
+        OptionName::AssumeYear => options.year.is_none(),
+        OptionName::Zone => options.zone.is_none(),
+        OptionName::Ambiguous => options.policy.is_none(),
+        OptionName::Holidays => options.workdays.is_none(),
     }
 }
 
-/// Sets `--csv`, `--scan` or `--header`.
-fn with_flag<'a>(options: Options<'a>, word: &[u8]) -> Options<'a>
-    ensures { result ≡ with_flag options.entry word.now }
+/// Returns whether the option takes a value.
+fn takes_value(option: OptionName) -> bool
+    ensures { result ≡ takes_value option }
 {
-    let mut more = options;
-    if word == b"--csv".as_slice() {
-        more.csv = true;
-    } else if word == b"--scan".as_slice() {
-        more.scan = true;
-    } else {
-        more.header = true;
+    match option {
+        OptionName::Csv | OptionName::Header | OptionName::Scan => false,
+        _ => true,
     }
-    more
+}
+
+/// Returns the value that the option takes.
+fn expected_value(option: OptionName) -> Expected
+    ensures { result ≡ expected_value option }
+{
+    match option {
+        OptionName::Invalid => Expected::Invalid,
+        OptionName::Field => Expected::FieldNumber,
+        OptionName::Append => Expected::Column,
+        OptionName::Csv | OptionName::Header | OptionName::Scan => Expected::End,
+        OptionName::Separator => Expected::Separator,
+        OptionName::Skip => Expected::Skip,
+        OptionName::Read => Expected::Reading,
+        OptionName::Assume => Expected::Offset,
+        OptionName::AssumeYear => Expected::Year,
+        OptionName::Zone => Expected::Zone,
+        OptionName::Ambiguous => Expected::Policy,
+        OptionName::Holidays => Expected::Holidays,
+    }
 }
 
 /// Returns whether the word is an option that other options may precede, such as `--field`, and
@@ -249,34 +279,39 @@ fn with_flag<'a>(options: Options<'a>, word: &[u8]) -> Options<'a>
 pub fn is_option(word: &[u8]) -> bool
     ensures { result ≡ is_option word.now }
 {
-    is_flag(&no_options(), word) || value_of(&no_options(), cut_value(word).0).is_some()
+    match option_of(cut_value(word).0) {
+        Some(option) => takes_value(option) || !is_joined(word),
+        None => false,
+    }
 }
 
-/// Sets the option that needs `expected`, or returns `None` if the value is invalid.
+/// Sets the option, or returns `None` if the value is invalid. An option without a value ignores it.
 #[tactic(auto, unfolding(crate::specs::Requests::invalid_of, crate::specs::Requests::policy_of))]
 fn with_value<'a>(
     options: Options<'a>,
+    option: OptionName,
     value: &'a [u8],
-    expected: Expected,
     files: &DataFiles<'a>,
 ) -> Option<Options<'a>>
     ensures { (meanings : Meanings) → IsMeaning meanings value.now
-        → AreOfFiles files.now meanings → result ≡ with_value meanings options.entry value.now expected }
+        → AreOfFiles files.now meanings → result ≡ with_value meanings options.entry option value.now }
 {
     let mut more = options;
-    match expected {
-        Expected::Invalid => more.on_invalid = Some(value_named(value, &MODES)?),
-        Expected::FieldNumber => return with_named(more, name_in(value), field_in(value)?),
-        Expected::Column => more.append = Some(FieldName::new(value)),
-        Expected::Separator => more.separator = Some(byte_of(value)?),
-        Expected::Skip => more.skip = Some(skip_of(value)?),
-        Expected::Reading => return with_reader(more, reader_of(value)?),
-        Expected::Offset => more.offset = Some(offset_of(value)?),
-        Expected::Year => more.year = Some(year_of(value)?),
-        Expected::Zone => more.zone = Some(zone_of(files, value)?),
-        Expected::Policy => more.policy = Some(value_named(value, &POLICIES)?),
-        Expected::Holidays => more.workdays = Some(workdays_of(files, value)?),
-        _ => return None,
+    match option {
+        OptionName::Invalid => more.on_invalid = Some(value_named(value, &MODES)?),
+        OptionName::Field => return with_named(more, name_in(value), field_in(value)?),
+        OptionName::Append => more.append = Some(FieldName::new(value)),
+        OptionName::Csv => more.csv = true,
+        OptionName::Header => more.header = true,
+        OptionName::Scan => more.scan = true,
+        OptionName::Separator => more.separator = Some(byte_of(value)?),
+        OptionName::Skip => more.skip = Some(skip_of(value)?),
+        OptionName::Read => return with_reader(more, reader_of(value)?),
+        OptionName::Assume => more.offset = Some(offset_of(value)?),
+        OptionName::AssumeYear => more.year = Some(year_of(value)?),
+        OptionName::Zone => more.zone = Some(zone_of(files, value)?),
+        OptionName::Ambiguous => more.policy = Some(value_named(value, &POLICIES)?),
+        OptionName::Holidays => more.workdays = Some(workdays_of(files, value)?),
     }
     Some(more)
 }
@@ -466,12 +501,9 @@ pub fn assumptions_in(options: &Options<'_>) -> Assumptions
 
 /// Returns whether a form has no year.
 fn any_yearless(readers: &[Reader]) -> bool
-    ensures { result ≡ any_yearless readers.now }
+    ensures { result ≡ list_any is_yearless readers.now }
 {
-    match readers {
-        [] => false,
-        [first, others @ ..] => is_yearless(first) || any_yearless(others),
-    }
+    readers.iter().any(|reader| is_yearless(reader))
 }
 
 fn is_yearless(reader: &Reader) -> bool
@@ -485,12 +517,9 @@ fn is_yearless(reader: &Reader) -> bool
 
 /// Returns whether a form has no offset.
 fn any_local(readers: &[Reader]) -> bool
-    ensures { result ≡ any_local readers.now }
+    ensures { result ≡ list_any is_local readers.now }
 {
-    match readers {
-        [] => false,
-        [first, others @ ..] => is_local(first) || any_local(others),
-    }
+    readers.iter().any(|reader| is_local(reader))
 }
 
 fn is_local(reader: &Reader) -> bool
@@ -498,28 +527,17 @@ fn is_local(reader: &Reader) -> bool
 {
     match reader {
         Reader::Local => true,
-        Reader::Format(format) | Reader::Yearless(format) => lacks_offset(format),
-        _ => false,
-    }
-}
-
-fn lacks_offset(format: &ValueFormat) -> bool
-    ensures { result ≡ lacks_offset format.now }
-{
-    match format {
-        ValueFormat::DateTimes(_) => true,
+        Reader::Format(ValueFormat::DateTimes(_)) => true,
+        Reader::Yearless(ValueFormat::DateTimes(_)) => true,
         _ => false,
     }
 }
 
 /// Returns whether a form has an offset of its own.
 fn any_own(readers: &[Reader]) -> bool
-    ensures { result ≡ any_own readers.now }
+    ensures { result ≡ list_any has_own readers.now }
 {
-    match readers {
-        [] => false,
-        [first, others @ ..] => has_own(first) || any_own(others),
-    }
+    readers.iter().any(|reader| has_own(reader))
 }
 
 fn has_own(reader: &Reader) -> bool
@@ -528,16 +546,8 @@ fn has_own(reader: &Reader) -> bool
     match reader {
         Reader::Named(Reading::Any | Reading::Unix(_)) => true,
         Reader::Spelled(_) => true,
-        Reader::Format(format) | Reader::Yearless(format) => shows_offset(format),
-        _ => false,
-    }
-}
-
-fn shows_offset(format: &ValueFormat) -> bool
-    ensures { result ≡ shows_offset format.now }
-{
-    match format {
-        ValueFormat::Moments(_) => true,
+        Reader::Format(ValueFormat::Moments(_)) => true,
+        Reader::Yearless(ValueFormat::Moments(_)) => true,
         _ => false,
     }
 }

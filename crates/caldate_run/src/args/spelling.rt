@@ -1,17 +1,29 @@
 //! Single words of the arguments.
 ghost use Rattle.std.specs.Prelude.{◌≡◌};
-ghost use Rattle.caldate_run.specs.Requests.{asks_for_help, parse_i64, parse_u8, minutes_of, minutes_word, weekday_of, period_of, start_of, unit_of, parse_u32};
+ghost use Rattle.caldate_run.specs.Requests.{command_of, parse_i64, parse_u8, minutes_of, minutes_word, verb_of, weekday_of, period_of, start_of, unit_of, parse_u32};
 
-use crate::args::names::{PERIODS, ROUNDINGS, UNITS, spells, spells_unit, value_of_unit};
+use crate::args::names::{
+    COMMANDS, CommandName, PERIODS, ROUNDINGS, UNITS, VERBS, Verb, spells, spells_unit,
+    value_named, value_of_unit,
+};
 use crate::request::{DayMove, Period, Request, TimeUnit};
 use cal_time::Weekday;
 use std::str;
 
-/// Returns whether the word asks for the help page.
-pub fn asks_for_help(word: &[u8]) -> bool
-    ensures { result ≡ asks_for_help word.now }
+/// Parses the name of a command that reads no input.
+#[tactic(auto, unfolding(crate::specs::Requests::command_of))]
+pub fn command_of(word: &[u8]) -> Option<CommandName>
+    ensures { result ≡ command_of word.now }
 {
-    word == b"--help".as_slice() || word == b"-h".as_slice() || word == b"help".as_slice()
+    value_named(word, &COMMANDS)
+}
+
+/// Parses a verb.
+#[tactic(auto, unfolding(crate::specs::Requests::verb_of))]
+pub fn verb_of(word: &[u8]) -> Option<Verb>
+    ensures { result ≡ verb_of word.now }
+{
+    value_named(word, &VERBS)
 }
 
 /// Parses a number from -9223372036854775808 to 9223372036854775807.
@@ -85,10 +97,7 @@ pub fn start_of(word: &[u8]) -> Option<Request<'static>>
 {
     match period_of(word) {
         Some(period) => Some(Request::Move(DayMove::Start(period))),
-        None => match value_of_unit(word, &ROUNDINGS) {
-            Some(minutes) => Some(Request::Floor(minutes)),
-            None => None,
-        },
+        None => Some(Request::Floor(value_of_unit(word, &ROUNDINGS)?)),
     }
 }
 

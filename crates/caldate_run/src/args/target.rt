@@ -45,13 +45,8 @@ fn other_at<'a>(words: &'a [u8], at: usize) -> Result<Target<'a>, UsageError>
     ensures { result ≡ word_as (arguments_of words.now) at other_of Expected.FieldNumber }
 {
     let usage_error = usage_error_at(at, Expected::FieldNumber);
-    let Some(word) = word_at(words, at) else {
-        return Err(usage_error);
-    };
-    match other_of(word) {
-        Some(other) => Ok(other),
-        None => Err(usage_error),
-    }
+    let word = word_at(words, at).ok_or(usage_error)?;
+    other_of(word).ok_or(usage_error)
 }
 
 fn other_of<'a>(word: &'a [u8]) -> Option<Target<'a>>
@@ -60,10 +55,7 @@ fn other_of<'a>(word: &'a [u8]) -> Option<Target<'a>>
     if is_name(word) {
         return Some(Target::Name(FieldName::new(word)));
     }
-    match field_numbers_of(word) {
-        Some(numbers) => Some(Target::Fields(numbers)),
-        None => None,
-    }
+    Some(Target::Fields(field_numbers_of(word)?))
 }
 
 /// Parses `in UNIT`, or returns `None` if the words end here.

@@ -9,7 +9,7 @@ abbrev pub invariant-loop-left : goal.invariant-loop-left
 invariant-loop-left l = record {
   options : (meanings : Meanings) → AreMeanings meanings (words_left l.fn.words) → AreOfFiles l.files meanings
       → AreMeanings meanings (words_left l.left)
-      × (options_from meanings None no_options l.fn.at (words_left l.fn.words) ≡ options_from meanings l.expected l.options l.index (words_left l.left));
+      × (options_from meanings None no_options l.fn.at (words_left l.fn.words) ≡ options_from meanings l.given l.options l.index (words_left l.left));
   few : l.index + length (words_left l.left) ≤ 2 ^ 63;
 }
 
