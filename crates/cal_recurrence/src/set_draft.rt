@@ -3,7 +3,6 @@ ghost use Rattle.std.specs.Prelude.{◌≡◌, ◌+◌, ◌≤◌, ◌++◌, [],
 ghost use Rattle.cal_schedule.specs.Values.{most_values};
 ghost use Rattle.cal_recurrence.specs.SetText.{all_allow, all_name, allows, error_after, first_zone, is_date, is_local, kind_of, line_of, list_error, once, parameters_of, parts_from, parts_of, unless_error, value_error, value_of, value_on, values_on, with_line, with_value, with_zone, zone_error, zone_on};
 ghost use Rattle.cal_recurrence.specs.Text.{list_of};
-ghost use Rattle.cal_recurrence.specs.declared.set_fault.SetLine.TheVariants.{Start, Rule};
 ghost use Rattle.cal_recurrence.specs.Words.{parts_at, rest_at};
 
 use crate::date_or_time::DateOrTime;
@@ -258,52 +257,30 @@ impl<'a> SetDraft<'a> {
             (with_value self.entry line.now kind) }
     {
         match kind {
-            SetLine::Start => self.with_start(line),
-            SetLine::Rule => self.with_rule(line),
+            SetLine::Start if self.start.is_some() => return Err(ParseSetErrorKind::Twice(kind)),
+            SetLine::Start => {
+                self.start = value_on(line);
+                if self.start.is_none() {
+                    return Err(ParseSetErrorKind::Value(kind));
+                }
+            }
+            SetLine::Rule if self.recurrence.is_some() => {
+                return Err(ParseSetErrorKind::Twice(kind));
+            }
+            SetLine::Rule => match parse(line) {
+                Ok(recurrence) => self.recurrence = Some(recurrence),
+                Err(error) => return Err(ParseSetErrorKind::Rule(error)),
+            },
             SetLine::Dates => {
                 let dates = std::mem::replace(&mut self.dates, no_values());
                 self.dates = more_of(dates, line, kind)?;
-                Ok(self)
             }
             SetLine::Exceptions => {
                 let exceptions = std::mem::replace(&mut self.exceptions, no_values());
                 self.exceptions = more_of(exceptions, line, kind)?;
-                Ok(self)
             }
         }
-    }
-
-    /// Parses the start. Returns `Twice` if it was parsed before, or `Value` if it is invalid.
-    fn with_start(mut self, line: &[u8]) -> Result<Self, ParseSetErrorKind>
-        ensures { result ≡ unless_error (value_error self.entry line.now Start)
-            (with_value self.entry line.now Start) }
-    {
-        if self.start.is_some() {
-            return Err(ParseSetErrorKind::Twice(SetLine::Start));
-        }
-        self.start = value_on(line);
-        if self.start.is_some() {
-            Ok(self)
-        } else {
-            Err(ParseSetErrorKind::Value(SetLine::Start))
-        }
-    }
-
-    /// Parses the recurrence. Returns `Twice` if it was parsed before, or `Rule` if it is invalid.
-    fn with_rule(mut self, line: &[u8]) -> Result<Self, ParseSetErrorKind>
-        ensures { result ≡ unless_error (value_error self.entry line.now Rule)
-            (with_value self.entry line.now Rule) }
-    {
-        if self.recurrence.is_some() {
-            return Err(ParseSetErrorKind::Twice(SetLine::Rule));
-        }
-        match parse(line) {
-            Ok(recurrence) => {
-                self.recurrence = Some(recurrence);
-                Ok(self)
-            }
-            Err(error) => Err(ParseSetErrorKind::Rule(error)),
-        }
+        Ok(self)
     }
 
     /// Returns the parts, or `None` without a start. Without a recurrence the set has the start.
