@@ -1,6 +1,6 @@
 -- A set whose rule ends earlier has the same readings up to this end, and a search that finds one of
 -- them has found it for the whole set.
-use Rattle.std.proofs.Common.{◌≡◌, refl, sym, ap, ◌∙◌, arith, subst, ℕ, zero, suc, ◌+◌, ◌-◌, ◌≤◌, Bool, true, false, ◌&&◌, not, List, [], ◌∷◌, filter, map, take, Option, Some, None, ℤ, pos, ◌+ℤ◌, ◌≤ℤ◌, ◌<ℤ◌, ◌⊎◌, inl, inr}
+use Rattle.std.proofs.Common.{◌≡◌, refl, sym, ap, ◌∙◌, arith, subst, ℕ, zero, suc, ◌+◌, ◌-◌, ◌≤◌, Bool, true, false, ◌&&◌, not, List, [], ◌∷◌, filter, map, slice_get, take, Option, Some, None, ℤ, pos, ◌+ℤ◌, ◌≤ℤ◌, ◌<ℤ◌, ◌⊎◌, inl, inr}
 use Rattle.std.specs.Prelude.{◌||◌, int_le, unsigned_abs, option_map, MatchOption}
 use Rattle.std.specs.List.{last_or}
 use Rattle.std.proofs.lemmas.Bool.{and_parts, false≢true}
@@ -13,10 +13,10 @@ use Rattle.cal_schedule.specs.Rule as days
 use Rattle.cal_schedule.specs.Pattern.{rule_of}
 use Rattle.cal_schedule.specs.declared.rule.pattern.Pattern.{Pattern}
 use Rattle.cal_recurrence.specs.CountedSet.{ascend_from, last_before, whole_set, whole_zoned_set}
-use Rattle.cal_recurrence.specs.DateTimeRule.{date_time_rule, is_not_after, is_occurrence, matches_positions, occurrences, DateTimeParts}
+use Rattle.cal_recurrence.specs.DateTimeRule.{date_time_rule, is_not_after, is_occurrence, matches_positions, occurrences, readings_from, DateTimeParts}
 use Rattle.cal_recurrence.specs.Days.{up_to_end}
 use Rattle.cal_recurrence.specs.RecurrenceReadings.{last_reading_of, readings_of}
-use Rattle.cal_recurrence.specs.DateTimeSet.{is_in_set, is_listed, IsNextFrom}
+use Rattle.cal_recurrence.specs.DateTimeSet.{is_in_set, is_listed}
 use Rattle.cal_recurrence.specs.ZonedSet.{reach, IsNextAfter, Occurs}
 use Rattle.cal_recurrence.specs.declared.date_time_set.DateTimeSet.{DateTimeSet}
 use Rattle.cal_recurrence.specs.declared.recurrence.Recurrence.{Recurrence}
@@ -112,7 +112,7 @@ earlier-too None k m less by = refl
 earlier-too (Some last) k m less by = let most = le-true (pos m) last by in true-le (pos k) last (omega (arith, ints, most))
 
 pub settled : (set : DateTimeSet) (left : List ℤ) (n : ℕ) (y : ℤ) → ascend_from set.rule.until left ≡ true → is_not_after set.rule.until y ≡ true
-    → IsNextFrom (is_in_set set) n (Some y) → IsNextFrom (is_in_set (whole_set set left)) n (Some y)
+    → Some y ≡ slice_get (readings_from (is_in_set set) n) 0 → Some y ≡ slice_get (readings_from (is_in_set (whole_set set left)) n) 0
 settled set left n y order by h =
     let first : IsFound (is_in_set set) n y = found (is_in_set set) n y h in
     let m = unsigned_abs y in

@@ -9,29 +9,20 @@ use Rattle.cal_time.specs.Occurrences.{days_from}
 use Rattle.cal_schedule.specs.Ranks.{from-no, from-yes}
 use Rattle.cal_datetime.specs.DateTime.{last_date_time, IsDateTime}
 use Rattle.cal_recurrence.specs.DateTimeRule.{is_occurrence, occurrences_after, readings_from}
-use Rattle.cal_recurrence.specs.DateTimeSet.{is_in_set, is_listed, IsNextFrom}
+use Rattle.cal_recurrence.specs.DateTimeSet.{is_in_set, is_listed, set_readings_after}
 use Rattle.cal_recurrence.specs.Nearest.{is_past, IsFirstPast, IsNearest}
 use Rattle.cal_recurrence.specs.TimeSearch.{NoneIn, IsFirst, IsNext}
 use Rattle.cal_recurrence.specs.declared.date_time_set.DateTimeSet.{DateTimeSet}
 use Rattle.cal_recurrence.proofs.FirstNumbers.{first-in_list, first-of_list}
 use Rattle.cal_recurrence.proofs.NearestValues.{is-later, later, up_to, within}
 
-number-is : (z : ℤ) → IsDateTime z → pos (unsigned_abs z) ≡ z
+pub number-is : (z : ℤ) → IsDateTime z → pos (unsigned_abs z) ≡ z
 number-is z h = let e : pos (unsigned_abs z) ≡ z = omega (arith, ints, h.not_before) in e
 
 -- ---- the first of a list
-pub of-list : (test : ℤ → Bool) (n : ℕ) (r : Option ℤ) → r ≡ slice_get (readings_from test n) 0 → IsNextFrom test n r
-of-list test n r e =
-    let all = filter (λ k. test (pos k)) (days_from n (last_date_time + 1 - n)) in
-    record {
-      number = slice_get all 0;
-      is = e ∙ slice_get-map pos all 0;
-      next = first-of_list (λ k. test (pos k)) n (last_date_time + 1) (slice_get all 0) refl;
-    }
-
-pub in-list : (test : ℤ → Bool) (n : ℕ) (r : Option ℤ) → IsNextFrom test n r → r ≡ slice_get (readings_from test n) 0
-in-list test n r h =
-    h.is ∙ ap (option_map pos) (first-in_list (λ k. test (pos k)) n (last_date_time + 1) h.number h.next)
+in-list : (test : ℤ → Bool) (n : ℕ) (number : Option ℕ) → IsNext (λ k. test (pos k)) n (last_date_time + 1) number → option_map pos number ≡ slice_get (readings_from test n) 0
+in-list test n number next =
+    ap (option_map pos) (first-in_list (λ k. test (pos k)) n (last_date_time + 1) number next)
     ∙ sym (slice_get-map pos (filter (λ k. test (pos k)) (days_from n (last_date_time + 1 - n))) 0)
 
 -- A reading with its number, which is the first of a test from the number n on.
@@ -43,24 +34,28 @@ found-at : (test : ℤ → Bool) (n : ℕ) (y : ℤ) (number : Option ℕ) → S
 found-at test n y None is next = absurd (cc)
 found-at test n y (Some k) is next = let e : y ≡ pos k = cc in subst (IsFound test n) (sym e) (record { is = refl; first = next })
 
-pub found : (test : ℤ → Bool) (n : ℕ) (y : ℤ) → IsNextFrom test n (Some y) → IsFound test n y
-found test n y h = found-at test n y h.number h.is h.next
+pub found : (test : ℤ → Bool) (n : ℕ) (y : ℤ) → Some y ≡ slice_get (readings_from test n) 0 → IsFound test n y
+found test n y e =
+    let all = filter (λ k. test (pos k)) (days_from n (last_date_time + 1 - n)) in
+    found-at test n y (slice_get all 0) (e ∙ slice_get-map pos all 0) (first-of_list (λ k. test (pos k)) n (last_date_time + 1) (slice_get all 0) refl)
 
-none-at : (number : Option ℕ) → None ≡ option_map pos number → number ≡ None
+none-at : (number : Option ℕ) → None ≡ option_map pos number → None ≡ number
 none-at None e = refl
 none-at (Some n) e = absurd (cc)
 
-pub not_found : (test : ℤ → Bool) (n : ℕ) → IsNextFrom test n None → NoneIn (λ k. test (pos k)) n (last_date_time + 1)
-not_found test n h = subst (IsNext (λ k. test (pos k)) n (last_date_time + 1)) (none-at h.number h.is) h.next
+pub not_found : (test : ℤ → Bool) (n : ℕ) → None ≡ slice_get (readings_from test n) 0 → NoneIn (λ k. test (pos k)) n (last_date_time + 1)
+not_found test n e =
+    let all = filter (λ k. test (pos k)) (days_from n (last_date_time + 1 - n)) in
+    first-of_list (λ k. test (pos k)) n (last_date_time + 1) None (none-at (slice_get all 0) (e ∙ slice_get-map pos all 0))
 
-pub is-found : (test : ℤ → Bool) (n : ℕ) (y : ℤ) → IsFound test n y → IsNextFrom test n (Some y)
-is-found test n y h = record { number = Some (unsigned_abs y); is = ap Some h.is; next = h.first }
+pub is-found : (test : ℤ → Bool) (n : ℕ) (y : ℤ) → IsFound test n y → Some y ≡ slice_get (readings_from test n) 0
+is-found test n y h = ap Some h.is ∙ in-list test n (Some (unsigned_abs y)) h.first
 
 -- ---- the first reading after a reading
 number : {z : ℤ} (k : ℤ) → IsDateTime z → is_past int_cmp true k z ≡ true → k ≡ pos (unsigned_abs k)
 number {z} k range past = omega (arith, ints, is-later z k past, range.not_before)
 
-of-next : (test : ℤ → Bool) (z : ℤ) (r : Option ℤ) → IsDateTime z → IsNextFrom test (unsigned_abs z + 1) r
+of-next : (test : ℤ → Bool) (z : ℤ) (r : Option ℤ) → IsDateTime z → r ≡ slice_get (readings_from test (unsigned_abs z + 1)) 0
     → IsNearest (is_past int_cmp true) (λ y. nat_le (unsigned_abs y) last_date_time && test y) z r
 of-next test z None range h = λ k past. up_to (unsigned_abs k) last_date_time (test k) (λ early.
     ap test (number k range past) ∙ not_found test (unsigned_abs z + 1) h (unsigned_abs k) (omega (arith, ints, is-later z k past, range.not_before)) (omega (arith, early)))
@@ -80,7 +75,7 @@ abbrev pub rule_readings : DateTimeSet → ℤ → Bool
 rule_readings set z = nat_le (unsigned_abs z) last_date_time && is_occurrence set.rule z
 
 pub after_rule : (set : DateTimeSet) (z : ℤ) (r : Option ℤ) → IsDateTime z → r ≡ slice_get (occurrences_after set.rule z) 0 → IsNearest (is_past int_cmp true) (rule_readings set) z r
-after_rule set z r range e = of-next (is_occurrence set.rule) z r range (of-list (is_occurrence set.rule) (unsigned_abs z + 1) r e)
+after_rule set z r range e = of-next (is_occurrence set.rule) z r range e
 
 -- Such a reading, or one of the other readings.
 abbrev pub next_candidates : DateTimeSet → ℤ → Bool
@@ -98,7 +93,7 @@ number-range : (n : ℕ) → n ≤ last_date_time → IsDateTime (pos n)
 number-range n h = record { not_before = omega (arith, ints); not_after = omega (arith, ints, h) }
 
 pub first_after : (set : DateTimeSet) (z x : ℤ) → IsDateTime z → IsDateTime x → IsFirstPast (is_past int_cmp true) (next_readings set) z x
-    → IsNextFrom (is_in_set set) (unsigned_abs z + 1) (Some x)
+    → Some x ≡ slice_get (set_readings_after set z) 0
 first_after set z x from date h = is-found (is_in_set set) (unsigned_abs z + 1) x (record {
   is = sym (number-is x date);
   first = record {
@@ -111,12 +106,9 @@ first_after set z x from date h = is-found (is_in_set set) (unsigned_abs z + 1) 
   };
 })
 
-pub none_after : (set : DateTimeSet) (z : ℤ) → IsDateTime z → IsNearest (is_past int_cmp true) (next_readings set) z None → IsNextFrom (is_in_set set) (unsigned_abs z + 1) None
-none_after set z from none = record {
-  number = None;
-  is = refl;
-  next = λ k past less. same_reading set (pos k) (number-range k (omega (arith, less))) ∙ none (pos k) (later z (pos k) (omega (arith, ints, past, from.not_before)));
-}
+pub none_after : (set : DateTimeSet) (z : ℤ) → IsDateTime z → IsNearest (is_past int_cmp true) (next_readings set) z None → None ≡ slice_get (set_readings_after set z) 0
+none_after set z from none = in-list (is_in_set set) (unsigned_abs z + 1) None (λ k past less.
+    same_reading set (pos k) (number-range k (omega (arith, less))) ∙ none (pos k) (later z (pos k) (omega (arith, ints, past, from.not_before))))
 
 -- The first reading from a reading on is this one, or the first after it.
 pub from-here : (test : ℤ → Bool) (z : ℤ) → IsDateTime z → test z ≡ true → Some z ≡ slice_get (readings_from test (unsigned_abs z)) 0
@@ -145,7 +137,7 @@ other-test z y h = grind (arith, ints)
 is-first-at : (test : ℤ → Bool) (y z : ℤ) (b : Bool) → test z ≡ b → IsDateTime z → Some y ≡ slice_get (readings_from test (unsigned_abs z)) 0 → int_eq y z ≡ test z
 is-first-at test y z true on h e = let same : Some y ≡ Some z = e ∙ sym (from-here test z h on) in let is : y ≡ z = cc in ap (λ w. int_eq w z) is ∙ same-test z h ∙ sym on
 is-first-at test y z false off h e =
-    let first : IsFound test (unsigned_abs z) y = found test (unsigned_abs z) y (of-list test (unsigned_abs z) (Some y) e) in
+    let first : IsFound test (unsigned_abs z) y = found test (unsigned_abs z) y e in
     other-test y z (λ is. false≢true (sym off ∙ ap test (sym is ∙ first.is) ∙ first.first.passes)) ∙ sym off
 
 pub is-first : (test : ℤ → Bool) (y z : ℤ) → IsDateTime z → Some y ≡ slice_get (readings_from test (unsigned_abs z)) 0 → int_eq y z ≡ test z
@@ -153,5 +145,5 @@ is-first test y z h e = is-first-at test y z (test z) refl h e
 
 pub none-first : (test : ℤ → Bool) (z : ℤ) → IsDateTime z → None ≡ slice_get (readings_from test (unsigned_abs z)) 0 → false ≡ test z
 none-first test z h e =
-    sym (not_found test (unsigned_abs z) (of-list test (unsigned_abs z) None e) (unsigned_abs z) (omega arith) (omega (arith, ints, h.not_before, h.not_after)))
+    sym (not_found test (unsigned_abs z) e (unsigned_abs z) (omega arith) (omega (arith, ints, h.not_before, h.not_after)))
     ∙ ap test (number-is z h)

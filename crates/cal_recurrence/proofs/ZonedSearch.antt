@@ -11,10 +11,10 @@ use Rattle.cal_time.specs.UtcOffset.{IsOffset}
 use Rattle.cal_datetime.specs.DateTime.{last_date_time, IsDateTime}
 use Rattle.cal_datetime.specs.OffsetDateTime.{LocalAndOffset, instant, IsInstant}
 use Rattle.cal_datetime.proofs.Instants.{IsInstant-less}
-use Rattle.cal_recurrence.specs.DateTimeRule.{is_not_after, is_occurrence, occurrences_after}
-use Rattle.cal_recurrence.specs.DateTimeSet.{candidates, is_in_set, is_listed, IsNextFrom}
+use Rattle.cal_recurrence.specs.DateTimeRule.{is_not_after, is_occurrence, occurrences_after, readings_from}
+use Rattle.cal_recurrence.specs.DateTimeSet.{candidates, is_in_set, is_listed}
 use Rattle.cal_recurrence.specs.Nearest.{is_past, IsFirstPast, IsNearest}
-use Rattle.cal_recurrence.proofs.DateTimeSets.{after_rule, found, not_found, rule_readings, IsFound}
+use Rattle.cal_recurrence.proofs.DateTimeSets.{after_rule, found, not_found, number-is, rule_readings}
 use Rattle.cal_recurrence.proofs.NearestValues.{is-later, later, within}
 use Rattle.cal_zone.specs.Local.{moved_forward, IsCompatible, IsLocalOf}
 use Rattle.cal_zone.specs.Timeline.{Timeline}
@@ -208,39 +208,30 @@ Before set n z k = Means set z k × (z <ℤ n)
 abbrev pub Covered : ZonedSet → ℤ → ℤ → LocalAndOffset → Type 0
 Covered set n z k = Means set z k × (z ≤ℤ n)
 
-number-is : (z : ℤ) → IsDateTime z → pos (unsigned_abs z) ≡ z
-number-is z h = let e : pos (unsigned_abs z) ≡ z = omega (arith, ints, h.not_before) in e
-
 -- A candidate of a set is one of its readings, unless it is left out.
-pub candidate : (set : DateTimeSet) (z : ℤ) → is_in_set set z ≡ true → candidates set z ≡ true
+candidate : (set : DateTimeSet) (z : ℤ) → is_in_set set z ≡ true → candidates set z ≡ true
 unfolding is_in_set
 candidate set z on = (and_parts (candidates set z) (not (is_listed set.exceptions.now z)) on).0
 
-not-before : (test : ℤ → Bool) (n : ℕ) (y z : ℤ) → IsFound test n y → IsDateTime z → test z ≡ true → n ≤ unsigned_abs z → y ≤ℤ z
-not-before test n y z h range passes low = elim (compared z y) as (λ _. y ≤ℤ z) [
-  | inl less ↦ absurd (false≢true (sym (h.first.none_before (unsigned_abs z) low (omega (arith, ints, range.not_before, less, h.is))) ∙ ap test (number-is z range) ∙ passes))
-  | inr most ↦ most
-]
-
-found-range : (test : ℤ → Bool) (n : ℕ) (y : ℤ) → IsFound test n y → IsDateTime y
-found-range test n y h = record { not_before = omega (arith, ints, h.is); not_after = omega (arith, ints, h.is, h.first.below) }
-
--- The next reading that passes a test is one that a set can have, if the test passes its readings.
-pub is-at : (set : ZonedSet) (test : ℤ → Bool) (n : ℕ) (y : ℤ) → ((z : ℤ) → test z ≡ true → candidates set.readings z ≡ true)
-    → ((z : ℤ) → is_in_set set.readings z ≡ true → test z ≡ true) → IsNextFrom test n (Some y) → IsNextReading set n y
-is-at set test n y offered passes h =
-    let it : IsFound test n y = found test n y h in
+-- The next reading of a set is the next candidate that can be an occurrence.
+pub is-at : (set : ZonedSet) (n : ℕ) (y : ℤ) → Some y ≡ slice_get (readings_from (is_in_set set.readings) n) 0 → IsNextReading set n y
+is-at set n y e =
+    let test = is_in_set set.readings in
+    let at = found test n y e in
     record {
-      range = found-range test n y it;
-      on = offered y (ap test it.is ∙ it.first.passes);
-      from = it.first.not_before;
-      first = λ z k g low. not-before test n y z it g.range (passes z g.on) low;
+      range = record { not_before = omega (arith, ints, at.is); not_after = omega (arith, ints, at.is, at.first.below) };
+      on = candidate set.readings y (ap test at.is ∙ at.first.passes);
+      from = at.first.not_before;
+      first = λ z k g low. elim (compared z y) as (λ _. y ≤ℤ z) [
+        | inl less ↦ absurd (false≢true (sym (at.first.none_before (unsigned_abs z) low (omega (arith, ints, g.range.not_before, less, at.is))) ∙ ap test (number-is z g.range) ∙ g.on))
+        | inr most ↦ most
+      ];
     }
 
-pub none-left : (set : ZonedSet) (test : ℤ → Bool) (n : ℕ) → ((z : ℤ) → is_in_set set.readings z ≡ true → test z ≡ true) → IsNextFrom test n None → NoReading set n
-none-left set test n passes h z k g low =
-    false≢true (sym (not_found test n h (unsigned_abs z) low (omega (arith, ints, g.range.not_before, g.range.not_after)))
-    ∙ ap test (number-is z g.range) ∙ passes z g.on)
+pub none-left : (set : ZonedSet) (n : ℕ) → None ≡ slice_get (readings_from (is_in_set set.readings) n) 0 → NoReading set n
+none-left set n e z k g low =
+    let test = is_in_set set.readings in
+    false≢true (sym (not_found test n e (unsigned_abs z) low (omega (arith, ints, g.range.not_before, g.range.not_after))) ∙ ap test (number-is z g.range) ∙ g.on)
 
 -- ---- the readings past the end of the rule
 late-at : (last : Option LocalAndOffset) (n z : ℤ) (k : LocalAndOffset) → MatchOption last ⊥ (λ m. (instant m +ℤ reach) <ℤ n) → n ≤ℤ z → z ≤ℤ (instant k +ℤ reach) → is_not_after (option_map instant last) (instant k) ≡ false

@@ -1,11 +1,9 @@
 -- Recurrence sets of date-times: the readings of a rule and of `RDATE`, without the readings of
 -- `EXDATE` (RFC 5545).
-use Rattle.std.specs.Prelude.{◌≡◌, ℕ, ◌+◌, Bool, ◌&&◌, ◌||◌, not, ℤ, pos, unsigned_abs, List, Option, option_map}
+use Rattle.std.specs.Prelude.{◌+◌, Bool, ◌&&◌, ◌||◌, not, ℤ, unsigned_abs, List, Option}
 use Rattle.std.specs.List.{list_any}
 use Rattle.std.specs.Ordering.{int_eq}
-use Rattle.cal_datetime.specs.DateTime.{last_date_time}
 use Rattle.cal_recurrence.specs.DateTimeRule.{is_occurrence, readings_from, readings_left}
-use Rattle.cal_recurrence.specs.TimeSearch.{IsNext}
 use Rattle.cal_recurrence.specs.declared.date_time_set.DateTimeSet.{DateTimeSet}
 
 -- The reading z is in a list.
@@ -31,10 +29,3 @@ set_readings_after set z = readings_from (is_in_set set) (unsigned_abs z + 1)
 -- A reading of the set and the readings after it, or no readings.
 abbrev pub set_readings_left : DateTimeSet → Option ℤ → List ℤ
 set_readings_left set r = readings_left (is_in_set set) r
-
--- r is the first reading of the range from the number n on that passes a test. If r is `None`, none
--- passes.
-pub record IsNextFrom (test : ℤ → Bool) (n : ℕ) (r : Option ℤ) : Type 0 where
-  pub number : Option ℕ
-  pub is : r ≡ option_map pos number
-  pub next : IsNext (λ k. test (pos k)) n (last_date_time + 1) number

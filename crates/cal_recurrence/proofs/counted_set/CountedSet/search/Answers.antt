@@ -1,9 +1,8 @@
 use Rattle.std.proofs.Common.{◌≡◌, ◌∙◌, ap, sym, true, slice_get, Some}
-use Rattle.cal_recurrence.specs.CountedSet.{first_number, whole_set}
+use Rattle.cal_recurrence.specs.CountedSet.{first_number}
 use Rattle.cal_recurrence.specs.DateTimeRule.{is_not_after, readings_from}
 use Rattle.cal_recurrence.specs.DateTimeSet.{is_in_set}
 use Rattle.cal_recurrence.proofs.CountedSets.{settled}
-use Rattle.cal_recurrence.proofs.DateTimeSets.{in-list, of-list}
 use Rattle.cal_recurrence.proofs.counted_set.CountedSet.search.Goals as goal
 use Rattle.cal_recurrence.proofs.counted_set.CountedSet.search.Goals.{then-after, else-after}
 
@@ -20,5 +19,4 @@ returns-then-is_not_after-clause-value c =
       | else-after w ↦ sym c.in-Some.is ∙ w.found-is ∙ w.first_from-found.ensures ∙ ap (λ a. slice_get (readings_from (is_in_set set) (first_number a reading)) 0) (sym w.if-after.false)
     ] in
     let by : is_not_after set.rule.until next ≡ true = sym c.is_not_after.ensures ∙ c.if-is_not_after.true in
-    in-list (is_in_set (whole_set set left)) n (Some next) (settled set left n next c.loop-self.invariant.order by (of-list (is_in_set set) n (Some next) found))
-    ∙ ap (λ s. slice_get (readings_from (is_in_set s) n) 0) c.loop-self.invariant.whole
+    settled set left n next c.loop-self.invariant.order by found ∙ ap (λ s. slice_get (readings_from (is_in_set s) n) 0) c.loop-self.invariant.whole

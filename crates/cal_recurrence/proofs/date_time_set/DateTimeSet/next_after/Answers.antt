@@ -1,10 +1,9 @@
-use Rattle.std.proofs.Common.{true, ◌+◌, refl, arith, sym, ◌∙◌, None, Some}
-use Rattle.std.specs.Prelude.{unsigned_abs}
+use Rattle.std.proofs.Common.{true, refl, arith, sym, ◌∙◌}
 use Rattle.std.specs.Ordering.{int_cmp}
 use Rattle.std.proofs.lemmas.Int.{ints}
-use Rattle.cal_recurrence.specs.DateTimeSet.{is_in_set, is_listed}
+use Rattle.cal_recurrence.specs.DateTimeSet.{is_listed}
 use Rattle.cal_recurrence.specs.Nearest.{is_past, IsFirstPast}
-use Rattle.cal_recurrence.proofs.DateTimeSets.{after_rule, first_after, in-list, next_candidates, next_readings, none_after, rule_readings, same_reading}
+use Rattle.cal_recurrence.proofs.DateTimeSets.{after_rule, first_after, next_candidates, next_readings, none_after, rule_readings, same_reading}
 use Rattle.cal_recurrence.proofs.NearestValues.{ended, is-later, kept, readings_after, skipped}
 use Rattle.cal_recurrence.proofs.date_time_set.DateTimeSet.next_after.Goals as goal
 
@@ -19,7 +18,7 @@ returns-then-not-contains c =
     kept (is_past int_cmp true) (next_readings set) (next_candidates set) (is_listed set.exceptions.now) z at.last x (λ k. refl) at.invariant.searched
     (c.in-Some.ensures (rule_readings set) (after_rule set at.last _ at.invariant.range c.next_after.ensures)) (sym c.contains.ensures.value ∙ c.if-not-contains.true) in
     record {
-      value = in-list (is_in_set set) (unsigned_abs z + 1) (Some x) (first_after set z x c.date.ensures.in_range date first);
+      value = first_after set z x c.date.ensures.in_range date first;
       found = (is-later z x first.beyond, same_reading set x date ∙ first.passes);
     }
 
@@ -46,6 +45,6 @@ pub returns-clause-value : goal.returns-clause-value
 returns-clause-value c =
     let set = c.args.self.now in
     let at = c.loop-next in
-    in-list (is_in_set set) (unsigned_abs c.args.reading + 1) None (none_after set c.args.reading c.date.ensures.in_range
+    none_after set c.args.reading c.date.ensures.in_range
     (ended (is_past int_cmp true) (next_readings set) (next_candidates set) (is_listed set.exceptions.now) c.args.reading at.last (λ k. refl) at.invariant.searched
-    (c.in_default.ensures (rule_readings set) (after_rule set at.last _ at.invariant.range c.next_after.ensures))))
+    (c.in_default.ensures (rule_readings set) (after_rule set at.last _ at.invariant.range c.next_after.ensures)))

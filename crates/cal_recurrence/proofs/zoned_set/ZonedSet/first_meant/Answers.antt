@@ -1,38 +1,26 @@
-use Rattle.std.proofs.Common.{◌+◌, ◌+ℤ◌, sym, subst, Some, None}
+use Rattle.std.proofs.Common.{◌+◌, ◌+ℤ◌, sym, subst}
 use Rattle.std.specs.Prelude.{unsigned_abs}
 use Rattle.std.proofs.lemmas.Int.{to_z-of_z}
 use Rattle.cal_datetime.specs.OffsetDateTime.{unix_epoch}
-use Rattle.cal_recurrence.specs.DateTimeSet.{is_in_set}
 use Rattle.cal_recurrence.specs.ZonedSet.{IsNextAfter, IsNextReading, MeansAt}
-use Rattle.cal_recurrence.proofs.DateTimeSets.{of-list}
-use Rattle.cal_recurrence.proofs.ZonedSearch.{begins, candidate, empty, ends, is-at, none-left, step, stops, up-to_next, Covered}
+use Rattle.cal_recurrence.proofs.ZonedSearch.{begins, empty, ends, is-at, none-left, step, stops, up-to_next, Covered}
 use Rattle.cal_recurrence.proofs.zoned_set.ZonedSet.first_meant.Goals as goal
 
 pub returns-in_default : goal.returns-in_default
 returns-in_default c =
     let set = c.args.self.now in
     let start = c.args.start in
-    let n = unsigned_abs start in
-    empty set start (unix_epoch +ℤ c.args.after) c.requires c.date.ensures.in_range
-    (none-left set (is_in_set set.readings) n (λ z e. e) (of-list (is_in_set set.readings) n None c.in_default.ensures))
+    empty set start (unix_epoch +ℤ c.args.after) c.requires c.date.ensures.in_range (none-left set (unsigned_abs start) c.in_default.ensures)
 
 pub moment_after-first-requires : goal.moment_after-first-requires
-moment_after-first-requires c =
-    let set = c.args.self.now in
-    let n = unsigned_abs c.args.start in
-    let reading = c.in-Some.reading in
-    let at : IsNextReading set n reading =
-    is-at set (is_in_set set.readings) n reading (candidate set.readings) (λ z e. e) (of-list (is_in_set set.readings) n (Some reading) c.in-Some.ensures) in
-    at.on
+moment_after-first-requires c = (is-at c.args.self.now (unsigned_abs c.args.start) c.in-Some.reading c.in-Some.ensures).on
 
 pub loop-next-init : goal.loop-next-init
 loop-next-init c =
     let set = c.args.self.now in
     let start = c.args.start in
-    let n = unsigned_abs start in
     let reading = c.in-Some.reading in
-    let at : IsNextReading set n reading =
-    is-at set (is_in_set set.readings) n reading (candidate set.readings) (λ z e. e) (of-list (is_in_set set.readings) n (Some reading) c.in-Some.ensures) in
+    let at = is-at set (unsigned_abs start) reading c.in-Some.ensures in
     record {
       covered = subst (λ a. IsNextAfter (Covered set reading) (unix_epoch +ℤ a) c.moment_after-first.result) (sym (to_z-of_z _ c.args.after c.ranges.after))
           (begins set start (unix_epoch +ℤ c.args.after) reading c.moment_after-first.result c.requires c.date.ensures.in_range at
