@@ -58,8 +58,8 @@ pub record HasInstant (set : ZonedSet) (x : ℤ) : Type 0 where
   pub occurs : Occurs set place moment
   pub same : instant moment ≡ x
 
--- m is the first occurrence after the instant x. Of two at the same instant it is the one with the
--- first place: a reading before another instant, and the earlier reading.
+-- m is the first occurrence after the instant x. If two are at the same instant, it has the first
+-- place: a reading before another instant, and the earlier reading.
 pub record IsFirstAfter (occurs : ℤ → LocalAndOffset → Type 0) (x : ℤ) (m : LocalAndOffset) : Type 0 where
   pub place : ℤ
   pub is : occurs place m

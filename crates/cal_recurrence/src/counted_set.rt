@@ -55,7 +55,8 @@ impl Recurrence {
     }
 
     /// Returns the set of the readings from a start with others (`RDATE`) and without exceptions
-    /// (`EXDATE`).
+    /// (`EXDATE`). For `FREQ=DAILY;COUNT=3` from 2024-01-01 9:00 on without 2024-01-02 9:00, it has
+    /// 9:00 on 1 and 3 January 2024.
     pub fn counted_set<'a>(
         &self,
         start: PlainDateTime,
@@ -116,7 +117,8 @@ impl<'a> CountedSet<'a> {
     }
 
     /// Returns the first reading of the set after a reading, or `None` if the range has no such
-    /// reading.
+    /// reading. For 9:00 on three days from 2024-01-01 on, 2024-01-02 9:00 comes after 2024-01-01
+    /// 9:00.
     pub fn next_after(&mut self, reading: PlainDateTime) -> Option<PlainDateTime>
         ensures value { result ≡ slice_get (set_readings_after self.old reading) 0 }
         ensures same { self.new ≡ self.old }
@@ -125,7 +127,8 @@ impl<'a> CountedSet<'a> {
     }
 
     /// Returns the first reading of the set that isn't before a reading, or `None` if the range has
-    /// no such reading.
+    /// no such reading. For 9:00 on three days from 2024-01-01 on, 2024-01-02 9:00 is the first from
+    /// 2024-01-01 10:00 on.
     pub fn first_from(&mut self, reading: PlainDateTime) -> Option<PlainDateTime>
         ensures value { result ≡ slice_get (set_readings_from self.old reading) 0 }
         ensures same { self.new ≡ self.old }
@@ -133,7 +136,8 @@ impl<'a> CountedSet<'a> {
         self.search(reading, false)
     }
 
-    /// Returns `true` if a reading is in the set.
+    /// Returns `true` if a reading is in the set. For 9:00 on three days from 2024-01-01 on,
+    /// 2024-01-03 9:00 is in it, and 2024-01-04 9:00 isn't.
     pub fn contains(&mut self, reading: PlainDateTime) -> bool
         ensures value { result ≡ is_in_set self.old reading }
         ensures same { self.new ≡ self.old }
@@ -146,7 +150,8 @@ impl<'a> CountedSet<'a> {
         }
     }
 
-    /// Returns an iterator over all readings of the set, in ascending order, each once.
+    /// Returns an iterator over all readings of the set, in ascending order, each once. For 9:00 on
+    /// three days from 2024-01-01 on, these are 9:00 on 1, 2 and 3 January.
     pub fn readings(self) -> DateTimeSetReadings<'a>
         ensures { result ≡ set_readings_from self.entry (pos 0) }
     {
@@ -155,7 +160,8 @@ impl<'a> CountedSet<'a> {
     }
 
     /// Returns an iterator over the readings of the set from a reading on, in ascending order, each
-    /// once.
+    /// once. For 9:00 on three days from 2024-01-01 on, only 2024-01-03 9:00 is left from 2024-01-02
+    /// 10:00 on.
     pub fn readings_from(mut self, reading: PlainDateTime) -> DateTimeSetReadings<'a>
         ensures { result ≡ set_readings_from self.entry reading }
     {

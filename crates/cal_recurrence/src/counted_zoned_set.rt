@@ -44,6 +44,8 @@ impl<'a> Model for CountedZonedSet<'a> {
 impl Recurrence {
     /// Returns the set of the moments of the readings from a start in a zone, with other readings
     /// (`RDATE`) and without exceptions (`EXDATE`). An `UNTIL` in UTC ends the rule at an instant.
+    /// For `FREQ=DAILY;COUNT=2` from 2024-03-30 2:30 on in Berlin, they are 2024-03-30 2:30
+    /// +01:00:00 and 2024-03-31 3:30 +02:00:00.
     pub fn zoned_set<'a>(
         &self,
         start: PlainDateTime,
@@ -111,7 +113,9 @@ impl<'a> ZonedSet<'a> {
 
 impl<'a> CountedZonedSet<'a> {
     /// Returns the set with other instants (`RDATE` in UTC) and without exceptions (`EXDATE` in UTC),
-    /// in place of those that it has.
+    /// in place of those that it has. For 2:30 on two days from 2024-03-30 on in Berlin, with
+    /// 2024-04-02 12:00 UTC and without 2024-03-31 1:30 UTC, it has 2024-03-30 2:30 +01:00:00 and
+    /// 2024-04-02 12:00 UTC.
     pub fn with_instants(
         self,
         instants: &'a [OffsetDateTime],
@@ -159,6 +163,8 @@ impl<'a> CountedZonedSet<'a> {
     }
 
     /// Returns the first occurrence after an instant, or `None` if the set has no such occurrence.
+    /// For 2:30 on two days from 2024-03-30 on in Berlin, 2024-03-31 3:30 +02:00:00 comes after
+    /// 2024-03-31 0:00 UTC.
     pub fn next_after(&mut self, moment: OffsetDateTime) -> Option<OffsetDateTime>
         ensures value { IsNextAfter (Occurs self.old) (instant moment) result }
         ensures same { self.new ≡ self.old }
@@ -167,7 +173,8 @@ impl<'a> CountedZonedSet<'a> {
     }
 
     /// Returns the first occurrence that isn't before an instant, or `None` if the set has no such
-    /// occurrence.
+    /// occurrence. For 2:30 on two days from 2024-03-30 on in Berlin, 2024-03-31 3:30 +02:00:00 is
+    /// the first from 2024-03-31 1:30 UTC on.
     pub fn first_from(&mut self, moment: OffsetDateTime) -> Option<OffsetDateTime>
         ensures value { IsNextAfter (Occurs self.old) (instant moment -ℤ pos 1) result }
         ensures same { self.new ≡ self.old }
@@ -175,7 +182,8 @@ impl<'a> CountedZonedSet<'a> {
         self.search(moment, false)
     }
 
-    /// Returns `true` if an instant is an occurrence.
+    /// Returns `true` if an instant is an occurrence. For 2:30 on two days from 2024-03-30 on in
+    /// Berlin, 2024-03-31 1:30 UTC is one, and 2024-04-01 0:30 UTC isn't.
     pub fn contains(&mut self, moment: OffsetDateTime) -> bool
         ensures value { IsTrue result ↔ HasInstant self.old (instant moment) }
         ensures same { self.new ≡ self.old }
@@ -183,7 +191,9 @@ impl<'a> CountedZonedSet<'a> {
         is_at(self.first_from(moment), moment)
     }
 
-    /// Returns an iterator over all occurrences, in ascending order, each instant once.
+    /// Returns an iterator over all occurrences, in ascending order, each instant once. For 2:30 on
+    /// two days from 2024-03-30 on in Berlin, these are 2024-03-30 2:30 +01:00:00 and 2024-03-31
+    /// 3:30 +02:00:00.
     pub fn occurrences(mut self) -> Occurrences<'a>
         ensures set { result.set ≡ self.entry }
         ensures first { IsNextAfter (Occurs self.entry) before_all result.front }
@@ -193,7 +203,8 @@ impl<'a> CountedZonedSet<'a> {
     }
 
     /// Returns an iterator over the occurrences after an instant, in ascending order, each instant
-    /// once. It doesn't go through the occurrences before it.
+    /// once. It doesn't go through the occurrences before it. For 2:30 on two days from 2024-03-30
+    /// on in Berlin, only 2024-03-31 3:30 +02:00:00 comes after 2024-03-30 12:00 UTC.
     pub fn occurrences_after(mut self, moment: OffsetDateTime) -> Occurrences<'a>
         ensures set { result.set ≡ self.entry }
         ensures first { IsNextAfter (Occurs self.entry) (instant moment) result.front }

@@ -67,7 +67,8 @@ impl<'a> DateTimeSet<'a> {
     }
 
     /// Returns the first reading of the set that isn't before a reading, or `None` if the range has
-    /// no such reading.
+    /// no such reading. In the set of 9:00 on every day without 2024-01-02 9:00, 2024-01-03 9:00 is
+    /// the first from 2024-01-02 9:00 on.
     pub fn first_from(&self, reading: PlainDateTime) -> Option<PlainDateTime>
         ensures { result ≡ slice_get (set_readings_from self.now reading) 0 }
     {
@@ -79,7 +80,8 @@ impl<'a> DateTimeSet<'a> {
     }
 
     /// Returns an iterator over the readings of the set from a reading on, in ascending order, each
-    /// once. It doesn't go through the readings before it.
+    /// once. It doesn't go through the readings before it. For 9:00 on every day without 2024-01-02
+    /// 9:00, it begins with 2024-01-03 9:00 from 2024-01-02 9:00 on.
     pub fn readings_from(&self, reading: PlainDateTime) -> DateTimeSetReadings<'a>
         ensures { result ≡ set_readings_from self.now reading }
     {

@@ -36,7 +36,8 @@ impl<'a> ZonedSet<'a> {
     }
 
     /// Returns an iterator over the occurrences after an instant, in ascending order. It doesn't go
-    /// through the occurrences before it.
+    /// through the occurrences before it. For 2:30 on every day in Berlin, it begins with 2024-03-31
+    /// 3:30 +02:00:00 after 2024-03-31 0:00 UTC.
     pub fn occurrences_after(&self, moment: OffsetDateTime) -> Occurrences<'a>
         ensures set { result.set ≡ self.now }
         ensures first { IsNextAfter (Occurs self.now) (instant moment) result.front }

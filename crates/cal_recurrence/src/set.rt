@@ -74,7 +74,8 @@ impl<'a> RecurrenceSet<'a> {
     }
 
     /// Returns an iterator over the days of the set from a date on, in ascending order, each once.
-    /// It doesn't go through the days before the date.
+    /// It doesn't go through the days before the date. For the last Fridays of the months without 26
+    /// January 2024, it begins with 23 February 2024 from 1 January 2024 on.
     pub fn days_from(&self, date: Date) -> RecurrenceSetDays<'a>
         ensures { result ≡ set_days_from self.now date }
     {

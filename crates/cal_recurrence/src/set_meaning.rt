@@ -55,7 +55,8 @@ pub struct SetInstants {
 }
 
 impl SetDays {
-    /// Returns the set of the days, which borrows the lists.
+    /// Returns the set of the days, which borrows the lists. For `DTSTART:20240101` and
+    /// `RRULE:FREQ=DAILY;COUNT=3`, it has 1, 2 and 3 January 2024.
     pub fn set(&self) -> RecurrenceSet<'_>
         ensures rule { result.rule ≡ self.now.rule }
         ensures dates { result.dates.now ≡ self.now.dates }
@@ -70,7 +71,8 @@ impl SetDays {
 }
 
 impl SetReadings {
-    /// Returns the set of the readings, which borrows the lists.
+    /// Returns the set of the readings, which borrows the lists. For `DTSTART:20240101T090000` and
+    /// `RRULE:FREQ=DAILY;COUNT=3`, it has 9:00 on 1, 2 and 3 January 2024.
     pub fn set(&self) -> CountedSet<'_>
         ensures rule { result.rule ≡ counted_rule self.now.recurrence self.now.start }
         ensures dates { result.dates.now ≡ self.now.dates }
@@ -82,7 +84,9 @@ impl SetReadings {
 }
 
 impl SetInstants {
-    /// Returns the set of the instants in a zone, which borrows the lists and the zone.
+    /// Returns the set of the instants in a zone, which borrows the lists and the zone. For
+    /// `DTSTART:20240330T023000` and `RRULE:FREQ=DAILY;COUNT=2` in Berlin, it has 2024-03-30 2:30
+    /// +01:00:00 and 2024-03-31 3:30 +02:00:00.
     pub fn set<'a>(&'a self, zone: &'a Zone<'a>) -> CountedZonedSet<'a>
         ensures zone { result.zone.now ≡ zone.now }
         ensures rule { result.readings.rule ≡ zone_rule self.now.readings.recurrence self.now.readings.start }
@@ -143,7 +147,8 @@ impl SetParts<'_> {
     /// Returns the days of a set of dates. A time of day of the `UNTIL` doesn't count.
     ///
     /// Returns the first of the lines `Start`, `Dates` and `Exceptions` with a time of day. With a
-    /// `COUNT` it walks over the days of the rule once.
+    /// `COUNT` it walks over the days of the rule once. For `DTSTART:20240101` and
+    /// `RRULE:FREQ=DAILY;COUNT=3`, the rule ends on 3 January 2024.
     pub fn days(&self) -> Result<SetDays, SetLine>
         ensures { result ≡ set_days self.now }
     {
@@ -172,7 +177,7 @@ impl SetParts<'_> {
     ///
     /// Returns the first of the lines `Start`, `Rule`, `Dates` and `Exceptions` with a value of
     /// another kind: a date, except in an `UNTIL`, or a time with `Z` if the start has none, or
-    /// without it.
+    /// without it. For `DTSTART:20240101T090000` and `RDATE:20240102T100000Z`, it returns `Dates`.
     pub fn readings(&self) -> Result<SetReadings, SetLine>
         ensures { result ≡ set_readings self.now }
     {
@@ -210,7 +215,9 @@ impl SetParts<'_> {
     /// zone, and values with `Z` are instants. An `UNTIL` that is a date includes the whole day.
     ///
     /// Returns the first of the lines `Start`, `Dates` and `Exceptions` with another value. A
-    /// `DTSTART` with `Z` means UTC, so it is one; then use `readings`.
+    /// `DTSTART` with `Z` means UTC, so it is one; then use `readings`. For `DTSTART:20240101T090000`
+    /// and `RDATE:20240102T100000Z`, 9:00 on 1 January is a reading, and 10:00 UTC on 2 January is
+    /// another instant.
     pub fn instants(&self) -> Result<SetInstants, SetLine>
         ensures { result ≡ set_instants self.now }
     {

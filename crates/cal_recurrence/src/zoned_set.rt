@@ -200,7 +200,8 @@ impl<'a> ZonedSet<'a> {
     }
 
     /// Returns the first occurrence that isn't before an instant, or `None` if the set has no such
-    /// occurrence.
+    /// occurrence. For 2:30 on every day in Berlin, 2024-03-31 3:30 +02:00:00 is the first from
+    /// 2024-03-31 1:30 UTC on.
     pub fn first_from(&self, moment: OffsetDateTime) -> Option<OffsetDateTime>
         ensures { IsNextAfter (Occurs self.now) (instant moment -ℤ pos 1) result }
     {
