@@ -97,7 +97,7 @@ typedef struct fots_recurrence {
     int16_t set_positions[FOTS_MAX_VALUES];
 } fots_recurrence;
 
-/* The maximum number of holidays, and of the dates and the exceptions of a rule. */
+/* The maximum number of holidays, and of the dates and the exceptions of a rule or a set. */
 #define FOTS_MAX_HOLIDAYS 1024
 #define FOTS_MAX_DATES 1024
 
@@ -826,8 +826,8 @@ static inline fots_rule fots_recurrence_rule(const fots_recurrence *recurrence, 
 fots_recurrence_result fots_recurrence_days(const char *text, size_t text_length, fots_date start, fots_date from, fots_date *days,
     size_t days_length);
 
-/* A recurrence with times of day: its text, its start, and other readings. A reading is the date and
- * the time of a moment, at any offset. */
+/* A recurrence with times of day: its text, its start, other readings and exceptions. A reading is
+ * the date and the time of a moment, whose offset doesn't count. */
 typedef struct fots_recurrence_set {
     const char *text;
     size_t text_length;
@@ -849,9 +849,10 @@ static inline fots_recurrence_set fots_recurrence_set_new(const char *text, size
 /* Writes the readings of a set from a reading on, in order, as moments at the offset 0, and returns
  * their number: `readings_length`, or fewer if no more follow. COUNT counts from the start, without
  * the other readings. BYSETPOS counts the readings of a period. A second of 60 never matches. An
- * UNTIL that is a date includes its day. After errors of the text come FOTS_TOO_MANY_DATES and
- * FOTS_INVALID_MOMENT. The array must not overlap the set. "FREQ=DAILY;BYHOUR=9,17;COUNT=3" from
- * 1997-09-02 9:00 on has 9:00 and 17:00 on that day, and 9:00 on the next one. */
+ * UNTIL that is a date includes its day, and one with Z ends at its date and time. After errors of
+ * the text come FOTS_TOO_MANY_DATES and FOTS_INVALID_MOMENT. The array must not overlap the set.
+ * "FREQ=DAILY;BYHOUR=9,17;COUNT=3" from 1997-09-02 9:00 on has 9:00 and 17:00 on that day, and 9:00
+ * on the next one. */
 fots_recurrence_result fots_recurrence_readings(const fots_recurrence_set *set, fots_moment from, fots_moment *readings, size_t readings_length);
 
 /* ---- day counts */
@@ -1278,10 +1279,11 @@ size_t fots_dates_format(const int32_t *dates, size_t dates_length, const fots_f
  * such as CET-1CEST,M3.5.0,M10.5.0/3, and where its changes are there. fots_zone_from_file and
  * fots_zone_from_posix check the bytes once, in 1.5 microseconds for Europe/Berlin. Keep them
  * unchanged while you use the zone; if they move, set the pointer. After a change by hand results
- * can be wrong, but no call reads past the bytes. A call rejects numbers that no zone has first, as
- * FOTS_INVALID_ZONE. Unix times are in seconds. The examples are for Europe/Berlin. */
+ * can be wrong, but no call reads past the bytes. A zone with other numbers than a call makes is an
+ * invalid argument, FOTS_INVALID_ZONE. Unix times are in seconds. The examples are for
+ * Europe/Berlin. */
 typedef struct fots_zone_clock {
-    int32_t offset;
+    int32_t offset; /* in seconds, positive to the east, from -93599 to 93599 */
     uint32_t is_daylight;
     size_t name_start; /* this and the next field are positions in the bytes of the zone */
     size_t name_end;
@@ -1291,7 +1293,7 @@ typedef struct fots_zone_yearly {
     uint8_t month; /* from 0 */
     uint8_t week; /* 5 for the last one */
     uint8_t weekday; /* from 0 for Monday */
-    int32_t time;
+    int32_t time; /* in seconds after midnight by the clocks before, from -604800 to 604800 */
     fots_zone_clock clock;
 } fots_zone_yearly;
 
@@ -1385,7 +1387,7 @@ static inline fots_zone_result fots_zone_from_posix(const char *text, size_t len
 fots_offset_result fots_zone_offset(const fots_zone *zone, int64_t seconds);
 fots_local_type_result fots_zone_local_type(const fots_zone *zone, int64_t seconds);
 
-/* Return the Unix time of the first change after another one, or of the last one that is not after
+/* Return the Unix time of the first change after a Unix time, or of the last change at or before
  * it; FOTS_RESULT_OUT_OF_RANGE if there is none. After 1700000000: 1711846800. */
 fots_int64_result fots_zone_next_change(const fots_zone *zone, int64_t seconds);
 fots_int64_result fots_zone_previous_change(const fots_zone *zone, int64_t seconds);
@@ -1395,8 +1397,9 @@ fots_int64_result fots_zone_previous_change(const fots_zone *zone, int64_t secon
 fots_moment_result fots_moment_in_zone(fots_moment moment, const fots_zone *zone);
 
 /* Writes the text of the same instant in a zone, as fots_moment_format does, with the abbreviation
- * as "%Z"; FOTS_RESULT_OUT_OF_RANGE, and FOTS_UNSUPPORTED_ITEM for an abbreviation of more than 15
- * bytes. 2024-03-31 1:00 UTC is "03:00 CEST" by "%H:%M %Z". */
+ * as "%Z"; FOTS_INVALID_FORMAT, FOTS_INVALID_ZONE, FOTS_RESULT_OUT_OF_RANGE, FOTS_UNSUPPORTED_ITEM
+ * for an abbreviation of more than 15 bytes, and FOTS_BUFFER_TOO_SHORT. 2024-03-31 1:00 UTC is
+ * "03:00 CEST" by "%H:%M %Z". */
 fots_length_result fots_moment_format_in_zone(fots_moment moment, const fots_zone *zone, const fots_format *format, char *bytes,
     size_t bytes_length);
 
@@ -1411,10 +1414,11 @@ fots_local_result fots_zone_resolve(const fots_zone *zone, fots_date date, fots_
 fots_moment_result fots_zone_moment(const fots_zone *zone, fots_date date, fots_time time, uint32_t policy);
 
 /* Writes the moments that the readings of a set mean by FOTS_COMPATIBLE, after a moment, in order,
- * each once, and returns their number: `moments_length`, or fewer if no more follow. An UNTIL with Z
- * ends the rule at its instant. It checks the bytes of the zone again. Errors are those of
- * fots_recurrence_readings, and then FOTS_INVALID_ZONE. "FREQ=DAILY" from 2024-03-30 2:30 has
- * 2024-03-31 3:30 +02:00 after 2024-03-31 0:00 UTC. */
+ * each once, and returns their number: `moments_length`, or fewer if no more follow. An UNTIL with
+ * Z ends the rule at its instant. It uses only the bytes of the zone, and checks them again. Errors
+ * are those of fots_recurrence_readings, and then FOTS_INVALID_ZONE if they are not a zone. The
+ * array must not overlap the set or the zone. "FREQ=DAILY" from 2024-03-30 2:30 has 2024-03-31 3:30
+ * +02:00 after 2024-03-31 0:00 UTC. */
 fots_recurrence_result fots_recurrence_moments(const fots_recurrence_set *set, const fots_zone *zone, fots_moment after, fots_moment *moments,
     size_t moments_length);
 
@@ -1423,7 +1427,8 @@ size_t fots_zone_offsets(const fots_zone *zone, const int64_t *seconds, size_t s
     uint8_t *statuses, size_t length);
 
 /* Writes the Unix times of readings by a policy: a reading is the seconds by the clock since
- * 1970-01-01 0:00. FOTS_RESULT_OUT_OF_RANGE outside -2^60 to 2^60. */
+ * 1970-01-01 0:00. Errors: FOTS_INVALID_POLICY, FOTS_RESULT_OUT_OF_RANGE for a reading outside
+ * -2^60 to 2^60, FOTS_SKIPPED_TIME and FOTS_REPEATED_TIME for FOTS_REJECT. */
 size_t fots_zone_instants(const fots_zone *zone, const int64_t *readings, size_t readings_length, uint32_t policy, int64_t *seconds,
     size_t seconds_length, uint8_t *statuses, size_t length);
 
