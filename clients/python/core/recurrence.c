@@ -1,7 +1,16 @@
 /* Rules and recurrences, for the file schedules.py. */
 
-/* The days or times that a call returns at most: an iteration asks for as many at once. */
-#define AT_ONCE 64
+/* The maximum length of a page: the days or times that a call returns at once. */
+#define AT_MOST 4096
+
+static int to_length(PyObject *number, size_t *length)
+{
+    *length = PyLong_AsSize_t(number);
+    if (*length > AT_MOST) {
+        *length = AT_MOST;
+    }
+    return !PyErr_Occurred();
+}
 
 #define LIST_OF_RULE(list) &rule->list, &rule->list##_length
 
@@ -30,12 +39,13 @@ static PyObject *core_rule_days_after(PyObject *self, PyObject *const *given, Py
 {
     const State *state = state_of_module(self);
     fots_rule rule;
-    fots_date date, days[AT_ONCE];
-    if (!is_count("rule_days_after", count, 2) || !to_rule(state, given[0], &rule) ||
-        !to_date(state, given[1], &date)) {
+    fots_date date, days[AT_MOST];
+    size_t length;
+    if (!is_count("rule_days_after", count, 3) || !to_rule(state, given[0], &rule) ||
+        !to_date(state, given[1], &date) || !to_length(given[2], &length)) {
         return NULL;
     }
-    fots_days_result result = fots_rule_days_after(&rule, date, days, AT_ONCE);
+    fots_days_result result = fots_rule_days_after(&rule, date, days, length);
     return result.status ? raise_status(state, result.status) :
         list_of_date(state, days, result.length);
 }
@@ -45,13 +55,15 @@ static PyObject *core_recurrence_days(PyObject *self, PyObject *const *given, Py
 {
     const State *state = state_of_module(self);
     Text text = {NULL, NULL, 0};
-    fots_date start, from, days[AT_ONCE];
-    if (!is_count("recurrence_days", count, 3) || !to_date(state, given[1], &start) ||
-        !to_date(state, given[2], &from) || !to_text(state, given[0], &text)) {
+    fots_date start, from, days[AT_MOST];
+    size_t length;
+    if (!is_count("recurrence_days", count, 4) || !to_date(state, given[1], &start) ||
+        !to_date(state, given[2], &from) || !to_length(given[3], &length) ||
+        !to_text(state, given[0], &text)) {
         return NULL;
     }
     fots_recurrence_result result =
-        fots_recurrence_days(text.start, text.length, start, from, days, AT_ONCE);
+        fots_recurrence_days(text.start, text.length, start, from, days, length);
     Py_XDECREF(text.bytes);
     return result.status ?
         raise_position(state, result.status, result.position, result.part) :
@@ -66,8 +78,9 @@ static PyObject *core_recurrence_times(PyObject *self, PyObject *const *given, P
     PyObject *start;
     fots_recurrence_set set;
     fots_zone zone;
-    fots_moment first, times[AT_ONCE];
-    if (!is_count("recurrence_times", count, 3) ||
+    fots_moment first, times[AT_MOST];
+    size_t length;
+    if (!is_count("recurrence_times", count, 4) || !to_length(given[3], &length) ||
         !PyArg_ParseTuple(given[0], "s#Oy#y#", &set.text, &set.text_length, &start, &set.dates,
             &set.dates_length, &set.exceptions, &set.exceptions_length)) {
         return NULL;
@@ -80,8 +93,8 @@ static PyObject *core_recurrence_times(PyObject *self, PyObject *const *given, P
     set.dates_length /= sizeof *set.dates;
     set.exceptions_length /= sizeof *set.exceptions;
     fots_recurrence_result result = is_plain ?
-        fots_recurrence_readings(&set, first, times, AT_ONCE) :
-        fots_recurrence_moments(&set, &zone, first, times, AT_ONCE);
+        fots_recurrence_readings(&set, first, times, length) :
+        fots_recurrence_moments(&set, &zone, first, times, length);
     return result.status ? raise_status(state, result.status) :
         list_of_moment(is_plain ? state->plain : state->moment, times, result.length);
 }

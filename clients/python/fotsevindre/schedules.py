@@ -27,13 +27,16 @@ _NANOSECOND = _core.nanoseconds(1)
 _Readings = Iterable[PlainDateTime]
 
 
-def _pages(page: Callable[[Any], list[Any]], follow: Callable[[Any], Any], first: Any
+def _pages(page: Callable[[Any, int], list[Any]], follow: Callable[[Any], Any], first: Any
            ) -> Iterator[Any]:
-    """Iterates over what a call returns, at most 64 at once, from the first or what follows."""
+    """Iterates over what a call returns, from the first or what follows, on longer and longer
+    pages: each call counts a `COUNT` from the start."""
+    length = 64
     while first is not None:
-        values = page(first)
+        values = page(first, length)
         yield from values
-        first = follow(values[-1]) if len(values) == 64 else None
+        first = follow(values[-1]) if len(values) == length else None
+        length = min(2 * length, 4096)
 
 
 def _packed(readings: _Readings) -> bytes:
@@ -367,6 +370,6 @@ class Recurrence:
         return (one for one in pages if one >= low and one not in instants)
 
     def _times(self, start: PlainDateTime, dates: _Readings, exceptions: _Readings, zone: Any
-               ) -> Callable[[Any], list[Any]]:
+               ) -> Callable[[Any, int], list[Any]]:
         given = self.text, check(start, PlainDateTime), _packed(dates), _packed(exceptions)
         return functools.partial(_core.recurrence_times, given, zone)

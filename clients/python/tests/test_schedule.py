@@ -209,14 +209,17 @@ class Recurrences(unittest.TestCase):
 
     def test_long_walks(self):
         rule = Rule(day(2000, 1, 1), Frequency.Daily, interval=3)
-        days = rule.first_days(1000)
-        self.assertEqual(days, [Date.from_julian_day(2451545 + 3 * index) for index in range(1000)])
+        days = rule.first_days(13_000)
+        self.assertEqual(days, [Date.from_julian_day(2451545 + 3 * index) for index in range(13_000)])
         self.assertEqual(list(itertools.islice(rule.days_after(days[70]), 200)), days[71:271])
         ended = Rule(day(2000, 1, 1), Frequency.Daily, interval=3, until=days[128])
         self.assertEqual(list(ended), days[:129])
-        counted = Recurrence.parse("FREQ=DAILY;INTERVAL=3;COUNT=129")
-        self.assertEqual(list(counted.days(days[0])), days[:129])
-        self.assertEqual(list(counted.days_from(days[0], days[128])), days[128:129])
+        # Pages end after 64, 192 and 8128 days, and after 4096 more each.
+        for count in (129, 192, 193, 8128, 8129, 12_224, 12_225):
+            counted = Recurrence.parse(f"FREQ=DAILY;INTERVAL=3;COUNT={count}")
+            self.assertEqual(list(counted.days(days[0])), days[:count])
+            self.assertEqual(list(counted.days_from(days[0], days[128])), days[128:count])
+            self.assertEqual([one.date() for one in counted.readings(PlainDateTime.parse("2000-01-01T09:00"))], days[:count])
         self.assertEqual(list(itertools.islice(Recurrence.parse("FREQ=DAILY;INTERVAL=3").days_from(days[0], days[70]), 200)), days[70:270])
 
     @unittest.skipUnless(rrule, "dateutil is not installed")
