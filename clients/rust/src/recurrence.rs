@@ -276,7 +276,8 @@ impl<'a> Recurrence<'a> {
         self.parts.end
     }
 
-    /// Returns an iterator over the days from a start.
+    /// Returns an iterator over the days from a start. It counts a `COUNT` from the start after each 64
+    /// days, so for thousands of them take the [first days](Rule::first_days) of the [`rule`](Self::rule).
     pub fn days(self, start: Date) -> RecurrenceDays<'a> {
         self.days_from(start, start)
     }
