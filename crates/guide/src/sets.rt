@@ -13,10 +13,8 @@ ghost use Rattle.cal_zone.specs.Local.{Shows};
 
 use crate::zones::european;
 use cal_datetime::{OffsetDateTime, midnight, with_hms_nano};
-use cal_recurrence::{
-    DateTimeRule, DateTimeSet, RecurrenceSet, TimesOfDay, ZonedSet, fold, parse_set, unfold,
-};
-use cal_schedule::{ByDay, Frequency, Pattern, Rule};
+use cal_recurrence::{CountedZonedSet, RecurrenceSet, fold, parse, parse_set, unfold};
+use cal_schedule::{ByDay, Frequency, Rule};
 use cal_time::{Date, Month, Weekday};
 use std::io;
 
@@ -68,8 +66,8 @@ fn fold_and_unfold(text: &[u8], folded: &mut [u8], again: &mut [u8]) -> Option<(
 
 /// Returns the first moment of a set in a zone after another one. None comes between them.
 #[tactic(auto, using(cal_recurrence::specs::ZonedSetLaws::none_between))]
-fn next_moment(set: &ZonedSet<'_>, moment: OffsetDateTime) -> Option<OffsetDateTime>
-    ensures { IfSome result (λ next. (z : ℤ) (m : LocalAndOffset) → Occurs set.now z m
+fn next_moment(set: &mut CountedZonedSet<'_>, moment: OffsetDateTime) -> Option<OffsetDateTime>
+    ensures { IfSome result (λ next. (z : ℤ) (m : LocalAndOffset) → Occurs set.old z m
         → instant moment <ℤ instant m → instant next ≤ℤ instant m) }
 {
     set.next_after(moment)
@@ -78,11 +76,11 @@ fn next_moment(set: &ZonedSet<'_>, moment: OffsetDateTime) -> Option<OffsetDateT
 /// Returns the same for a set without other instants. The clocks of the zone show a reading of the
 /// set then, unless they skip it.
 #[tactic(auto, using(cal_recurrence::specs::ZonedSetLaws::by_reading, cal_recurrence::specs::ZonedSetLaws::shown))]
-fn next_shown(set: &ZonedSet<'_>, moment: OffsetDateTime) -> Option<OffsetDateTime>
+fn next_shown(set: &mut CountedZonedSet<'_>, moment: OffsetDateTime) -> Option<OffsetDateTime>
     ensures later { IfSome result (λ next. instant moment <ℤ instant next) }
-    ensures shown { set.now.instants.now ≡ [] → IfSome result (λ next. (z : ℤ)
-        × ((is_reading set.now.readings z ≡ true)
-        × ((m : LocalAndOffset) → Shows set.now.zone.now z m → Shows set.now.zone.now z next))) }
+    ensures shown { set.old.instants.now ≡ [] → IfSome result (λ next. (z : ℤ)
+        × ((is_reading set.old.readings z ≡ true)
+        × ((m : LocalAndOffset) → Shows set.old.zone.now z m → Shows set.old.zone.now z next))) }
 {
     set.next_after(moment)
 }
@@ -109,7 +107,7 @@ fn show_days(rt: &impl Print, first: Date) -> io::Result<()> {
     println!(rt; "{days:?} {:?}", next_days(&set, first))
 }
 
-/// Prints the moment after 2024-03-31 0:00 UTC of 2:30 on each day in Berlin.
+/// Prints the moment after 2024-03-31 0:00 UTC of 2:30 on each day of 2024 in Berlin.
 fn show_moment(rt: &impl Print, first: Date) -> io::Result<()> {
     let Ok(change) = Date::from_calendar_date(2024, Month::March, 31) else {
         return Ok(());
@@ -120,24 +118,15 @@ fn show_moment(rt: &impl Print, first: Date) -> io::Result<()> {
     let Some(berlin) = european(3_600) else {
         return Ok(());
     };
-    let daily = Pattern::new(Frequency::Daily);
-    let readings = DateTimeSet {
-        rule: DateTimeRule::new(start, None, daily, TimesOfDay::new()),
-        dates: &[],
-        exceptions: &[],
+    let Ok(daily) = parse(b"FREQ=DAILY;COUNT=366") else {
+        return Ok(());
     };
-    let set = ZonedSet {
-        readings,
-        zone: &berlin,
-        until: None,
-        instants: &[],
-        exceptions: &[],
-    };
+    let mut set = daily.zoned_set(start, &[], &[], &berlin);
     let change = midnight(change).assume_utc();
     println!(rt;
         "{:?} {:?}",
-        next_moment(&set, change),
-        next_shown(&set, change)
+        next_moment(&mut set, change),
+        next_shown(&mut set, change)
     )
 }
 
