@@ -4,6 +4,7 @@ ghost use Rattle.std.specs.Prelude.{◌≡◌};
 
 use cal_datetime::OffsetDateTime;
 use cal_recurrence::{CountedZonedSet, SetInstants, SetLine, SetParts, ZonedSet};
+use cal_zone::Zone;
 use cal_zone::laws::one_local;
 
 /// The results of two calls.
@@ -33,6 +34,28 @@ fn counted_contains(set: &mut CountedZonedSet<'_>, moment: OffsetDateTime) -> Tw
     ensures { result.0 ≡ result.1 }
 {
     (set.contains(moment), set.contains(moment))
+}
+
+fn counted_next_after(
+    set: &mut CountedZonedSet<'_>,
+    zone: &Zone<'_>,
+    moment: OffsetDateTime,
+) -> Twice<Option<OffsetDateTime>>
+    ensures { set.old.zone.now ≡ zone.now → result.0 ≡ result.1 }
+{
+    one_local(zone);
+    (set.next_after(moment), set.next_after(moment))
+}
+
+fn counted_first_from(
+    set: &mut CountedZonedSet<'_>,
+    zone: &Zone<'_>,
+    moment: OffsetDateTime,
+) -> Twice<Option<OffsetDateTime>>
+    ensures { set.old.zone.now ≡ zone.now → result.0 ≡ result.1 }
+{
+    one_local(zone);
+    (set.first_from(moment), set.first_from(moment))
 }
 
 fn instants(parts: &SetParts<'_>) -> Twice<Result<SetInstants, SetLine>>
