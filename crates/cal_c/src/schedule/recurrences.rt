@@ -16,7 +16,6 @@ mod lists;
 mod moments;
 mod months;
 mod parsing;
-mod reading_list;
 mod readings;
 mod recurrence_parts;
 mod results;

@@ -15,8 +15,8 @@ use cal_time::Date;
 /// The lists of dates of a rule. One without dates is `None`, which fills no array.
 #[derive(Drop)]
 pub(super) struct RuleDates {
-    dates: Option<DateList>,
-    exceptions: Option<DateList>,
+    dates: Option<DateList<Date>>,
+    exceptions: Option<DateList<Date>>,
 }
 
 /// Returns `true` if all Julian days are valid.
@@ -47,7 +47,7 @@ pub(super) fn checked_rule(parts: &RuleParts<'_>) -> Result<Rule, i32>
 }
 
 /// Converts valid dates, if there are any.
-fn list_of(julian_days: &[i32]) -> Option<DateList>
+fn list_of(julian_days: &[i32]) -> Option<DateList<Date>>
     requires few { length julian_days.now ≤ max_dates }
     requires dates { All IsJulianDay julian_days.now }
     ensures { unwrap_or result [] ≡ dates_in julian_days.now }
@@ -59,7 +59,7 @@ fn list_of(julian_days: &[i32]) -> Option<DateList>
 }
 
 /// Returns the dates of a list.
-fn as_slice(list: &Option<DateList>) -> &[Date]
+fn as_slice(list: &Option<DateList<Date>>) -> &[Date]
     ensures { result.now ≡ unwrap_or list.now [] }
 {
     match list {

@@ -3,10 +3,9 @@ ghost use Rattle.std.specs.Prelude.{◌≡◌, IfErr, IfOk};
 ghost use Rattle.cal_c.specs.Statuses.{invalid_moment, too_many_dates};
 ghost use Rattle.cal_c.specs.TextSets.{AreFew, AreValid, HasReadings};
 
-use super::reading_list::ReadingList;
 use crate::moment::valid_moment;
 use crate::results::Moment;
-use crate::schedule::date_list::MAX_DATES;
+use crate::schedule::date_list::{DateList, MAX_DATES};
 use crate::status::{INVALID_MOMENT, TOO_MANY_DATES};
 use cal_datetime::PlainDateTime;
 
@@ -27,8 +26,8 @@ pub struct TextSet<'a> {
 #[derive(Drop)]
 pub(super) struct SetReadings {
     pub(super) start: PlainDateTime,
-    pub(super) dates: ReadingList,
-    pub(super) exceptions: ReadingList,
+    pub(super) dates: DateList<PlainDateTime>,
+    pub(super) exceptions: DateList<PlainDateTime>,
 }
 
 impl SetReadings {
@@ -42,9 +41,9 @@ impl SetReadings {
             return Err(TOO_MANY_DATES);
         }
         let start = or_return!(valid_moment(parts.start), Err(INVALID_MOMENT));
-        let dates = or_return!(ReadingList::from_moments(parts.dates), Err(INVALID_MOMENT));
+        let dates = or_return!(DateList::from_moments(parts.dates), Err(INVALID_MOMENT));
         let exceptions = or_return!(
-            ReadingList::from_moments(parts.exceptions),
+            DateList::from_moments(parts.exceptions),
             Err(INVALID_MOMENT)
         );
         Ok(SetReadings {

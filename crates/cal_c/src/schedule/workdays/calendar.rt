@@ -7,14 +7,14 @@ ghost use Rattle.cal_c.specs.Weekmasks.{weekmask_in, work_week, AreHolidays, IsW
 use crate::schedule::date_list::{DateList, MAX_DATES};
 use crate::status::{INVALID_HOLIDAYS, INVALID_WEEKMASK, TOO_MANY_HOLIDAYS};
 use cal_schedule::Workdays;
-use cal_time::is_rising;
+use cal_time::{Date, is_rising};
 use std::marker::Model;
 
 /// The marks of a week and the holidays. Contracts see the working week.
 #[derive(Drop)]
 pub struct Calendar {
     marks: [bool; 7],
-    holidays: DateList,
+    holidays: DateList<Date>,
 }
 
 impl Model for Calendar {

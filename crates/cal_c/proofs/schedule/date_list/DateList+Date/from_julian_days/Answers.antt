@@ -4,7 +4,7 @@ use Rattle.std.proofs.lemmas.Grind.{common_steps}
 use Rattle.std.proofs.lemmas.List.Elements.{All-more}
 use Rattle.cal_c.specs.Values.{IsJulianDay, day_of}
 use Rattle.cal_c.proofs.Recurring.{mapped_more}
-use Rattle.cal_c.proofs.schedule.date_list.DateList.from_julian_days.Goals as goal
+use Rattle.cal_c.proofs.schedule.date_list.DateList+Date.from_julian_days.Goals as goal
 
 pub loop-index-preserved : goal.loop-index-preserved
 loop-index-preserved c =

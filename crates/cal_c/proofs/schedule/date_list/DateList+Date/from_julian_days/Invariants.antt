@@ -1,6 +1,6 @@
 use Rattle.std.proofs.Common.{◌≡◌, All, length, take}
 use Rattle.cal_c.specs.Values.{IsJulianDay, dates_in}
-use Rattle.cal_c.proofs.schedule.date_list.DateList.from_julian_days.Given as goal
+use Rattle.cal_c.proofs.schedule.date_list.DateList+Date.from_julian_days.Given as goal
 
 abbrev pub invariant-loop-index : goal.invariant-loop-index
 invariant-loop-index l = record {
