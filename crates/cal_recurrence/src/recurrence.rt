@@ -18,7 +18,7 @@ pub enum RuleEnd {
     Never,
     /// The last possible day or reading (`UNTIL`), which counts if the rule has it.
     Until(DateOrTime),
-    /// The number of days or readings (`COUNT`). 0 means none, and `parse` rejects it.
+    /// The number of days or readings (`COUNT`), from 1.
     Count(u32),
 }
 
