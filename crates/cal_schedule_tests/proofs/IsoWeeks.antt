@@ -1,7 +1,6 @@
 -- The Thursday of a week is its fourth day, if weeks begin on Monday.
-use Rattle.std.proofs.Common.{◌≡◌, ℕ, suc, ◌+◌, ◌-◌, ◌*◌, ◌/◌, ◌%◌, ◌==◌, ◌↔◌, refl, sym, ap, ◌∙◌, arith, Bool, true, ℤ, pos, negsuc, ◌+ℤ◌}
+use Rattle.std.proofs.Common.{◌≡◌, ℕ, suc, ◌+◌, ◌-◌, ◌*◌, ◌/◌, ◌%◌, ◌==◌, ◌↔◌, refl, sym, ap, ◌∙◌, arith, Bool, true, pos, negsuc, ◌+ℤ◌}
 use Rattle.std.proofs.lemmas.Bool.{eq-eqb, eqb-true}
-use Rattle.std.proofs.lemmas.Int.{ints}
 use Rattle.cal_units.specs.Weeks.{weeks_in_year}
 use Rattle.cal_units.specs.Lengths.{days_in_year}
 use Rattle.cal_date.specs.Date.{year_at, ordinal_at}
@@ -10,7 +9,7 @@ use Rattle.cal_date.proofs.Dates.{stands}
 use Rattle.cal_date.proofs.IsoWeeks.{week_of_thursday}
 use Rattle.cal_date.proofs.Weekdays.{weeks_in_year-days_before}
 use Rattle.cal_time.specs.declared.Weekday.TheVariants.{Monday}
-use Rattle.cal_schedule.specs.Rule.{fourth_day, is_nth_weekday, is_week}
+use Rattle.cal_schedule.specs.Rule.{fourth_day, is_nth_weekday}
 use Rattle.cal_schedule.proofs.RulePeriods.{fourth-is, is_week-places, periods, weeks-is}
 use Rattle.cal_schedule_tests.specs.IsoWeeks.{AreIsoWeeks}
 
