@@ -1,6 +1,6 @@
 -- The names in the tables: a verb names no option, neither names a command, and no option contains a
 -- `=`.
-use Rattle.std.proofs.Common.{◌≡◌, ◌∙◌, ℕ, Bool, true, false, cond, List, [], ◌∷◌, ◌++◌, length, length-append, map, take, drop, Option, Some, None, refl, sym, ap, subst, arith}
+use Rattle.std.proofs.Common.{◌≡◌, ◌∙◌, ℕ, Bool, true, false, cond, List, [], ◌∷◌, ◌++◌, length, length-append, map, Option, Some, None, refl, sym, subst, arith}
 use Rattle.std.specs.Prelude.{◌&&◌, ◌==◌, bytes_eq, is_none, not, option_map, position}
 use Rattle.std.specs.List.{find, list_all}
 use Rattle.std.proofs.Math.Seq.{drop-append_seam, get_or-append_seam, take-append_seam}
@@ -10,7 +10,7 @@ use Rattle.std.proofs.lemmas.Option.{none-some}
 use Rattle.std.proofs.lemmas.Slice.Eq.{bytes_eq-Decides}
 use Rattle.caldate_run.specs.Meanings.{format_named, is_format, name_of, value_in}
 use Rattle.caldate_run.specs.Names.{value_named}
-use Rattle.caldate_run.specs.Requests.{command_of, form_of, is_joined, option_of, verb_of}
+use Rattle.caldate_run.specs.Requests.{command_of, form_of, option_of, verb_of}
 use Rattle.caldate_run.specs.declared.args.names.CommandName.{CommandName}
 use Rattle.caldate_run.specs.declared.args.names.OptionName.{OptionName}
 use Rattle.caldate_run.specs.declared.args.names.TheConstants.{COMMANDS, FORMS, OPTIONS, VERBS}

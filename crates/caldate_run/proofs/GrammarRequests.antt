@@ -3,7 +3,6 @@ use Rattle.std.proofs.Common.{◌≡◌, ◌∙◌, add_assoc, ℕ, ◌+◌, Boo
 use Rattle.std.specs.Prelude.{if◌then◌else◌, codes, ok_or, option_and_then, option_map, ℤ}
 use Rattle.std.specs.Option.{option_map_or}
 use Rattle.std.proofs.lemmas.Bool.{and_parts}
-use Rattle.std.proofs.lemmas.Option.{same_Some}
 use Rattle.std.proofs.lemmas.Slice.Eq.{bytes_eq-Decides}
 use Rattle.cal_time.specs.declared.Weekday.{Weekday}
 use Rattle.cal_text.specs.declared.any.DateOrMoment.{DateOrMoment}
@@ -13,7 +12,7 @@ use Rattle.caldate_run.specs.Grammar.{SpellsArguments, SpellsCount, SpellsReques
 use Rattle.caldate_run.specs.Grammar as grammar
 use Rattle.caldate_run.specs.Meanings.{Meanings, found_in, is_format}
 use Rattle.caldate_run.specs.Offsets.{offset_of}
-use Rattle.caldate_run.specs.Requests.{amount_at, amount_of, and_then, bounds_at, count_at, expected_verb, floor_at, form_of, in_unit_at, keyword, minutes_in, minutes_of, minutes_word, names_field, occurrence_at, only_at, other_of, parse_i64, parse_u8, period_of, place_at, range_at, request_at, request_of, start_at, start_of, target_at, to_of, unit_at, unit_of, usage_error_at, verb_of, weekday_of, word_as}
+use Rattle.caldate_run.specs.Requests.{amount_at, amount_of, and_then, bounds_at, count_at, expected_verb, floor_at, form_of, in_unit_at, keyword, minutes_of, minutes_word, names_field, occurrence_at, only_at, other_of, parse_i64, parse_u8, period_of, place_at, range_at, request_at, request_of, start_at, start_of, target_at, to_of, unit_at, unit_of, usage_error_at, verb_of, weekday_of, word_as}
 use Rattle.caldate_run.specs.Zones.{is_zone_like, is_zone_name, zone_of}
 use Rattle.caldate_run.specs.declared.args.names.Verb.{Verb}
 use Rattle.caldate_run.specs.declared.args.names.Verb.TheVariants as verb
@@ -21,9 +20,7 @@ use Rattle.caldate_run.specs.declared.args.usage_error.Expected.TheVariants as e
 use Rattle.caldate_run.specs.declared.args.usage_error.UsageError.{UsageError}
 use Rattle.caldate_run.specs.declared.request.Bounds.{Bounds}
 use Rattle.caldate_run.specs.declared.request.Bounds.TheVariants.{FromTo, After, Before}
-use Rattle.caldate_run.specs.declared.request.DayMove.{DayMove}
 use Rattle.caldate_run.specs.declared.request.DayMove.TheVariants as move
-use Rattle.caldate_run.specs.declared.request.Period.{Period}
 use Rattle.caldate_run.specs.declared.request.Place.{Place}
 use Rattle.caldate_run.specs.declared.request.Place.TheVariants as place
 use Rattle.caldate_run.specs.declared.request.Request.{Request}
@@ -98,17 +95,12 @@ module _ (now : Option LocalAndOffset) (meanings : Meanings) (words : Words) (at
       rw (e, ← eq) (each name (drop (at + 1) words) day n is (count_spelled words (at + 1) n c))))))
 
   -- `PERIOD`, `day`, `N minutes`
-  start_word : (w : List ℕ) (r : Request) (o : Option Period) → minutes_of w ≡ None → period_of w ≡ o
-      → option_map_or (λ p. Some (Move (move.Start p))) o (option_map Floor (minutes_in w)) ≡ Some r → SpellsArguments now meanings verb.Start (w ∷ []) r
-  start_word w r None word is h = map_ok Floor (minutes_in w) r h (λ n m eq. rw (← eq) (grammar.start_unit word is m))
-  start_word w r (Some p) word is h = rw (← same_Some (Move (move.Start p)) r h) (grammar.start_period word is)
-
   start_in : (r : Request) (o : Option ℕ) → option_and_then minutes_of (slice_get words at) ≡ o
       → option_map_or (floor_at words (at + 1)) o (only_at words at start_of expected.StartPeriod) ≡ Ok r → SpellsArguments now meanings verb.Start (drop at words) r
   start_in r None is h =
       only_ok words at start_of expected.StartPeriod r h (λ w e m.
       let word : minutes_of w ≡ None = ap (option_and_then minutes_of) (sym (head_at words [] at w e)) ∙ is in
-      rw e (start_word w r (period_of w) word refl m))
+      rw e (grammar.start word m))
   start_in r (Some n) is h =
       got minutes_of (slice_get words at) n is (λ number first m.
       made_ok words (at + 1) minutes_word expected.Minutes (λ word. Floor n) r h (λ name x last unit eq.
@@ -279,10 +271,8 @@ module _ (now : Option LocalAndOffset) (meanings : Meanings) (words : Words) (at
       ok_made words at weekday_of expected.Weekday (λ w. Move (move.OnOrAfter w)) name day e is
   arguments_read v ws r e (grammar.on_or_before {name = name} {day = day} is) =
       ok_made words at weekday_of expected.Weekday (λ w. Move (move.OnOrBefore w)) name day e is
-  arguments_read v ws r e (grammar.start_period {name = name} {period = p} word is) =
-      start_one now meanings words at name (Move (move.Start p)) e word (map_or_some _ (period_of name) _ _ p is refl)
-  arguments_read v ws r e (grammar.start_unit {name = name} {n = n} word none is) =
-      start_one now meanings words at name (Floor n) e word (map_or_none _ (period_of name) _ _ none (rw is))
+  arguments_read v ws r e (grammar.start {name = name} word is) =
+      start_one now meanings words at name r e word is
   arguments_read v ws r e (grammar.start_minutes {number = w} {name = name} {n = n} is unit) =
       start_many now meanings words at w name n e is unit
   arguments_read v ws r e (grammar.end_period {name = name} {period = p} is) =

@@ -12,7 +12,7 @@ use Rattle.cal_zone.specs.Timeline.{Timeline}
 use Rattle.caldate_run.specs.ClockWords.{now_in}
 use Rattle.caldate_run.specs.Meanings.{Meanings, found_in, is_format}
 use Rattle.caldate_run.specs.Offsets.{offset_of}
-use Rattle.caldate_run.specs.Requests.{amount_of, command_of, conflict_in, conflict_with_request, filter_of, form_of, is_rule_like, lines_command, minutes_in, minutes_of, minutes_word, names_field, no_options, once_command, option_in, other_of, parse_i64, parse_u32, parse_u8, period_of, rule_of, step_in, takes_value, unit_of, verb_of, weekday_of, with_value}
+use Rattle.caldate_run.specs.Requests.{amount_of, command_of, conflict_in, conflict_with_request, filter_of, form_of, is_rule_like, lines_command, minutes_of, minutes_word, names_field, no_options, once_command, option_in, other_of, parse_i64, parse_u32, parse_u8, period_of, rule_of, start_of, step_in, takes_value, unit_of, verb_of, weekday_of, with_value}
 use Rattle.caldate_run.specs.Zones.{zone_of}
 use Rattle.caldate_run.specs.declared.args.names.CommandName.TheVariants as named
 use Rattle.caldate_run.specs.declared.args.names.OptionName.{OptionName}
@@ -72,10 +72,8 @@ pub data SpellsArguments (now : Option LocalAndOffset) (meanings : Meanings) : V
       → SpellsCount words n → SpellsArguments now meanings verb.Last (name ∷ words) (Move (move.Last day n))
   on_or_after : {name : List ℕ} {day : Weekday} → weekday_of name ≡ Some day → SpellsArguments now meanings verb.OnOrAfter (name ∷ []) (Move (move.OnOrAfter day))
   on_or_before : {name : List ℕ} {day : Weekday} → weekday_of name ≡ Some day → SpellsArguments now meanings verb.OnOrBefore (name ∷ []) (Move (move.OnOrBefore day))
-  start_period : {name : List ℕ} {period : Period} → minutes_of name ≡ None → period_of name ≡ Some period
-      → SpellsArguments now meanings verb.Start (name ∷ []) (Move (move.Start period))
-  start_unit : {name : List ℕ} {n : ℕ} → minutes_of name ≡ None → period_of name ≡ None → minutes_in name ≡ Some n
-      → SpellsArguments now meanings verb.Start (name ∷ []) (Floor n)
+  start : {name : List ℕ} {request : Request} → minutes_of name ≡ None → start_of name ≡ Some request
+      → SpellsArguments now meanings verb.Start (name ∷ []) request
   start_minutes : {number name : List ℕ} {n : ℕ} → minutes_of number ≡ Some n → minutes_word name ≡ Some tt
       → SpellsArguments now meanings verb.Start (number ∷ name ∷ []) (Floor n)
   end_period : {name : List ℕ} {period : Period} → period_of name ≡ Some period → SpellsArguments now meanings verb.End (name ∷ []) (Move (move.End period))

@@ -3,6 +3,7 @@ use denote.Enum.Bare.{sameb}
 use Rattle.std.specs.Prelude.{ℕ, ◌-◌, ◌==◌, ◌&&◌, ◌||◌, nat_lt, Bool, false, not, is_some, position, length, take, drop, map, List, [], ◌∷◌, ◌++◌, Result, Ok, Err, codes, slice_get, if◌then◌else◌}
 use Rattle.std.specs.List.{find}
 use Rattle.std.specs.Option.{option_map_or}
+use Rattle.cal_time.specs.Weekday.{name as weekday_name, weekday_of_index}
 use Rattle.cal_recurrence.specs.FaultText.{fault_text}
 use Rattle.cal_recurrence.specs.Text.{recurrence_of}
 use Rattle.cal_recurrence.specs.declared.fault.ParseRuleError.{ParseRuleError}
@@ -55,6 +56,7 @@ expected_phrase expected.Form =
     expected_of (map (λ row. row.0.now) FORMS ++ map (λ row. row.0.now) FORMATS ++ codes "a format such as %d.%m.%Y" ∷ [])
 expected_phrase expected.UnitOfTime = expected_of (map (λ row. row.0.now) UNITS)
 expected_phrase expected.UnitOfDays = expected_of (take 4 (map (λ row. row.0.now) UNITS))
+expected_phrase expected.Weekday = expected_of (map (λ i. weekday_name (weekday_of_index i)) (0 ∷ 1 ∷ 2 ∷ 3 ∷ 4 ∷ 5 ∷ 6 ∷ []))
 expected_phrase expected.Period = expected_of (map (λ row. singular row.0.now) PERIODS)
 expected_phrase expected.StartPeriod =
     expected_of (map (λ row. singular row.0.now) PERIODS ++ map (λ row. singular row.0.now) ROUNDINGS ++ codes "N minutes" ∷ [])
