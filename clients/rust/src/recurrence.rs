@@ -23,8 +23,12 @@ use parts::Parts;
 pub use set::RecurrenceSet;
 pub use text::RecurrenceText;
 
-/// The days in one call of an iterator.
-const AT_ONCE: usize = 64;
+/// The length of the first page of an iterator.
+const FIRST_PAGE: usize = 64;
+
+/// The maximum length of a page of days. Each is twice as long as the one before, since each call
+/// counts a `COUNT` from the start.
+const MAX_DAYS: usize = 256;
 
 /// A part of the text of a recurrence.
 #[derive(Clone, Copy, Debug, PartialEq, Eq, Hash)]
@@ -276,15 +280,15 @@ impl<'a> Recurrence<'a> {
         self.parts.end
     }
 
-    /// Returns an iterator over the days from a start. It counts a `COUNT` from the start after each 64
-    /// days, so for thousands of them take the [first days](Rule::first_days) of the [`rule`](Self::rule).
+    /// Returns an iterator over the days from a start.
     pub fn days(self, start: Date) -> RecurrenceDays<'a> {
         self.days_from(start, start)
     }
 
     /// Returns an iterator over the days from a start that are not before `from`.
     pub fn days_from(self, start: Date, from: Date) -> RecurrenceDays<'a> {
-        RecurrenceDays { text: self.text, start, from: Some(from), days: [Date::MIN; AT_ONCE], next: 0, length: 0 }
+        let days = [Date::MIN; MAX_DAYS];
+        RecurrenceDays { text: self.text, start, from: Some(from), days, page: FIRST_PAGE, next: 0, length: 0 }
     }
 }
 
@@ -295,7 +299,9 @@ pub struct RecurrenceDays<'a> {
     start: Date,
     /// The start of the next call, if there may be more days.
     from: Option<Date>,
-    days: [Date; AT_ONCE],
+    days: [Date; MAX_DAYS],
+    /// The length of the next page.
+    page: usize,
     next: usize,
     length: usize,
 }
@@ -306,11 +312,13 @@ impl Iterator for RecurrenceDays<'_> {
     fn next(&mut self) -> Option<Date> {
         if self.next == self.length {
             let from = self.from.take()?;
-            let written = ffi::fots_recurrence_days(self.text, self.start.to_c(), from.to_c(), &mut self.days);
+            let page = &mut self.days[..self.page];
+            let written = ffi::fots_recurrence_days(self.text, self.start.to_c(), from.to_c(), page);
             (_, self.length, _) = written.expect("the text was parsed");
             self.next = 0;
-            if self.length == AT_ONCE {
-                self.from = self.days[AT_ONCE - 1].next_day();
+            if self.length == self.page {
+                self.from = self.days[self.page - 1].next_day();
+                self.page = MAX_DAYS.min(2 * self.page);
             }
         }
         let day = *self.days[..self.length].get(self.next)?;

@@ -203,9 +203,13 @@ fn rules_of_no_day() {
 fn days_by_many_pages() {
     let start = date(2000_01_01);
     let third = |index: i64| start + Duration::days(3 * index);
-    let counted = parse(b"FREQ=DAILY;INTERVAL=3;COUNT=129").unwrap();
-    assert!(counted.days(start).eq((0..129).map(third)));
-    assert!(counted.days_from(start, third(128)).eq([third(128)]));
+    // Pages end after 64, 192 and 448 days, and after 256 more each.
+    for count in [129, 192, 193, 448, 704, 705] {
+        let text = format!("FREQ=DAILY;INTERVAL=3;COUNT={count}");
+        let counted = parse(text.as_bytes()).unwrap();
+        assert!(counted.days(start).eq((0..count).map(third)));
+        assert!(counted.days_from(start, third(128)).eq((128..count).map(third)));
+    }
     let endless = parse(b"FREQ=DAILY;INTERVAL=3").unwrap();
     assert!(endless.days_from(start, third(70)).take(200).eq((70..270).map(third)));
     assert!(parse(b"freq=daily")
@@ -306,8 +310,11 @@ fn times_of_day() {
     let (dates, exceptions) = ([at(1997_09_02, 9, 30); Rule::MAX_DATES], [at(1997_09_02, 9, 20); Rule::MAX_DATES]);
     let two_lists = RecurrenceSet { dates: &dates, exceptions: &exceptions, ..set };
     assert!(two_lists.readings().take(3).eq([(9, 0), (9, 30), (9, 40)].map(|(hour, minute)| at(1997_09_02, hour, minute))));
-    let counted = RecurrenceSet::new(parse(b"FREQ=DAILY;BYHOUR=0,12;COUNT=129").unwrap(), PlainDateTime::MIN);
-    assert_eq!((counted.readings().next(), counted.readings().count()), (Some(PlainDateTime::MIN), 129));
+    for count in [129, 1984, 1985, 3009] {
+        let text = format!("FREQ=DAILY;BYHOUR=0,12;COUNT={count}");
+        let counted = RecurrenceSet::new(parse(text.as_bytes()).unwrap(), PlainDateTime::MIN);
+        assert!(counted.readings().eq((0..count).map(|index| PlainDateTime::MIN + Duration::hours(12 * index))));
+    }
     let last = RecurrenceSet::new(parse(b"FREQ=DAILY").unwrap(), PlainDateTime::MAX);
     assert_eq!(last.readings().collect::<Vec<_>>(), [PlainDateTime::MAX]);
 }

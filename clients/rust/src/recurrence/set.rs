@@ -1,9 +1,12 @@
 //! Recurrences with times of day.
 
-use super::{Recurrence, AT_ONCE};
+use super::{Recurrence, FIRST_PAGE};
 use crate::ffi::{self, CMoment, CRecurrenceSet, CRecurrenceSetPointer};
 use crate::{OffsetDateTime, PlainDateTime, Rule, SignedDuration, Zone};
 use core::iter;
+
+/// The maximum length of a page of moments.
+const MAX_MOMENTS: usize = 1024;
 
 /// A moment for the unused room of an array.
 const NO_MOMENT: CMoment = CMoment { date: 0, offset: 0, time: 0 };
@@ -96,13 +99,14 @@ fn pages<T: Copy>(
     from_c: fn(CMoment) -> T,
     next_of: fn(T) -> Option<T>,
 ) -> impl Iterator<Item = T> {
-    let (mut from, mut page, mut next, mut length) = (Some(first), [NO_MOMENT; AT_ONCE], 0, 0);
+    let (mut from, mut page, mut size, mut next, mut length) = (Some(first), [NO_MOMENT; MAX_MOMENTS], FIRST_PAGE, 0, 0);
     iter::from_fn(move || {
         if next == length {
-            length = write(from.take()?, &mut page);
+            length = write(from.take()?, &mut page[..size]);
             next = 0;
-            if length == AT_ONCE {
-                from = next_of(from_c(page[AT_ONCE - 1]));
+            if length == size {
+                from = next_of(from_c(page[size - 1]));
+                size = MAX_MOMENTS.min(2 * size);
             }
         }
         let value = from_c(*page[..length].get(next)?);
