@@ -3,11 +3,12 @@
 /* The maximum length of a page: the days or times that a call returns at once. */
 #define AT_MOST 4096
 
+/* Fails for a longer page: an iteration would take a page that was cut for the last one. */
 static int to_length(PyObject *number, size_t *length)
 {
     *length = PyLong_AsSize_t(number);
-    if (*length > AT_MOST) {
-        *length = AT_MOST;
+    if (*length > AT_MOST && !PyErr_Occurred()) {
+        PyErr_SetString(PyExc_ValueError, "page too long");
     }
     return !PyErr_Occurred();
 }
