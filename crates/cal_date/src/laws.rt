@@ -10,17 +10,18 @@ use crate::kernel::JulianKernel;
 use cal_units::util::weeks_in_year;
 use std::alloc::AllocError;
 
-/// Returns the first day of the range: day 0, which is 1 January of the first year.
-pub(crate) fn first_day() -> Date
+/// Returns the first day of the range, `Date::MIN`: day 0, which is 1 January of the first year,
+/// -999999-01-01.
+pub fn first_day() -> Date
     ensures value { result ≡ 0 }
     ensures day { day_at 0 ≡ calendar_day first_year 1 1 }
 {
     Date::MIN
 }
 
-/// Returns the last day of the range, 31 December of the last year.
+/// Returns the last day of the range, `Date::MAX`: 31 December of the last year, 999999-12-31.
 #[tactic(auto, using(crate::proofs::Years::end_of_range))]
-pub(crate) fn final_day() -> Date
+pub fn final_day() -> Date
     ensures value { result ≡ last_day }
     ensures day { day_at last_day ≡ calendar_day last_year 12 31 }
 {

@@ -9,7 +9,7 @@ pub mod day_number;
 pub mod error;
 pub mod iter;
 pub mod kernel;
-mod laws;
+pub mod laws;
 pub mod limits;
 
 pub use date::Date;

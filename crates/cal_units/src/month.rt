@@ -151,6 +151,22 @@ impl Ord for Month {
     }
 }
 
+/// The months by their indexes. A table has no jump.
+const MONTHS: [Month; 12] = [
+    Month::January,
+    Month::February,
+    Month::March,
+    Month::April,
+    Month::May,
+    Month::June,
+    Month::July,
+    Month::August,
+    Month::September,
+    Month::October,
+    Month::November,
+    Month::December,
+];
+
 impl Cycle for Month {
     const LENGTH: u8 = 12;
 
@@ -171,20 +187,7 @@ impl Cycle for Month {
     }
 
     fn at(place: u8) -> Self {
-        match place {
-            0 => Month::January,
-            1 => Month::February,
-            2 => Month::March,
-            3 => Month::April,
-            4 => Month::May,
-            5 => Month::June,
-            6 => Month::July,
-            7 => Month::August,
-            8 => Month::September,
-            9 => Month::October,
-            10 => Month::November,
-            _ => Month::December,
-        }
+        MONTHS[usize::from(place)]
     }
 }
 

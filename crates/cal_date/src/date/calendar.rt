@@ -3,7 +3,7 @@ ghost use Rattle.std.specs.Prelude.{◌≡◌, ℕ, ◌+◌, ◌<◌, ◌≤◌,
 ghost use Rattle.cal_units.specs.Month.{number};
 ghost use Rattle.cal_units.specs.ComponentError.{FailsWith};
 ghost use Rattle.cal_units.specs.Lengths.{is_leap_year, days_in_month};
-ghost use Rattle.cal_date.specs.ClosedForms.{days_in_part, months_before_part, month_of_ordinal, day_of_ordinal};
+ghost use Rattle.cal_date.specs.ClosedForms.{month_of_ordinal, day_of_ordinal};
 ghost use Rattle.cal_date.specs.CountLaws.{days_of_months};
 ghost use Rattle.cal_date.specs.Date.{first_year, year_at, month_at, day_of_month_at, ordinal_at, IsDate, IsYear, IsDayOfMonth, HasCalendarDate, NoDate};
 ghost use Rattle.cal_date.specs.DateLimits.{months_in_range};
@@ -12,7 +12,6 @@ ghost use Rattle.cal_date.specs.PackedDate.{leap_mark};
 ghost use Rattle.cal_date.specs.DateErrors.{year_out_of_range, day_out_of_range};
 
 use crate::date::{Date, is_year};
-use crate::day_number::days_before_month_in_part;
 use crate::error::{Component, ComponentRange};
 use crate::limits::MIN_YEAR;
 use cal_units::util::is_leap_year;
@@ -102,12 +101,11 @@ impl Date {
     /// Creates a date from the number of a month and a day, clamped to the last day of the month.
     ///
     /// The number must be from 0 for January of -999999 to 23999987 for December of 999999, and the
-    /// day from 1 to 31. For 12024265, February of 2023, and 31 it is 2023-02-28.
+    /// day 1 or more. For 12024265, February of 2023, and 31 it is 2023-02-28.
     /// [`Self::month_number_and_day`] returns such a number.
     pub fn from_month_number_clamped(number: u32, day: u32) -> Self
         requires number { number < months_in_range }
         requires min { 1 ≤ day }
-        requires max { day ≤ 31 }
         ensures value { let year = first_year +ℤ pos (number / 12) in
             HasCalendarDate year (number % 12 + 1)
             (min day (days_in_month year (number % 12 + 1))) result }
@@ -120,7 +118,7 @@ impl Date {
         let year = (place >> 32) as i32 + MIN_YEAR;
         let bound = (place % (1 << 32) >> 28) as usize;
         let leap = is_leap_year(year);
-        let low = quarter_bound(bound, leap) + day;
+        let low = quarter_bound(bound, leap).saturating_add(day);
         Date::pack_low_bits(year, low.min(quarter_bound(bound + 1, leap)))
     }
 
@@ -167,8 +165,7 @@ impl Date {
     }
 
     /// Returns the month index, from 0 for January to 11, and the day of the month: (1, 29) for
-    /// 2020-02-29. [`Self::to_calendar_date`] returns a `Month`, which costs a jump. This call has
-    /// no jump.
+    /// 2020-02-29. [`Self::to_calendar_date`] returns a `Month` instead of its index.
     pub fn month_index_and_day(self) -> (u8, u8)
         ensures month { result.0 + 1 ≡ month_at self }
         ensures day { result.1 ≡ day_of_month_at self }
@@ -213,12 +210,7 @@ impl Date {
         ((entry % 16) as u32, (low - start) as u32)
     }
 
-    /// Returns the month and the day of the month. It reads no table, so a loop can process several
-    /// dates at a time.
-    ///
-    /// In each part of the year the months begin on the same days of the part every year. So a
-    /// quotient by 8192 gives the month of the part, and a quotient by 128 the days of the part
-    /// before this month.
+    /// Returns the month and the day of the month.
     pub(super) fn month_and_day(self) -> (Month, u8)
         ensures month { number result.0 ≡ month_at self }
         ensures day { result.1 ≡ day_of_month_at self }
@@ -226,28 +218,8 @@ impl Date {
         ensures max { result.1 ≤ 31 }
         ensures in_range { IsDate self }
     {
-        let (days, months) = self.index_in_part();
-        let month = (days * 268 + 8031) >> 13;
-        let day = days - days_before_month_in_part(month);
-        (Month::at((month + months - 1) as u8), day as u8)
-    }
-
-    /// Returns the day of the part of the year, and the number of months before the part. January
-    /// and February are one part, and March to December are the other part.
-    #[tactic(auto, using(crate::proofs::Neighbours::parts_of_years))]
-    fn index_in_part(self) -> (u32, u32)
-        ensures days { result.0 ≡ days_in_part (is_leap_year (year_at self)) (ordinal_at self) }
-        ensures months { result.1 ≡ months_before_part (is_leap_year (year_at self))
-            (ordinal_at self) }
-        ensures in_range { IsDate self }
-    {
-        let ordinal = u32::from(self.ordinal());
-        let february_end = 59 + u32::from(self.is_in_leap_year());
-        if ordinal <= february_end {
-            (ordinal, 0)
-        } else {
-            (ordinal - february_end, 2)
-        }
+        let (index, day) = self.index_and_day();
+        (Month::at(index as u8), day as u8)
     }
 }
 

@@ -28,7 +28,7 @@ fits c =
     record {
       same = same;
       year = year;
-      fits = clamped y (n % 12) c.args.day _ _ _ year (omega arith) c.requires.min begin next (grind (arith, c.min.ensures));
+      fits = clamped y (n % 12) c.args.day _ _ _ year (omega arith) c.requires.min begin next (grind (arith, c.min.ensures, c.saturating_add-low.ensures, c.quarter_bound-2.ensures.max));
     }
 
 pub pack_low_bits-requires-clause-low : goal.pack_low_bits-requires-clause-low
