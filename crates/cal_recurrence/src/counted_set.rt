@@ -11,7 +11,7 @@ use crate::date_time_set::{DateTimeSet, DateTimeSetReadings};
 use crate::readings::RuleReadings;
 use crate::recurrence::{Recurrence, RuleEnd};
 use cal_datetime::{PlainDateTime, midnight};
-use cal_time::day_number::to_date;
+use cal_date::day_number::to_date;
 use std::marker::Model;
 
 /// A recurrence set of a recurrence with a `COUNT` or without one. A search counts the readings of

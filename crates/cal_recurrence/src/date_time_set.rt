@@ -7,7 +7,7 @@ use crate::counted_set::CountedSet;
 use crate::date_time_rule::DateTimeRule;
 use crate::nearest::nearest;
 use cal_datetime::{PlainDateTime, midnight};
-use cal_time::day_number::to_date;
+use cal_date::day_number::to_date;
 use std::marker::Model;
 
 /// A recurrence set of RFC 5545 with times of day: the readings of a rule and of `RDATE`, without

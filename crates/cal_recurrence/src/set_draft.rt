@@ -16,10 +16,10 @@ use crate::times_of_day::TimesOfDay;
 use crate::words::{cut, is_alike};
 use crate::zone_name::ZoneName;
 use cal_schedule::{Frequency, Pattern, Values};
-use cal_time::day_number::to_date;
+use cal_date::day_number::to_date;
 
 /// The parts of a set that were parsed so far.
-#[derive(Drop)]
+#[derive(Debug, Drop)]
 pub struct SetDraft<'a> {
     pub start: Option<DateOrTime>,
     pub recurrence: Option<Recurrence>,

@@ -16,7 +16,7 @@ use crate::set_values::kept;
 use cal_datetime::{OffsetDateTime, PlainDateTime};
 use cal_schedule::{Rule, Values};
 use cal_time::Date;
-use cal_time::day_number::to_date;
+use cal_date::day_number::to_date;
 use cal_zone::Zone;
 
 /// The days of a parsed set: its rule and its lists.

@@ -5,6 +5,7 @@ pub mod Rules
 pub mod RulePrevious
 pub mod RuleSpans
 pub mod RuleWalks
+pub mod RuleWeeks
 pub mod RuleSteps
 pub mod RuleNumbers
 pub mod Untils

@@ -1,8 +1,9 @@
--- The periods and the numbers of weekdays of a rule, by a count of the days. The two records are
--- laws, proved by functions of `laws`.
-use Rattle.std.specs.Prelude.{◌≡◌, ℕ, ◌+◌, ◌↔◌, true, false, ⊤, pos, negsuc}
-use Rattle.cal_time.specs.Date.{year_at, month_at, day_of_month_at, weekday_at}
+-- The periods and the numbers of weekdays of a rule, by a count of the days. The three records
+-- about a count are laws, proved by functions of `laws`.
+use Rattle.std.specs.Prelude.{◌≡◌, ℕ, ◌+◌, ◌%◌, ◌≤◌, ◌↔◌, true, false, ⊤, pos, negsuc, ◌+ℤ◌, ◌-ℤ◌}
+use Rattle.cal_time.specs.Date.{first_year, year_at, month_at, day_of_month_at, weekday_at, IsDate}
 use Rattle.cal_time.specs.Weekday.{index}
+use Rattle.cal_time.specs.declared.Weekday.{Weekday}
 use Rattle.cal_schedule.specs.Rule.{is_nth_weekday, is_week, period_index}
 use Rattle.cal_schedule.specs.Weekdays.{IsNthWeekday, IsLastWeekday, IsNthWeekdayFromEnd, IsNthWeekdayOfYear, IsNthWeekdayOfYearFromEnd}
 use Rattle.cal_schedule.specs.declared.rule.unit.PeriodUnit.{PeriodUnit}
@@ -34,3 +35,19 @@ pub record NumbersByCount (n : ℕ) : Type 0 where
   pub of_year : (k : ℕ) → (is_nth_weekday true n (pos k) ≡ true) ↔ IsNthWeekdayOfYear (year_at n) (weekday_at n) k n
   pub of_year_from_end : (k : ℕ)
       → (is_nth_weekday true n (negsuc k) ≡ true) ↔ IsNthWeekdayOfYearFromEnd (year_at n) (weekday_at n) (k + 1) n
+
+-- Day d is the fourth day of the week of day n, if weeks begin on the weekday `first`: it has the
+-- weekday three days after `first`, and is at most three days from day n.
+pub record IsFourthDay (first : Weekday) (n d : ℕ) : Type 0 where
+  pub weekday : weekday_at d ≡ (index first + 3) % 7
+  pub latest : d ≤ n + 3
+  pub earliest : n ≤ d + 3
+
+-- The week of day n has the year of its fourth day. It is the k-th of this year if the fourth day is
+-- the k-th with its weekday there, by a count of the days from the start or the end of the year.
+pub record WeeksByCount (first : Weekday) (n : ℕ) : Type 0 where
+  pub year : (d : ℕ) → IsFourthDay first n d → pos (period_index (unit.WeekYear first) n) ≡ year_at d -ℤ first_year +ℤ pos 1
+  pub week : (d : ℕ) → IsDate d → IsFourthDay first n d → (k : ℕ)
+      → (is_week first n (pos k) ≡ true) ↔ IsNthWeekdayOfYear (year_at d) (weekday_at d) k d
+  pub week_from_end : (d : ℕ) → IsDate d → IsFourthDay first n d → (k : ℕ)
+      → (is_week first n (negsuc k) ≡ true) ↔ IsNthWeekdayOfYearFromEnd (year_at d) (weekday_at d) (k + 1) d

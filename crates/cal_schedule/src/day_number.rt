@@ -6,7 +6,7 @@ ghost use Rattle.cal_time.specs.DateLimits.{months_in_range};
 ghost use Rattle.cal_time.specs.Lengths.{days_in_month};
 ghost use Rattle.cal_schedule.specs.Months.{HasMonthIndex};
 
-use cal_time::day_number::{from_calendar_date, month_length, to_calendar_date};
+use cal_date::day_number::{from_calendar_date, month_length, to_calendar_date};
 use cal_time::limits::MIN_YEAR;
 use cal_time::util::is_leap_year;
 

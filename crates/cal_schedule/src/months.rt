@@ -12,10 +12,10 @@ use cal_time::{Date, limits};
 const MONTHS: i64 = limits::MONTHS as i64;
 
 /// Returns the date in a month, by its index, with this day, or the last day of the month if it is
-/// shorter. The index is below 23999988, and the day is from 1 to 31.
+/// shorter. The index is below 23999988, and the day is 1 or more.
 pub(crate) fn clamped_date_in_month(index: u32, day: u32) -> Date
     requires month { index < months_in_range }
-    requires day { (1 ≤ day) × (day ≤ 31) }
+    requires day { 1 ≤ day }
     ensures month { HasMonthIndex index result }
     ensures day { day_of_month_at result
         ≡ min day (days_in_month (year_at result) (month_at result)) }

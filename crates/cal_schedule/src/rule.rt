@@ -20,3 +20,4 @@ pub(crate) use periods::period_of;
 pub use rule::{ByDay, Frequency, Rule};
 pub use unit::PeriodUnit;
 pub use values::Values;
+pub(crate) use weeks::is_week;

@@ -9,8 +9,8 @@ mod convention;
 mod search;
 mod week;
 
+use cal_date::day_number::day_number;
 use cal_time::Date;
-use cal_time::day_number::day_number;
 pub use calendar::Workdays;
 pub use convention::Convention;
 

@@ -12,7 +12,7 @@ mod pair;
 pub mod util;
 
 pub use cal_clock::{Time, UtcOffset};
-pub use cal_date::{Date, day_number, limits};
+pub use cal_date::{Date, limits};
 pub use cal_span::SignedDuration;
 pub use cal_units::{Counted, Cycle, Month, ShortText, Weekday, extent, is_rising, nth_in};
 pub use pair::{add_to_pair, sub_from_pair};

@@ -7,7 +7,7 @@ ghost use Rattle.cal_time.specs.Month.{number};
 
 use crate::LocalType;
 use crate::change_error::is_offset;
-use cal_time::day_number::{days_since_monday, from_calendar_date};
+use cal_date::day_number::{days_since_monday, from_calendar_date};
 use cal_time::util::days_in_month;
 use cal_time::{Cycle, Month, Weekday};
 
@@ -19,7 +19,7 @@ const EPOCH_DAY: i64 = 365_961_662;
 
 /// A change of clocks that comes each year, on a weekday of a month. The text `M3.5.0/2` of POSIX
 /// is the last Sunday of March at 2:00.
-#[derive(Clone, Copy)]
+#[derive(Clone, Copy, Debug)]
 pub struct Yearly {
     /// The month of the change.
     pub month: Month,

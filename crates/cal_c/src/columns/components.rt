@@ -8,7 +8,7 @@ use super::statuses::{INVALID_DATE, OK};
 use super::{LENGTH_MISMATCH, NO_VALUE, count_errors};
 use crate::day_number::{LAST_DAY_NUMBER, clamped_number, day_number, is_julian_day};
 use crate::values::valid_date;
-use cal_time::day_number::{
+use cal_date::day_number::{
     days_since_monday, from_calendar_date, to_calendar_date, to_iso_week_date,
 };
 

@@ -11,7 +11,7 @@ use crate::day_number::day_number;
 use crate::results::{CalendarDateResult, IsoWeekDateResult, NumberResult, OrdinalDateResult};
 use crate::status::{INVALID_DATE, OK};
 use crate::values::valid_date;
-use cal_time::day_number::{days_since_monday, to_calendar_date, to_iso_week_date};
+use cal_date::day_number::{days_since_monday, to_calendar_date, to_iso_week_date};
 
 /// Returns the year, the month and the day of the month. For 2451604 they are 2000, 2 and 29.
 #[unsafe(no_mangle)]

@@ -9,7 +9,7 @@ ghost use Rattle.cal_c.specs.Values.{need◌else◌then◌, IsJulianDay, IsWeekd
 use crate::day_number::{date_result, day_number};
 use crate::results::DateResult;
 use crate::status::{INVALID_COUNT, INVALID_DATE, INVALID_WEEKDAY};
-use cal_time::day_number::{nth_next_occurrence, nth_prev_occurrence};
+use cal_date::day_number::{nth_next_occurrence, nth_prev_occurrence};
 
 /// Returns the `count`-th day with a weekday after a date, from 1 to 255. Fails if it is out of
 /// range, or for 0. The fifth Monday after 2460121 is 2460150.

@@ -1,11 +1,11 @@
-//! Laws of rules: periods and the numbers of weekdays agree with a count of the days.
+//! Laws of rules: periods, the numbers of weekdays and weeks agree with a count of the days.
 ghost use Rattle.std.specs.Prelude.{◌≡◌};
-ghost use Rattle.cal_schedule.specs.Rule.{is_nth_weekday, period_index};
-ghost use Rattle.cal_schedule.specs.RuleLaws.{NumbersByCount, RisesAtBeginning};
+ghost use Rattle.cal_schedule.specs.Rule.{is_nth_weekday, is_week, period_index};
+ghost use Rattle.cal_schedule.specs.RuleLaws.{NumbersByCount, RisesAtBeginning, WeeksByCount};
 
 use crate::PeriodUnit;
-use crate::rule::{is_nth_in_period, period_of};
-use cal_time::Date;
+use crate::rule::{self, is_nth_in_period, period_of};
+use cal_time::{Date, Weekday};
 
 /// Returns the index of the period of a date, by which a rule counts its interval.
 ///
@@ -27,4 +27,17 @@ pub fn is_nth_weekday(of_year: bool, date: Date, n: i8) -> bool
     ensures counts { NumbersByCount date }
 {
     is_nth_in_period(of_year, date, n)
+}
+
+/// Returns `true` if the week of a date is the n-th of its year, in a rule whose weeks begin on
+/// `first`. A week is in the year of its fourth day.
+///
+/// A positive n counts from the start of the year, and a negative n from the end. 2024-01-06 is a
+/// Saturday: if weeks begin on Sunday its week is the first of 2024, and if they begin on Saturday
+/// its week is the second.
+pub fn is_week(first: Weekday, date: Date, n: i8) -> bool
+    ensures value { result ≡ is_week first date n }
+    ensures counts { WeeksByCount first date }
+{
+    rule::is_week(first, date, n)
 }

@@ -8,7 +8,7 @@ ghost use Rattle.cal_schedule.specs.RuleSearch.{may_fall_on, by_day_weekday, IsC
 use crate::rule::periods::next_period;
 use crate::rule::rule::{ByDay, Rule};
 use crate::rule::unit::PeriodUnit;
-use cal_time::day_number::{date_from_number, day_number};
+use cal_date::day_number::{date_from_number, day_number};
 use cal_time::{Cycle, Date, Weekday};
 
 /// Returns the weekday, without its number.

@@ -4,8 +4,8 @@ ghost use Rattle.std.specs.Iterator.{YieldsFirst, YieldsLast, item_count};
 ghost use Rattle.cal_schedule.specs.Rule.{occurrences, occurrences_between, occurrences_from};
 
 use crate::rule::rule::Rule;
+use cal_date::day_number::{day_number, to_date};
 use cal_time::Date;
-use cal_time::day_number::{day_number, to_date};
 use std::marker::Model;
 
 /// An iterator over days of a rule, in ascending order, from both ends. Contracts see the list of

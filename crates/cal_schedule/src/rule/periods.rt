@@ -11,7 +11,7 @@ use crate::months::clamped_date_in_month;
 use crate::rule::rule::Rule;
 use crate::rule::unit::PeriodUnit;
 use crate::rule::weeks::fourth_day;
-use cal_time::day_number::{date_from_number, day_number};
+use cal_date::day_number::{date_from_number, day_number};
 use cal_time::limits::MIN_YEAR;
 use cal_time::{Cycle, Date, Weekday, limits};
 

@@ -8,7 +8,7 @@ ghost use Rattle.cal_schedule.specs.RuleSearch.{IsPeriodEnd, IsPeriodStart, IsSt
 
 use crate::rule::matching::is_nth;
 use crate::rule::rule::Rule;
-use cal_time::day_number::day_number;
+use cal_date::day_number::day_number;
 use cal_time::{Date, limits};
 
 /// The number of days in the range.

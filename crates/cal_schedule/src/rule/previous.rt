@@ -6,8 +6,8 @@ ghost use Rattle.cal_schedule.specs.RuleSearch.{IsEndBefore, IsLastBetween, IsLa
 
 use crate::rule::rule::Rule;
 use crate::rule::search::{LAST_DAY, PERIOD, YEAR};
+use cal_date::day_number::{date_from_number, day_number};
 use cal_time::Date;
-use cal_time::day_number::{date_from_number, day_number};
 
 /// Returns the later one of a day and the day with a number.
 fn later(day: Date, number: u64) -> Date

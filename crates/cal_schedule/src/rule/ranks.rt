@@ -6,8 +6,8 @@ ghost use Rattle.cal_schedule.specs.Rule.{passes_with};
 ghost use Rattle.cal_schedule.specs.Weekdays.{count_from};
 
 use crate::rule::rule::Rule;
+use cal_date::day_number::day_number;
 use cal_time::Date;
-use cal_time::day_number::day_number;
 
 impl Rule {
     /// Returns the number of days up to a date that pass the lists in its period, and the number

@@ -5,7 +5,7 @@ ghost use Rattle.cal_schedule.specs.Rule.{occurrences_after, is_occurrence};
 ghost use Rattle.cal_schedule.specs.RuleSearch.{IsNextBefore, IsNextFrom, IsStep};
 
 use crate::rule::rule::Rule;
-use cal_time::day_number::{date_from_number, day_number};
+use cal_date::day_number::{date_from_number, day_number};
 use cal_time::{Date, limits};
 
 /// The number of the last day of the range.

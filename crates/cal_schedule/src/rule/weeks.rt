@@ -6,7 +6,7 @@ ghost use Rattle.cal_schedule.specs.Rule.{fourth_day, is_nth_weekday, is_week, m
 
 use crate::rule::matching::is_nth_in_period;
 use crate::rule::rule::Rule;
-use cal_time::day_number::{date_from_number, day_number};
+use cal_date::day_number::{date_from_number, day_number};
 use cal_time::{Cycle, Date, Weekday};
 
 /// Returns the fourth day of the week of a date, 400 years later, moved back by periods of 400
@@ -26,6 +26,13 @@ pub(super) fn fourth_day(first: Weekday, date: Date) -> (Date, u32)
             None => (date, 0),
         },
     }
+}
+
+/// Returns `true` if the week of the date has the number.
+pub(crate) fn is_week(first: Weekday, date: Date, n: i8) -> bool
+    ensures { result ≡ is_week first date n }
+{
+    is_nth_in_period(true, fourth_day(first, date).0, n)
 }
 
 /// Returns `true` if the day is one of these of its weekday in its year.

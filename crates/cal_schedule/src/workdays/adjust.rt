@@ -5,8 +5,8 @@ ghost use Rattle.cal_schedule.specs.Workdays.{is_workday};
 ghost use Rattle.cal_schedule.specs.WorkdaysConvention.{adjusted_date, following, preceding, is_in_month_of, first_in_same_month, IsAdjusted};
 
 use crate::workdays::{Convention, Workdays};
+use cal_date::day_number::day_number;
 use cal_time::Date;
-use cal_time::day_number::day_number;
 
 /// Returns `true` if both dates are in the same month of the same year.
 fn is_in_month_of(date: Date, other: Date) -> bool

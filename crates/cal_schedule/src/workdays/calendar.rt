@@ -3,7 +3,7 @@ ghost use Rattle.std.specs.Prelude.{◌≡◌, ◌<◌, length, slice_index, Som
 ghost use Rattle.cal_time.specs.Counted.{IsRising};
 ghost use Rattle.cal_time.specs.Date.{julian_day_at, IsDate};
 
-use cal_time::day_number::day_number;
+use cal_date::day_number::day_number;
 use cal_time::{Date, is_rising};
 use std::marker::Model;
 

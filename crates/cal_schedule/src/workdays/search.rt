@@ -7,8 +7,8 @@ ghost use Rattle.cal_schedule.specs.Workdays.{is_holiday, is_marked, is_workday,
 ghost use Rattle.cal_schedule.specs.WorkdaysSplit.{IsSplit, IsNthFrom, IsNthBefore};
 
 use crate::workdays::Workdays;
+use cal_date::day_number::date_from_number;
 use cal_time::Date;
-use cal_time::day_number::date_from_number;
 
 impl Workdays<'_> {
     /// Returns the number of holidays before a day.

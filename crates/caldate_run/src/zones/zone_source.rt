@@ -17,7 +17,7 @@ use crate::streams::Source;
 use crate::zones::read_zone_error::FileError;
 use crate::zones::{DataFiles, ZoneFile, file_named, is_zone_name, name_in};
 use cal_datetime::midnight;
-use cal_time::day_number::to_date;
+use cal_date::day_number::to_date;
 use std::env::Env;
 use std::fs::Files;
 use std::io::{Error, ErrorKind};

@@ -6,7 +6,7 @@ ghost use Rattle.cal_c.specs.CheckedWorkdays.{week_of, IsChecked};
 
 use crate::schedule::workdays::ranks::RankedWorkdays;
 use cal_schedule::Convention;
-use cal_time::day_number::to_date;
+use cal_date::day_number::to_date;
 
 /// Returns `true` if both days are in the same month of the same year.
 fn is_in_month_of(day: u32, other: u32) -> bool

@@ -32,8 +32,7 @@ fn from_month_index_clamped(year: i32, index: u8, day: u8) -> Twice<Date>
 
 fn from_month_number_clamped(number: u32, day: u32) -> Twice<Date>
     requires number { number < months_in_range }
-    requires min { 1 ≤ day }
-    requires max { day ≤ 31 }
+    requires day { 1 ≤ day }
     ensures { result.0 ≡ result.1 }
 {
     twice!(Date::from_month_number_clamped(number, day))
