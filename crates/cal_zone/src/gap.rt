@@ -9,7 +9,7 @@ use cal_time::{SignedDuration, UtcOffset};
 
 /// A reading that the clocks of a zone skip: they go forward over it, from one offset to another,
 /// such as 2024-03-31 2:30 in Berlin.
-#[derive(Clone, Copy)]
+#[derive(Clone, Copy, Debug, PartialEq, Eq)]
 pub struct Gap {
     pub(crate) reading: PlainDateTime,
     pub(crate) at: i64,

@@ -12,7 +12,7 @@ const PART: u64 = 16_777_216;
 /// Guesses for many searches in the same zone: how many changes of its table are not after an
 /// instant. They are counted after 64 searches, for each 194 days of the 136 years before the last
 /// change. They make a search short, and need not be right.
-#[derive(Drop)]
+#[derive(Debug, Drop)]
 pub struct Guesses {
     left: u32,
     last: i64,

@@ -3,7 +3,7 @@ ghost use Rattle.std.specs.Prelude.{◌≡◌};
 
 /// A layout: the positions of the parts of a TZif file's data block (RFC 9636, 3.2).
 #[repr(C)]
-#[derive(Clone, Copy)]
+#[derive(Clone, Copy, Debug)]
 pub struct Layout {
     /// The position of the times of the changes, of eight bytes each.
     pub times: usize,

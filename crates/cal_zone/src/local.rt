@@ -6,7 +6,7 @@ use crate::Gap;
 use cal_datetime::OffsetDateTime;
 
 /// The date-times at which the clocks of a zone show a reading: one, none or two.
-#[derive(Clone, Copy)]
+#[derive(Clone, Copy, Debug, PartialEq, Eq)]
 pub enum Local {
     /// The clocks show it once.
     Single(OffsetDateTime),

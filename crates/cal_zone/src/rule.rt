@@ -9,7 +9,7 @@ use crate::{Change, LocalType, Span, Table, Yearly};
 
 /// A rule of two changes each year, such as the rule of the POSIX text
 /// `CET-1CEST,M3.5.0,M10.5.0/3`. The first change comes earlier in the year.
-#[derive(Clone, Copy)]
+#[derive(Clone, Copy, Debug)]
 pub struct Rule {
     one: Yearly,
     other: Yearly,

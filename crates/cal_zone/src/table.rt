@@ -103,7 +103,7 @@ impl Layout {
 
 /// A table of the changes of a TZif file, which are read from its bytes (RFC 9636, 3.2). Contracts
 /// see a list of changes.
-#[derive(Drop)]
+#[derive(Debug, Drop)]
 pub struct Table<'a> {
     bytes: &'a [u8],
     layout: Layout,

@@ -14,7 +14,7 @@ use std::marker::Model;
 /// A zone whose changes need not be in order. If they are not, a call may return any value.
 ///
 /// Contracts see the same as of a [`Zone`](crate::Zone).
-#[derive(Drop)]
+#[derive(Debug, Drop)]
 pub struct UncheckedZone<'a> {
     pub(crate) first: LocalType,
     pub(crate) table: Table<'a>,

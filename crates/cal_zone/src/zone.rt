@@ -14,7 +14,7 @@ use std::marker::Model;
 ///
 /// Contracts see the first type and one list of changes: the changes of the file, and then the
 /// rule's two changes of each later year to 999999.
-#[derive(Drop)]
+#[derive(Debug, Drop)]
 pub struct Zone<'a> {
     pub(crate) unchecked: UncheckedZone<'a>,
 }

@@ -4,7 +4,7 @@ use crate::{Layout, LocalType, Rule};
 
 /// A zone in parts. [`UncheckedZone::new`](crate::UncheckedZone::new) creates the zone from them,
 /// and looks at no change for that.
-#[derive(Clone, Copy)]
+#[derive(Clone, Copy, Debug)]
 pub struct ZoneParts<'a> {
     /// How the clocks are set before the first change.
     pub first: LocalType,
