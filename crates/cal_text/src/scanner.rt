@@ -8,7 +8,7 @@ use crate::digits::two_digit_value;
 
 /// A text that is parsed from its front. A call that returns `None` leaves the rest at the wrong
 /// byte, or at the end.
-#[derive(Drop)]
+#[derive(Debug, Drop)]
 pub struct Scanner<'a> {
     /// The bytes that are not parsed yet.
     pub rest: &'a [u8],
@@ -97,11 +97,11 @@ impl Scanner<'_> {
         ensures value { IfSome result (λ n. ParsesDigits self.old.rest.now self.new.rest.now 2 n) }
         ensures range { IfSome result (λ n. n < 100) }
     {
-        if let [tens, ones, others @ ..] = self.rest
-            && let Some(number) = two_digit_value(*tens, *ones)
-        {
-            self.rest = others;
-            return Some(number);
+        if let [tens, ones, others @ ..] = self.rest {
+            if let Some(number) = two_digit_value(*tens, *ones) {
+                self.rest = others;
+                return Some(number);
+            }
         }
         let tens = self.digit()?;
         let ones = self.digit()?;

@@ -18,12 +18,14 @@ pub(crate) fn parse_numbers(text: &[u8]) -> Result<DateNumbers, usize>
     // Most dates have a year of four digits. For these the length is tested once, not before each
     // byte.
     let mut scanner = Scanner { rest: text };
-    if let [_, _, _, _, b'-', _, _, b'-', _, _] = text
-        && let Some(year) = scanner.four_digits()
-        && let Some((month, day)) = scanner.two_numbers(b'-')
-        && let Some(()) = scanner.end()
-    {
-        return Ok(DateNumbers::Calendar(year as i32, month, day));
+    if let [_, _, _, _, b'-', _, _, b'-', _, _] = text {
+        if let Some(year) = scanner.four_digits() {
+            if let Some((month, day)) = scanner.two_numbers(b'-') {
+                if let Some(()) = scanner.end() {
+                    return Ok(DateNumbers::Calendar(year as i32, month, day));
+                }
+            }
+        }
     }
     scanner.rest = text;
     match scan_date(&mut scanner) {

@@ -9,15 +9,15 @@ use Rattle.cal_text.proofs.Positions.{stopped}
 use Rattle.cal_text.proofs.date_numbers.parsing.parse_numbers.Goals as goal
 
 -- a date of ten bytes
-pub returns-clause-value : goal.returns-clause-value
-returns-clause-value c =
+pub returns-in-Some-end-clause-value : goal.returns-in-Some-end-clause-value
+returns-in-Some-end-clause-value c =
     let number = c.in-Some.ensures in
     let numbers = c.in-Some-two_numbers.ensures.value in
     let year = put_plain _ _ _ _ number.range number.value numbers.2 in
     put_form _ (Calendar _ _ _) _ _ year.1 (year.0, numbers.0, numbers.1) refl (month_and_day _ _ _ c.in-Some-end.ensures.value)
 
-pub returns-clause-every : goal.returns-clause-every
-returns-clause-every c other has = ap Ok (date_shape.one _ _ _ (returns-clause-value c) has)
+pub returns-in-Some-end-clause-every : goal.returns-in-Some-end-clause-every
+returns-in-Some-end-clause-every c other has = ap Ok (date_shape.one _ _ _ (returns-in-Some-end-clause-value c) has)
 
 -- any other
 pub returns-in-Some-scan_date-clause-every : goal.returns-in-Some-scan_date-clause-every
