@@ -14,7 +14,7 @@ use cal_text::Scanner;
 use cal_time::Date;
 
 /// The numbers that a text has for components, and 0 for each component without a number.
-#[derive(Drop)]
+#[derive(Debug, Drop)]
 pub struct Fields {
     numbers: [u64; 27],
     shown: Shown,
@@ -117,11 +117,11 @@ impl Fields {
         requires { (c : Component) → number_at c self.old ≡ 0 }
         ensures { (c : Component) → number_at c self.new ≡ number_in items.now numbers.now c }
     {
-        if let [item, others @ ..] = items
-            && let [number, rest @ ..] = numbers
-        {
-            self.fill(others, rest);
-            self.set_number(item.component(), *number);
+        if let [item, others @ ..] = items {
+            if let [number, rest @ ..] = numbers {
+                self.fill(others, rest);
+                self.set_number(item.component(), *number);
+            }
         }
     }
 

@@ -47,12 +47,13 @@ fn scan_short_month(scanner: &mut Scanner) -> Option<u64>
     ensures value { IfSome result (λ n. scanner.old.rest.now ≡ month_text false n ++ scanner.new.rest.now) }
     ensures range { IfSome result (λ n. (1 ≤ n) × (n ≤ 12)) }
 {
-    if let [_, b, c, others @ ..] = scanner.rest
-        && let Ok(month) = Month::try_from(MONTHS[usize::from(b.wrapping_add(*c) % 32)])
-        && month.name().as_bytes()[..3] == scanner.rest[..3]
-    {
-        scanner.rest = others;
-        return Some(u64::from(u8::from(month)));
+    if let [_, b, c, others @ ..] = scanner.rest {
+        if let Ok(month) = Month::try_from(MONTHS[usize::from(b.wrapping_add(*c) % 32)]) {
+            if month.name().as_bytes()[..3] == scanner.rest[..3] {
+                scanner.rest = others;
+                return Some(u64::from(u8::from(month)));
+            }
+        }
     }
     scan_month(scanner, false)
 }

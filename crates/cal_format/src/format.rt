@@ -26,7 +26,7 @@ pub enum FormatError {
 }
 
 /// A format of texts: a list of items. Contracts see this list.
-#[derive(Drop)]
+#[derive(Debug, Drop)]
 pub struct Format {
     items: [Item; CAPACITY],
     count: usize,

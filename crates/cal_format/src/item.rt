@@ -113,7 +113,7 @@ pub enum Item {
 }
 
 /// A syntax of formats.
-#[derive(Clone, Copy)]
+#[derive(Clone, Copy, Debug)]
 pub enum Syntax {
     /// Letters after percent signs, such as `%Y-%m-%d`, as in `strftime`.
     Percent,

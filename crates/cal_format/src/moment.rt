@@ -17,7 +17,7 @@ pub(crate) const EPOCH_JULIAN_DAY: i64 = 2_440_588;
 
 /// A value that an item prints: a date, a time of day and an offset. A value without one of them
 /// has the first date, midnight or UTC in its place.
-#[derive(Clone, Copy)]
+#[derive(Clone, Copy, Debug)]
 pub struct Moment {
     pub(crate) date: Date,
     pub(crate) time: Time,

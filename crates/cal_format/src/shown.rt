@@ -8,7 +8,7 @@ ghost use Rattle.cal_format.specs.Shown.{AreShown, low_of, end_of, is_calendar};
 use crate::item::{Component, Item, Padding};
 
 /// A mark for each component that items show, and the range of the indices of these components.
-#[derive(Drop)]
+#[derive(Debug, Drop)]
 pub(crate) struct Shown {
     marks: [bool; 27],
     /// The minimum index, or 27 for no component.

@@ -20,7 +20,7 @@ use cal_time::{Date, Time, UtcOffset};
 use std::marker::Model;
 
 /// A format whose texts determine a date. Contracts see the list of its items.
-#[derive(Drop)]
+#[derive(Debug, Drop)]
 pub struct DateFormat {
     format: Format,
 }
@@ -38,7 +38,7 @@ impl Model for DateFormat {
 }
 
 /// A format whose texts determine a time of day. Contracts see the list of its items.
-#[derive(Drop)]
+#[derive(Debug, Drop)]
 pub struct TimeFormat {
     format: Format,
 }
@@ -56,7 +56,7 @@ impl Model for TimeFormat {
 }
 
 /// A format whose texts determine an offset. Contracts see the list of its items.
-#[derive(Drop)]
+#[derive(Debug, Drop)]
 pub struct OffsetFormat {
     format: Format,
 }
@@ -74,7 +74,7 @@ impl Model for OffsetFormat {
 }
 
 /// A format whose texts determine a date and a time of day. Contracts see the list of its items.
-#[derive(Drop)]
+#[derive(Debug, Drop)]
 pub struct DateTimeFormat {
     format: Format,
 }
@@ -93,7 +93,7 @@ impl Model for DateTimeFormat {
 
 /// A format whose texts determine a date, a time of day and an offset. Contracts see the list of
 /// its items.
-#[derive(Drop)]
+#[derive(Debug, Drop)]
 pub struct OffsetDateTimeFormat {
     format: Format,
 }

@@ -1,12 +1,12 @@
 -- The weeks of a rule agree with a count of days, whatever weekday they begin on.
-use Rattle.std.proofs.Common.{◌≡◌, ℕ, ◌+◌, ◌*◌, ◌↔◌, ap, ◌∙◌, sym, arith, ℤ, pos, negsuc, true}
+use Rattle.std.proofs.Common.{◌≡◌, ℕ, ◌+◌, ◌*◌, ap, ◌∙◌, sym, arith, pos, negsuc}
 use Rattle.std.proofs.lemmas.Int.{ints}
-use Rattle.cal_time.specs.Date.{year_at, weekday_at, IsDate}
+use Rattle.cal_time.specs.Date.{year_at}
 use Rattle.cal_time.specs.Laws.{weekday_at-is}
 use Rattle.cal_time.specs.WeekdayCycle.{index-below}
 use Rattle.cal_time.specs.declared.Weekday.{Weekday}
-use Rattle.cal_schedule.specs.Rule.{fourth_day, is_week, is_nth_weekday}
-use Rattle.cal_schedule.specs.RuleLaws.{IsFourthDay, NumbersByCount, WeeksByCount}
+use Rattle.cal_schedule.specs.Rule.{fourth_day}
+use Rattle.cal_schedule.specs.RuleLaws.{IsFourthDay, WeeksByCount}
 use Rattle.cal_schedule.proofs.RuleNumbers.{numbers_by_count}
 use Rattle.cal_schedule.proofs.RulePeriods.{fourth-is, is_week-places, periods, pos-week_years, weeks-is}
 
