@@ -12,7 +12,8 @@ use Rattle.cal_format.specs.declared.item.Padding.TheVariants as padding
 use Rattle.cal_format.specs.declared.item.Component.{Component}
 use Rattle.cal_format.specs.declared.item.Component.TheVariants.{Year}
 use Rattle.cal_format.specs.Form.{numbered_item, numbered_text, AreNumbers}
-use Rattle.cal_format.specs.Reading.{index, is_apart, begins_apart, is_past_point, begins_past_point, begins_with_decimal, ends_before}
+use Rattle.cal_time.specs.Digits.{decimals}
+use Rattle.cal_format.specs.Reading.{index, is_apart, is_fraction, begins_apart, is_past_point, begins_past_point, begins_with_decimal, ends_before}
 use Rattle.cal_format.proofs.Digits.{AreDigits-decimal, small-digits}
 use Rattle.cal_format.proofs.Ends.{AreDigits, BeginsApart, BeginsPastPoint, BeginsPastMinus, IsEnded}
 use Rattle.cal_format.proofs.EnglishNames.{name-apart, name-past}
@@ -63,15 +64,40 @@ item-past (item.Name k) n rest h p = name-past k n rest
 item-past item.OffsetSign n rest h p = sign-past (n == 1) rest
 item-past _ n rest h p = cc
 
+-- A fraction begins with a point, or is empty.
+point-apart : (empty : Bool) (digits rest : List ℕ) → BeginsApart rest → BeginsApart ((if empty then [] else 46 ∷ digits) ++ rest)
+point-apart true digits rest h = h
+point-apart false digits rest h = inl (lit< tt)
+
+fraction-apart : (i : Item) (n : ℕ) (rest : List ℕ) → IsTrue (is_fraction i) → BeginsApart rest → BeginsApart (numbered_item i n ++ rest)
+fraction-apart item.Fraction n rest f h = point-apart (n == 0) (decimals n) rest h
+fraction-apart _ n rest f h = cc
+
 text-apart : (items : List Item) (numbers : List ℕ) → IsTrue (begins_apart items) → AreNumbers items numbers → BeginsApart (numbered_text items numbers)
 text-apart [] numbers h fit = tt
 text-apart (i ∷ items) [] h fit = absurd fit
-text-apart (i ∷ items) (n ∷ numbers) h fit = item-apart i n (numbered_text items numbers) h
+text-apart (i ∷ items) (n ∷ numbers) h fit = elim (either_test (is_apart i) (is_fraction i && begins_apart items) h) [
+  | inl apart ↦ item-apart i n (numbered_text items numbers) apart
+  | inr both ↦
+      let parts = both_tests (is_fraction i) (begins_apart items) both in
+      fraction-apart i n (numbered_text items numbers) parts.0 (text-apart items numbers parts.1 fit.1)
+]
+
+-- No fraction begins past a point.
+first-apart : (i : Item) (items : List Item) → IsTrue (is_apart i || (is_fraction i && begins_apart items)) → IsTrue (is_past_point i) → IsTrue (is_apart i)
+first-apart (item.Literal b) items h p = elim (either_test (nat_lt b 48 || nat_lt 57 b) false h) [
+  | inl apart ↦ apart
+  | inr none ↦ cc
+]
+first-apart item.Fraction items h p = cc
+first-apart (item.Name k) items h p = refl
+first-apart item.OffsetSign items h p = refl
+first-apart _ items h p = h
 
 text-past : (items : List Item) (numbers : List ℕ) → IsTrue (begins_apart items) → IsTrue (begins_past_point items) → AreNumbers items numbers → BeginsPastPoint (numbered_text items numbers)
 text-past [] numbers h p fit = tt
 text-past (i ∷ items) [] h p fit = absurd fit
-text-past (i ∷ items) (n ∷ numbers) h p fit = item-past i n (numbered_text items numbers) h p
+text-past (i ∷ items) (n ∷ numbers) h p fit = item-past i n (numbered_text items numbers) (first-apart i items h p) p
 
 decimal-past : (ds rest : List ℕ) → 0 < length ds → AreDigits ds → BeginsPastMinus (ds ++ rest)
 decimal-past [] rest some h = absurd (omega (arith, some))

@@ -136,7 +136,7 @@ no-timestamp items h = is-not (shows_timestamp items) (none (any_shows Timestamp
 
 pub one-date : (items : List Item) (f : Fields) (text : List ℕ) (n : ℕ) → IsScanned items f text → AreShown items f.shown → IsDateOfFields f n → IsOneDate items n text
 one-date items f text n read are is =
-    let apart = fixed-apart items (are.fixed is.fixed) in
+    let apart = fixed-apart items (sym are.fixed ∙ is.fixed) in
     let calendar = calendar-items items f n are is in
     let agree = all-agree items items f n is calendar (λ c k. k) calendar.within in
     let same = same-text items (fields_of items f) (moment_of_date n) read.has.fit agree in

@@ -2,15 +2,16 @@
 use Rattle.std.proofs.Common.{◌≡◌, ℕ, ◌≤◌, List, [], ◌∷◌, ◌++◌, refl, sym, ap, ◌∙◌, arith}
 use Rattle.std.specs.Prelude.{Bool, true, false, ◌||◌, ◌&&◌, ◌==◌, if◌then◌else◌, IsTrue, Option, Some, None, min, max, nat_le}
 use Rattle.std.proofs.Math.Bool.{or-false}
-use Rattle.std.proofs.lemmas.Bool.{and_from}
+use Rattle.std.proofs.lemmas.Bool.{and_from, and_parts}
 use Rattle.std.proofs.lemmas.Bool.Decides.{nat_tests}
 use Rattle.std.proofs.lemmas.List.Recursion.{or_push}
 use Rattle.cal_format.specs.declared.item.Component.{Component}
 use Rattle.cal_format.specs.declared.item.Item.{Item}
 use Rattle.cal_format.specs.declared.item.Item.TheVariants as item
+use Rattle.cal_format.specs.declared.item.Padding.TheVariants as padding
 use Rattle.cal_format.specs.declared.shown.Shown.{Shown}
 use Rattle.cal_format.specs.Reading.{index, is_component, item_component, shows, any_shows, mark_of, ends_before, are_apart, lies_within, shows_within, show_within}
-use Rattle.cal_format.specs.Shown.{AreShown, AreFixed, low_of, component_end, end_of, lowest, highest}
+use Rattle.cal_format.specs.Shown.{AreShown, is_fixed, are_fixed, low_of, component_end, end_of, lowest, highest}
 
 -- ---- one item more
 any-more : (c : Component) (items : List Item) (i : Item) → any_shows c (items ++ i ∷ []) ≡ (any_shows c items || shows c i)
@@ -24,17 +25,37 @@ highest-more : (items : List Item) (i : Item) → highest (items ++ i ∷ []) �
 highest-more [] i = omega arith
 highest-more (x ∷ items) i = omega (arith, highest-more items i)
 
+and-true : (a : Bool) → (a && true) ≡ a
+and-true true = refl
+and-true false = refl
+
+and-all : (a b c : Bool) → ((a && b) && c) ≡ (a && (b && c))
+and-all true b c = refl
+and-all false b c = refl
+
 pub neither-shown : (a b : Bool) → (a || b) ≡ false → (a ≡ false) × (b ≡ false)
 neither-shown true b e = cc
 neither-shown false b e = (refl, e)
 
-fixed-more : (items : List Item) (i : Item) → AreFixed items → ((others : List Item) → IsTrue (ends_before i others)) → AreFixed (items ++ i ∷ [])
-fixed-more [] i fixed last = (last, tt)
-fixed-more (x ∷ items) i fixed last = (fixed.0, fixed-more items i fixed.1 last)
+fixed-more : (items : List Item) (i : Item) → are_fixed (items ++ i ∷ []) ≡ (are_fixed items && is_fixed i)
+fixed-more [] i = and-true (is_fixed i)
+fixed-more (x ∷ items) i = ap (λ b. is_fixed x && b) (fixed-more items i) ∙ sym (and-all (is_fixed x) (are_fixed items) (is_fixed i))
 
-pub fixed-apart : (items : List Item) → AreFixed items → IsTrue (are_apart items)
+fixed-end : (i : Item) (others : List Item) → IsTrue (is_fixed i) → IsTrue (ends_before i others)
+fixed-end (item.Number c padding.None) others h = cc
+fixed-end (item.Number c padding.Zero) others h = refl
+fixed-end (item.Number c padding.Space) others h = refl
+fixed-end (item.Literal b) others h = refl
+fixed-end (item.Name k) others h = refl
+fixed-end item.OffsetSign others h = refl
+fixed-end item.Abbreviation others h = refl
+fixed-end _ others h = cc
+
+pub fixed-apart : (items : List Item) → IsTrue (are_fixed items) → IsTrue (are_apart items)
 fixed-apart [] fixed = refl
-fixed-apart (i ∷ items) fixed = and_from (ends_before i items) (are_apart items) (fixed.0 items) (fixed-apart items fixed.1)
+fixed-apart (i ∷ items) fixed =
+    let both = and_parts (is_fixed i) (are_fixed items) fixed in
+    and_from (ends_before i items) (are_apart items) (fixed-end i items both.0) (fixed-apart items both.1)
 
 -- The marks of items with one item more, without a component or with this one.
 or-mark : (a m : Bool) → (if a then true else m) ≡ (m || a)
@@ -44,13 +65,13 @@ or-mark false true = refl
 or-mark false false = refl
 
 pub added : (items : List Item) (i : Item) (old new : Shown) → AreShown items old → ((c : Component) → mark_of c new.marks ≡ (mark_of c old.marks || shows c i))
-    → (IsTrue new.is_fixed → IsTrue old.is_fixed × ((others : List Item) → IsTrue (ends_before i others)))
+    → new.is_fixed ≡ (old.is_fixed && is_fixed i)
     → new.low ≡ min old.low (low_of (item_component i)) → new.end ≡ max old.end (end_of i) → AreShown (items ++ i ∷ []) new
 added items i old new are marks fixed low end = record {
   marks = λ c. marks c ∙ ap (λ b. b || shows c i) (are.marks c) ∙ sym (any-more c items i);
   low = omega (arith, low, are.low, lowest-more items i);
   end = omega (arith, end, are.end, highest-more items i);
-  fixed = λ h. fixed-more items i (are.fixed (fixed h).0) (fixed h).1;
+  fixed = fixed ∙ ap (λ b. b && is_fixed i) are.fixed ∙ sym (fixed-more items i);
 }
 
 pub marked-none : (c : Component) (i : Item) (m : Bool) → item_component i ≡ None → m ≡ (m || shows c i)
@@ -89,4 +110,4 @@ lowest-most (i ∷ items) = omega (arith, lowest-most items)
 
 pub byte-added : (items : List Item) (b : ℕ) (s : Shown) → AreShown items s → AreShown (items ++ item.Literal b ∷ []) s
 byte-added items b s are =
-    added items (item.Literal b) s s are (λ c. sym (or-false (mark_of c s.marks))) (λ h. (h, λ others. refl)) (omega (arith, are.low, lowest-most items)) (omega arith)
+    added items (item.Literal b) s s are (λ c. sym (or-false (mark_of c s.marks))) (sym (and-true s.is_fixed)) (omega (arith, are.low, lowest-most items)) (omega arith)

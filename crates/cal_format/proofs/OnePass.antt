@@ -1,9 +1,10 @@
 -- The numbers that one pass over the items leaves in the fields.
-use Rattle.std.proofs.Common.{◌≡◌, ℕ, ◌-◌, ◌≤◌, List, [], ◌∷◌, ◌++◌, length, refl, sym, ap, subst, ◌∙◌, arith, append_assoc, append-nil}
+use Rattle.std.proofs.Common.{◌≡◌, ◌≢◌, ℕ, ◌-◌, ◌≤◌, List, [], ◌∷◌, ◌++◌, length, refl, sym, ap, subst, ◌∙◌, arith, append_assoc, append-nil}
 use Rattle.std.proofs.lemmas.List.{take_all}
 use Rattle.std.specs.Prelude.{Bool, true, false, ◌==◌, ◌||◌, IsTrue, if◌then◌else◌, Option, Some, None, is_some, IfSome}
 use Rattle.std.proofs.Math.Bool.{or-false}
 use borrow.Author.Tests.{eq-eqb}
+use Rattle.cal_text.specs.Shape.{Shape, Byte, unmatched_bytes, Scans}
 use Rattle.cal_format.specs.declared.fields.Fields.{Fields}
 use Rattle.cal_format.specs.declared.item.Component.{Component}
 use Rattle.cal_format.specs.declared.item.Component.TheVariants.{Nanosecond, OffsetSign, TimestampSign}
@@ -13,7 +14,8 @@ use Rattle.cal_format.specs.declared.moment.Moment.{Moment}
 use Rattle.cal_format.specs.Form.{numbered_item, numbered_text, numbers_of, IsNumber, HasNumbers}
 use Rattle.cal_format.specs.Ranges.{maximum, either, item_error, first_range_error}
 use Rattle.cal_format.specs.Reading.{index, mark_of, name_component, is_component, item_component, shows, any_shows, are_apart}
-use Rattle.cal_format.specs.Scanning.{number_at, field_of, fields_of, HasField, HasFields}
+use Rattle.cal_format.specs.Scanning.{number_at, field_of, fields_of, HasField, HasFields, IsNoField}
+use Rattle.cal_format.specs.Scanning.IsNoField.{mismatch}
 use Rattle.cal_format.specs.Shown.{AreShown}
 use Rattle.cal_format.specs.Text.{text_of}
 use Rattle.cal_format.specs.Values.{Holds, IsPrinted, IsMomentOf, number_in, first_contradiction}
@@ -47,12 +49,14 @@ kept true x y e = cc
 kept false x y e = refl
 
 -- A byte has no number.
-pub byte-field : (i : Item) (b : ℕ) (f : Fields) (text rest : List ℕ) → i ≡ item.Literal b → text ≡ b ∷ rest → HasField i f f text rest
-byte-field i b f text rest is begins = subst (λ x. HasField x f f text rest) (sym is) (record {
+pub byte-field : (i : Item) (b : ℕ) (f : Fields) (text rest : List ℕ) → i ≡ item.Literal b → text ≡ b ∷ rest → ((s : Shape) → unmatched_bytes (Byte b s) text ≡ unmatched_bytes s rest)
+    → HasField i f f text rest
+byte-field i b f text rest is begins form = subst (λ x. HasField x f f text rest) (sym is) (record {
   number = 0;
   fit = refl;
   in_range = refl;
   text_is = begins;
+  form = form;
   set = λ c. refl;
   fresh = λ c h. cc;
   marks = λ c. sym (or-false (mark_of c f.shown.marks));
@@ -62,6 +66,20 @@ byte-field i b f text rest is begins = subst (λ x. HasField x f f text rest) (s
 pub some-holds : {A : Type 0} (o : Option A) (P : Type 0) → IsTrue (is_some o) → IfSome o (λ _. P) → P
 some-holds None P h p = cc
 some-holds (Some x) P h p = p
+
+pub byte-form : (b : ℕ) (text rest : List ℕ) (o : Option (Unit {0})) → IsTrue (is_some o) → Scans (Byte b) text rest o → (s : Shape) → unmatched_bytes (Byte b s) text ≡ unmatched_bytes s rest
+byte-form b text rest None h scans = cc
+byte-form b text rest (Some x) h scans = scans
+
+no-byte : (b : ℕ) (text rest : List ℕ) (o : Option (Unit {0})) → is_some o ≡ false → Scans (Byte b) text rest o → (s : Shape) → unmatched_bytes (Byte b s) text ≢ 0
+no-byte b text rest None h scans s e = absurd (omega (arith, scans s, e))
+no-byte b text rest (Some x) h scans s e = cc
+
+pub byte-mismatch : (i : Item) (b : ℕ) (f : Fields) (text rest : List ℕ) (o : Option (Unit {0})) → i ≡ item.Literal b → is_some o ≡ false → Scans (Byte b) text rest o → IsNoField i f text
+byte-mismatch i b f text rest o is none scans = subst (λ x. IsNoField x f text) (sym is) (mismatch (no-byte b text rest o none scans))
+
+pub some-error : {A : Type 0} (o : Option A) (x : A) → o ≡ Some x → o ≢ None
+some-error o x e none = cc
 
 -- ---- all items
 is-false : (a : Bool) → (IsTrue a → ⊥) → a ≡ false

@@ -1,9 +1,8 @@
 -- The components of `time`'s format descriptions: in brackets, a name and modifiers in any order,
 -- which white space separates.
-use Rattle.std.specs.Prelude.{ℕ, zero, suc, ◌+◌, ◌==◌, ◌&&◌, ◌||◌, Bool, List, [], ◌∷◌, length, map, drop, get_or, if◌then◌else◌}
-use Rattle.cal_format.specs.declared.description.TheConstants.{COMPONENTS}
-use Rattle.cal_format.specs.declared.item.Item.{Item}
+use Rattle.std.specs.Prelude.{ℕ, zero, suc, ◌+◌, ◌==◌, ◌&&◌, ◌||◌, Bool, List, [], ◌∷◌, length, drop, get_or, if◌then◌else◌}
 use Rattle.cal_format.specs.declared.item.Item.TheVariants as item
+use Rattle.cal_format.specs.Components.{Row, components}
 use Rattle.cal_format.specs.Directive.{Front, front_with, begins_with}
 
 -- ASCII white space.
@@ -46,18 +45,10 @@ component_length name words text =
     let others = modifiers_length 8 words (drop (s + n) text) in
     if (n == 0) || (others == 0) then 0 else s + n + others
 
--- A name, modifiers and the items of a component.
-abbrev pub Row : Type 0
-Row = List ℕ × List (List ℕ) × List Item
-
 -- The items of the first row that has the name and all modifiers of the component at the front.
 unfoldable pub component_front : List Row → List ℕ → Front
 component_front [] text = front_with [] 1
 component_front (row ∷ rows) text = (let n = component_length row.0 row.1 text in if n == 0 then component_front rows text else front_with row.2 (n + 1))
-
--- The components of format descriptions, as rows.
-abbrev pub components : List Row
-components = map (λ row. (row.0.now, map (λ word. word.now) row.1.now, row.2.now)) COMPONENTS
 
 -- The items of a text after an opening bracket: another opening bracket, which is a literal, or a
 -- component.

@@ -1,5 +1,6 @@
 -- Numbers and names of a text, read item by item.
-use Rattle.std.specs.Prelude.{◌≡◌, ℕ, ◌<◌, ◌≤◌, ◌^◌, ◌++◌, ◌||◌, IsTrue, List, [], ◌∷◌, Option, Some, None, false, get_or, if◌then◌else◌, ◌==◌, ℤ, pos, neg_ℤ}
+use Rattle.std.specs.Prelude.{◌≡◌, ◌≢◌, ℕ, ◌<◌, ◌≤◌, ◌^◌, ◌++◌, ◌||◌, IsTrue, List, [], ◌∷◌, Option, Some, None, false, get_or, if◌then◌else◌, ◌==◌, ℤ, pos, neg_ℤ}
+use Rattle.cal_text.specs.Shape.{Shape, unmatched_bytes}
 use Rattle.cal_time.specs.Date.{IsDate, HasCalendarDate}
 use Rattle.cal_format.specs.declared.fields.Fields.{Fields}
 use Rattle.cal_format.specs.declared.item.Item.{Item}
@@ -7,7 +8,7 @@ use Rattle.cal_format.specs.declared.item.Item.TheVariants as item
 use Rattle.cal_format.specs.declared.item.Component.{Component}
 use Rattle.cal_format.specs.declared.item.Component.TheVariants.{Year, Month, Day}
 use Rattle.cal_format.specs.declared.moment.Moment.{Moment}
-use Rattle.cal_format.specs.Form.{numbered_item, numbered_text, IsNumber, AreNumbers}
+use Rattle.cal_format.specs.Form.{ItemShape, numbered_item, numbered_text, IsNumber, AreNumbers}
 use Rattle.cal_format.specs.Moment.{number, width_of, moment_of_date}
 use Rattle.cal_format.specs.Ranges.{item_error, first_range_error}
 use Rattle.cal_format.specs.Text.{sign, text_of}
@@ -27,17 +28,27 @@ abbrev pub fields_of : List Item → Fields → List ℕ
 fields_of [] f = []
 fields_of (i ∷ items) f = field_of f (item_component i) ∷ fields_of items f
 
--- A text begins with an item with a number in its range, and then comes the rest. The number is set
--- for the component of the item, which had no mark.
+-- A text begins with an item with a number in its range, and then comes the rest: the text has the
+-- form of the item and then of others if and only if the rest has the form of the others. The
+-- number is set for the component of the item, which had no mark.
 pub record HasField (i : Item) (old new : Fields) (text rest : List ℕ) : Type 0 where
   pub number : ℕ
   pub fit : IsNumber i number
   pub in_range : item_error i number ≡ None
   pub text_is : text ≡ numbered_item i number ++ rest
+  pub form : (f : Shape) → unmatched_bytes (ItemShape i f) text ≡ unmatched_bytes f rest
   pub set : (c : Component) → number_at c new ≡ (if shows c i then number else number_at c old)
   pub fresh : (c : Component) → IsTrue (shows c i) → mark_of c old.shown.marks ≡ false
   pub marks : (c : Component) → mark_of c new.shown.marks ≡ (mark_of c old.shown.marks || shows c i)
   pub shown : (before : List Item) → AreShown before old.shown → AreShown (before ++ i ∷ []) new.shown
+
+-- The component of the item has a mark; or the text doesn't begin with the form of the item; or it
+-- does, and the number of the item is out of range.
+pub data IsNoField (i : Item) (f : Fields) (text : List ℕ) : Type 0 where
+  marked : (c : Component) → IsTrue (shows c i) → IsTrue (mark_of c f.shown.marks) → IsNoField i f text
+  mismatch : ((s : Shape) → unmatched_bytes (ItemShape i s) text ≢ 0) → IsNoField i f text
+  out_of_range : (number : ℕ) (rest : List ℕ) → text ≡ numbered_item i number ++ rest → ((s : Shape) → unmatched_bytes (ItemShape i s) text ≡ unmatched_bytes s rest) → item_error i number ≢ None
+      → IsNoField i f text
 
 -- The same of items. The numbers of marked and of other components are kept.
 pub record HasFields (items : List Item) (old new : Fields) (text rest : List ℕ) : Type 0 where

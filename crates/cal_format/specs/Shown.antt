@@ -1,11 +1,12 @@
 -- The components that items show.
-use Rattle.std.specs.Prelude.{◌≡◌, ℕ, ◌+◌, List, [], ◌∷◌, min, max, Option, Some, None, IsTrue, Bool, nat_le, not, ◌&&◌, ◌||◌}
+use Rattle.std.specs.Prelude.{◌≡◌, ℕ, ◌+◌, List, [], ◌∷◌, min, max, Option, Some, None, Bool, true, false, nat_le, not, ◌&&◌, ◌||◌}
 use Rattle.cal_format.specs.declared.item.Item.{Item}
 use Rattle.cal_format.specs.declared.item.Item.TheVariants as item
 use Rattle.cal_format.specs.declared.item.Component.{Component}
 use Rattle.cal_format.specs.declared.item.Component.TheVariants.{Year, Century, YearOfCentury, IsoYear, Month, Day}
+use Rattle.cal_format.specs.declared.item.Padding.TheVariants as padding
 use Rattle.cal_format.specs.declared.shown.Shown.{Shown}
-use Rattle.cal_format.specs.Reading.{index, item_component, any_shows, mark_of, ends_before}
+use Rattle.cal_format.specs.Reading.{index, item_component, any_shows, mark_of}
 
 -- The index of an item's component, or 27, and the index after it, or 0. No range has an
 -- abbreviation, whose index is past all others.
@@ -30,10 +31,18 @@ abbrev pub highest : List Item → ℕ
 highest [] = 0
 highest (i ∷ items) = max (end_of i) (highest items)
 
--- Each item ends before any item that follows it.
-abbrev pub AreFixed : List Item → Type 0
-AreFixed [] = Unit {0}
-AreFixed (i ∷ items) = ((others : List Item) → IsTrue (ends_before i others)) × AreFixed items
+-- An item ends before any item that follows it, and so does each item. The width of a number
+-- without padding varies, as do the widths of a fraction and of the sign of a Unix time.
+abbrev pub is_fixed : Item → Bool
+is_fixed (item.Number c padding.None) = false
+is_fixed item.Fraction = false
+is_fixed item.Decimals = false
+is_fixed item.TimestampSign = false
+is_fixed _ = true
+
+abbrev pub are_fixed : List Item → Bool
+are_fixed [] = true
+are_fixed (i ∷ items) = is_fixed i && are_fixed items
 
 -- The marks and the range of the components that the items show, and whether each item has a fixed
 -- end.
@@ -41,7 +50,7 @@ pub record AreShown (items : List Item) (s : Shown) : Type 0 where
   pub marks : (c : Component) → mark_of c s.marks ≡ any_shows c items
   pub low : s.low ≡ lowest items
   pub end : s.end ≡ highest items
-  pub fixed : IsTrue s.is_fixed → AreFixed items
+  pub fixed : s.is_fixed ≡ are_fixed items
 
 -- Only a year, a month and a day are shown.
 abbrev pub is_calendar : Shown → Bool

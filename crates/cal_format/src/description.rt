@@ -1,5 +1,6 @@
 //! The components of `time`'s format descriptions.
 ghost use Rattle.std.specs.Prelude.{◌≡◌, ◌+◌, ◌≤◌, List, length, map, get_or};
+ghost use Rattle.cal_format.specs.Components.{components};
 ghost use Rattle.cal_format.specs.Description.{is_space, spaces, word_length, any_length, modifiers_length, component_length, component_front, description_front};
 
 use crate::directive::{Directive, begins_with};
@@ -81,8 +82,17 @@ pub(crate) fn description_front(text: &[u8]) -> Directive
             items: &[Literal(b'[')],
             used: 2,
         },
-        _ => component_front(&COMPONENTS, text),
+        _ => listed_component(text),
     }
+}
+
+/// Returns the items of a component at the front of a text.
+fn listed_component(text: &[u8]) -> Directive
+    ensures items { result.items.now ≡ (component_front components text.now).items }
+    ensures used { result.used ≡ (component_front components text.now).used }
+    ensures min { 1 ≤ result.used }
+{
+    component_front(&COMPONENTS, text)
 }
 
 #[tactic(auto, unfolding(crate::specs::Description::component_front))]

@@ -1,6 +1,6 @@
 //! The values that a format determines.
 ghost use Rattle.std.specs.Prelude.{◌≡◌};
-ghost use Rattle.cal_format.specs.Reading.{any_shows, is_apart, ends_before, are_apart, shows_year, shows_calendar_date, shows_ordinal_date, shows_iso_week_date, shows_date, shows_time, shows_offset, shows_timestamp, shows_moment};
+ghost use Rattle.cal_format.specs.Reading.{any_shows, is_apart, begins_apart, begins_past_point, begins_with_decimal, ends_before, are_apart, shows_year, shows_calendar_date, shows_ordinal_date, shows_iso_week_date, shows_date, shows_time, shows_offset, shows_timestamp, shows_moment};
 
 use crate::format::Format;
 use crate::item::{Component, Item, Padding};
@@ -28,17 +28,11 @@ impl Item {
     fn ends_before(self, others: &[Item]) -> bool
         ensures { result ≡ ends_before self others.now }
     {
-        match others {
-            [] => match self {
-                Item::TimestampSign => false,
-                _ => true,
-            },
-            [next, ..] => match self {
-                Item::Number(_, Padding::None) | Item::Decimals => next.is_apart(),
-                Item::Fraction => next.is_apart() && !matches!(*next, Item::Literal(b'.')),
-                Item::TimestampSign => matches!(*next, Item::Number(_, Padding::None)),
-                _ => true,
-            },
+        match self {
+            Item::Number(_, Padding::None) | Item::Decimals => begins_apart(others),
+            Item::Fraction => begins_apart(others) && begins_past_point(others),
+            Item::TimestampSign => begins_with_decimal(others),
+            _ => true,
         }
     }
 
@@ -52,6 +46,31 @@ impl Item {
             _ => false,
         }
     }
+}
+
+/// Returns `true` if no text of these items begins with a digit.
+fn begins_apart(items: &[Item]) -> bool
+    ensures { result ≡ begins_apart items.now }
+{
+    match items {
+        [] => true,
+        [Item::Fraction, others @ ..] => begins_apart(others),
+        [item, ..] => item.is_apart(),
+    }
+}
+
+/// Returns `true` if these items begin with neither a point nor a fraction.
+fn begins_past_point(items: &[Item]) -> bool
+    ensures { result ≡ begins_past_point items.now }
+{
+    !matches!(items, [Item::Literal(b'.') | Item::Fraction, ..])
+}
+
+/// Returns `true` if these items begin with a number without padding.
+fn begins_with_decimal(items: &[Item]) -> bool
+    ensures { result ≡ begins_with_decimal items.now }
+{
+    matches!(items, [Item::Number(_, Padding::None), ..])
 }
 
 /// Returns `true` if the items determine a year.

@@ -1,9 +1,9 @@
 //! The numbers of components.
-ghost use Rattle.std.specs.Prelude.{◌≡◌, ◌==◌, [], false, IsTrue, IfSome, if◌then◌else◌};
+ghost use Rattle.std.specs.Prelude.{◌≡◌, ℕ, ◌==◌, [], false, IsTrue, IfSome, IfNone, if◌then◌else◌};
 ghost use Rattle.cal_format.specs.declared.item.Component.{Component};
 ghost use Rattle.cal_format.specs.Reading.{index, mark_of, is_component, item_component};
 ghost use Rattle.cal_format.specs.Values.{number_in};
-ghost use Rattle.cal_format.specs.Scanning.{number_at, field_of, HasField, IsDateOfFields};
+ghost use Rattle.cal_format.specs.Scanning.{number_at, field_of, HasField, IsNoField, IsDateOfFields};
 ghost use Rattle.cal_format.specs.Shown.{AreShown};
 
 use crate::date_parts::calendar_date;
@@ -34,11 +34,13 @@ impl Fields {
 
     /// Parses an item at the front of a text, and sets the number of its component. Returns `false`
     /// at a byte that doesn't fit, at a number out of range, or at a component that has a number
-    /// already. The month of `02-29` is 2, and leaves `-29`.
+    /// already. Then the numbers stay as they are. The month of `02-29` is 2, and leaves `-29`.
     #[inline(always)]
     pub fn scan(&mut self, item: Item, scanner: &mut Scanner) -> bool
-        ensures { IsTrue result
+        ensures value { IsTrue result
             → HasField item self.old self.new scanner.old.rest.now scanner.new.rest.now }
+        ensures other { result ≡ false → IsNoField item self.old scanner.old.rest.now }
+        ensures unchanged { result ≡ false → self.new ≡ self.old }
     {
         // A byte has no number, so it takes a shorter way.
         if let Item::Literal(byte) = item {
@@ -62,7 +64,9 @@ impl Fields {
     /// Returns `true` if the component has a number.
     #[inline(always)]
     fn has(&self, component: Option<Component>) -> bool
-        ensures { result ≡ false → (c : Component) → IsTrue (is_component c component)
+        ensures marked { IsTrue result → (c : Component) × IsTrue (is_component c component)
+            × IsTrue (mark_of c self.now.shown.marks) }
+        ensures fresh { result ≡ false → (c : Component) → IsTrue (is_component c component)
             → mark_of c self.now.shown.marks ≡ false }
     {
         match component {
@@ -75,7 +79,8 @@ impl Fields {
     /// them, if other components have numbers too, or if an item of a width that varies was parsed.
     /// The numbers 2024, 2 and 29 have the date 2024-02-29.
     pub fn calendar_date(&self) -> Option<Date>
-        ensures { IfSome result (IsDateOfFields self.now) }
+        ensures value { IfSome result (IsDateOfFields self.now) }
+        ensures none { IfNone result ((n : ℕ) → ¬ IsDateOfFields self.now n) }
     {
         if !self.shown.is_fixed() {
             return None;

@@ -41,7 +41,7 @@ pub enum Component {
     Minute,
     /// The second, from 0 to 59.
     Second,
-    /// The half of the day: 0 before noon, 1 from noon on.
+    /// The half of the day: 0 before noon, 1 from noon on. Errors name it as the hour.
     Period,
     /// The milliseconds of the second, from 0 to 999.
     Millisecond,
@@ -57,7 +57,8 @@ pub enum Component {
     OffsetSecond,
     /// The sign of the offset: 1 for minus, else 0.
     OffsetSign,
-    /// The whole seconds since 1970-01-01 0:00 UTC, rounded down, without their sign.
+    /// The whole seconds since 1970-01-01 0:00 UTC, rounded down, without their sign. They have at
+    /// most 14 digits.
     Timestamp,
     /// The sign of these seconds: 1 for minus, else 0.
     TimestampSign,

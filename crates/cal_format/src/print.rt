@@ -37,8 +37,9 @@ pub(crate) fn print_items(
 
 impl Item {
     /// Writes what the item prints of a value to the buffer, from this position on. Returns the
-    /// end, or `None` if the buffer is too short. An abbreviation prints nothing. The year `%Y`
-    /// writes `2024` at position 3 of a buffer, and returns 7.
+    /// end, and leaves all other bytes as they are. Returns `None` if the buffer is too short, and
+    /// then leaves only the bytes before the position as they are. An abbreviation prints nothing.
+    /// The year `%Y` writes `2024` at position 3 of a buffer, and returns 7.
     #[inline(always)]
     pub fn print(self, moment: &Moment, buffer: &mut [u8], at: usize) -> Option<usize>
         ensures { Writes (item_text [] moment.now self) at buffer.old buffer.new result }
@@ -292,7 +293,6 @@ fn four_digits(number: u16) -> [u8; 4]
 pub(crate) fn put(buffer: &mut [u8], at: usize, bytes: &[u8]) -> Option<usize>
     requires { at ≤ length buffer.old }
     ensures written { Writes bytes.now at buffer.old buffer.new result }
-    ensures after { IfSome result (λ end. drop end buffer.new ≡ drop end buffer.old) }
     ensures unchanged { IfNone result (buffer.new ≡ buffer.old) }
 {
     if bytes.len() > buffer.len() - at {

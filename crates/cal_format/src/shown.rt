@@ -1,9 +1,9 @@
 //! The components that items show.
-ghost use Rattle.std.specs.Prelude.{◌≡◌, ◌==◌, ◌≤◌, ◌++◌, ◌∷◌, [], ◌&&◌, ◌||◌, List, IsTrue, nat_le, true, if◌then◌else◌};
+ghost use Rattle.std.specs.Prelude.{◌≡◌, ◌==◌, ◌≤◌, ◌++◌, ◌∷◌, [], ◌&&◌, ◌||◌, List, nat_le, true, if◌then◌else◌};
 ghost use Rattle.cal_format.specs.declared.item.Component.{Component};
 ghost use Rattle.cal_format.specs.declared.item.Item.{Item};
-ghost use Rattle.cal_format.specs.Reading.{index, mark_of, item_component, shows, ends_before};
-ghost use Rattle.cal_format.specs.Shown.{AreShown, low_of, end_of, is_calendar};
+ghost use Rattle.cal_format.specs.Reading.{index, mark_of, item_component, shows};
+ghost use Rattle.cal_format.specs.Shown.{AreShown, low_of, end_of, is_fixed, is_calendar};
 
 use crate::item::{Component, Item, Padding};
 
@@ -115,7 +115,7 @@ fn end_of(item: Item, component: Option<Component>) -> usize
 /// Returns `true` if the item ends before any item that follows it.
 #[inline(always)]
 fn is_fixed(item: Item) -> bool
-    ensures { IsTrue result → (others : List Item) → IsTrue (ends_before item others) }
+    ensures { result ≡ is_fixed item }
 {
     match item {
         Item::Number(_, Padding::None) => false,

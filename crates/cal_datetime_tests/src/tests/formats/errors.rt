@@ -119,12 +119,14 @@ fn contradictions(rt: HostRuntime) {
     ] {
         date_error(spelling, text, ParseError::Contradiction(component), rt);
     }
-    time_error(
-        "%H %p",
-        "13 AM",
-        ParseError::Contradiction(Component::Hour),
-        rt,
-    );
+    for &(spelling, text) in &[
+        ("%H %p", "13 AM"),
+        ("%H:%M %p", "13:00 AM"),
+        ("%p %R", "PM 11:59"),
+    ] {
+        let hour = ParseError::Contradiction(Component::Hour);
+        time_error(spelling, text, hour, rt);
+    }
     let hour = ParseError::OutOfRange(ComponentRange::unconditional(Component::Hour));
     let found = date_time_format("%F %T", rt).parse(b"2024-02-30 24:00:00");
     holds(rt, "contradictions", found == Err(hour));

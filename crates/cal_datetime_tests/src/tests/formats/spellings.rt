@@ -130,6 +130,29 @@ fn too_many_items(rt: HostRuntime) {
     holds(rt, "65 items", error == Some(FormatError::TooLong));
 }
 
+/// Literal bytes, names, numbers and signs are counted by hand.
+#[test]
+fn numbers_of_items(rt: HostRuntime) {
+    let rt = &rt;
+    for &(spelling, count) in &[
+        ("", 0),
+        ("at ", 3),
+        ("年", 3),
+        ("%B", 1),
+        ("%.f", 1),
+        ("%R", 3),
+        ("%F", 5),
+        ("%T", 5),
+        ("%D", 5),
+        ("%s", 2),
+        ("%z", 3),
+        ("%:z", 4),
+        ("%::z", 6),
+    ] {
+        holds(rt, spelling, format(spelling, rt).items().len() == count);
+    }
+}
+
 /// Checks that each format determines no date.
 fn no_dates(spellings: &[&str], rt: &impl Abort) {
     for &spelling in spellings {
@@ -152,7 +175,7 @@ fn undetermined(rt: HostRuntime) {
         &["%Y-%m", "%m-%d", "%y-%m-%d", "%G-W%V", "%-d%m%Y", "%F %H"],
         rt,
     );
-    no_times(&["%I:%M", "%H:%S", "%R.%f", "%T%.f."], rt);
+    no_times(&["%I:%M", "%H:%S", "%R.%f", "%T%.f.", "%T%.f%.f"], rt);
     holds(rt, "%T", has_no_date_time("%T", rt));
     let spelling = "%m%d%Y%-d";
     holds(rt, spelling, format(spelling, rt).for_dates().is_some());

@@ -63,6 +63,8 @@ fn timestamps(rt: HostRuntime) {
     let time = time_of(rt, 9, 5, 7, 250_000_000);
     let moment = OffsetDateTime::new_in_offset(day, time, india);
     timestamp_row("%s.%3N%z", moment, "1709177707.250+0530", rt);
+    timestamp_row("%s%.f%z", moment, "1709177707.25+0530", rt);
+    timestamp_row("%s%.f", date_time(rt, 1969, last, utc), "-1", rt);
     timestamp_row(
         "[%FT%T%.f%:z %s]",
         moment,
@@ -80,8 +82,12 @@ fn other_texts(rt: HostRuntime) {
     rejected("%s", "+1", ParseError::UnexpectedByte(0), rt);
     rejected("%s", "01", ParseError::UnexpectedByte(1), rt);
     rejected("%s", "1.5", ParseError::UnexpectedByte(1), rt);
+    rejected("%s%.f", "1.", ParseError::UnexpectedEnd(2), rt);
+    rejected("%s%.f", "1.50", ParseError::UnexpectedEnd(4), rt);
     let range = ComponentRange::unconditional(Component::Timestamp);
     rejected("%s", "31494784780800", ParseError::OutOfRange(range), rt);
+    let digits = "100000000000000";
+    rejected("%s", digits, ParseError::UnexpectedByte(14), rt);
     rejected(
         "%s %Y",
         "0 1971",
@@ -91,6 +97,8 @@ fn other_texts(rt: HostRuntime) {
     holds(rt, "%s", has_no_date("%s", rt));
     holds(rt, "%s", has_no_date_time("%s", rt));
     holds(rt, "%s%H", has_no_moment("%s%H", rt));
+    holds(rt, "%s%.f.", has_no_moment("%s%.f.", rt));
+    holds(rt, "%s%.f%H", has_no_moment("%s%.f%H", rt));
 }
 
 #[test]

@@ -1,8 +1,14 @@
-use Rattle.std.proofs.Common.{rules, length, ◌+◌, ◌-◌, arith}
-use Rattle.std.proofs.lemmas.Slice.{drop-put_mid}
+use Rattle.std.proofs.Common.{rules, refl, length, ◌+◌, ◌-◌, arith}
+use Rattle.std.proofs.lemmas.Slice.{overwrites, drop-put_mid}
 use Rattle.cal_format.proofs.print.put.Goals as goal
 
-pub returns-clause-after : goal.returns-clause-after
-returns-clause-after c =
-    drop-put_mid c.args.at (c.args.at + length c.args.bytes.now - c.args.at) c.args.buffer.now c.copy_from_slice.new.self (c.args.at + length c.args.bytes.now)
-    (omega arith) (omega (arith, c.requires)) (search rules)
+pub returns-clause-written : goal.returns-clause-written
+returns-clause-written c =
+    let end = c.args.at + length c.args.bytes.now in
+    record {
+      room = search rules;
+      text = search (rules, overwrites);
+      end = refl;
+      after = drop-put_mid c.args.at (end - c.args.at) c.args.buffer.now c.copy_from_slice.new.self end (omega arith) (omega (arith, c.requires)) (search rules);
+      before = tt;
+    }

@@ -1,6 +1,5 @@
 use Rattle.std.proofs.Common.{max, min, sym, ap, ◌∙◌}
 use Rattle.std.specs.Prelude.{◌&&◌}
-use Rattle.std.proofs.lemmas.Bool.{and_parts}
 use Rattle.cal_format.specs.declared.item.Component.{Component}
 use Rattle.cal_format.specs.declared.shown.Shown.{Shown}
 use Rattle.cal_format.specs.Shown.{low_of}
@@ -14,7 +13,7 @@ returns-in-Some c =
     let new : Shown = record { marks = c.set.new.marks; low = c.min-self.result; end = c.max-self.result; is_fixed = old.is_fixed && c.is_fixed.result } in
     let marks = λ (k : Component). c.set.ensures k ∙ marked-some k c.in-Some.component c.args.item (mark_of k old.marks) (sym c.requires ∙ c.in-Some.is) in
     record {
-      shown = λ items are. added items c.args.item old new are marks (λ h. ((and_parts old.is_fixed c.is_fixed.result h).0, c.is_fixed.ensures (and_parts old.is_fixed c.is_fixed.result h).1))
+      shown = λ items are. added items c.args.item old new are marks (ap (λ b. old.is_fixed && b) c.is_fixed.ensures)
           (c.min-self.ensures ∙ ap (min old.low) (c.low_of.ensures ∙ ap low_of c.requires)) (c.max-self.ensures ∙ ap (max old.end) c.end_of.ensures);
       marks = marks;
     }
@@ -25,7 +24,7 @@ returns-in_default c =
     let new : Shown = record { marks = old.marks; low = c.min-self.result; end = c.max-self.result; is_fixed = old.is_fixed && c.is_fixed.result } in
     let marks = λ (k : Component). marked-none k c.args.item (mark_of k old.marks) (sym c.requires ∙ c.in_default.is) in
     record {
-      shown = λ items are. added items c.args.item old new are marks (λ h. ((and_parts old.is_fixed c.is_fixed.result h).0, c.is_fixed.ensures (and_parts old.is_fixed c.is_fixed.result h).1))
+      shown = λ items are. added items c.args.item old new are marks (ap (λ b. old.is_fixed && b) c.is_fixed.ensures)
           (c.min-self.ensures ∙ ap (min old.low) (c.low_of.ensures ∙ ap low_of c.requires)) (c.max-self.ensures ∙ ap (max old.end) c.end_of.ensures);
       marks = marks;
     }
