@@ -1191,8 +1191,8 @@ fots_parse_moment_result fots_moment_parse_format(const char *text, size_t text_
  * Unix time is INT64_MIN then, which fots_zone_offsets accepts, so check the status.
  *
  * A call returns the number of rows without a result. Each array is followed by its length. If the
- * lengths differ, it writes nothing and returns FOTS_LENGTH_MISMATCH. Written arrays overlap no
- * others. */
+ * lengths differ, it writes nothing and returns FOTS_LENGTH_MISMATCH. A written array overlaps no
+ * other, except that it may be an array of the same type that the call reads. */
 #define FOTS_LENGTH_MISMATCH SIZE_MAX
 
 size_t fots_dates_from_julian_days(const int64_t *julian_days, size_t julian_days_length, int32_t *dates, size_t dates_length,
@@ -1378,7 +1378,12 @@ static inline fots_zone_result fots_zone_from_file(const uint8_t *bytes, size_t 
 static inline fots_zone_result fots_zone_from_posix(const char *text, size_t length)
 {
     const fots_zone_parts_result found = fots_zone_posix_parts(text, length);
-    const fots_zone_result made = {found.status, found.position, {(const uint8_t *)text, length, found.parts}};
+#ifdef __cplusplus
+    const uint8_t *bytes = reinterpret_cast<const uint8_t *>(text);
+#else
+    const uint8_t *bytes = (const uint8_t *)text;
+#endif
+    const fots_zone_result made = {found.status, found.position, {bytes, length, found.parts}};
     return made;
 }
 

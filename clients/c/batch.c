@@ -131,6 +131,36 @@ static void columns(size_t n)
         fots_date_result single = fots_date_add_months(date_at(dates[k]), numbers[k]), DATES_FOUND);
 }
 
+/* Checks that a function can write its numbers onto the column that it reads, `column`. */
+#define IN_PLACE(input, call) \
+    do { \
+        static int32_t wanted[ROWS]; \
+        const int32_t *column = input; \
+        (void)call; \
+        memcpy(wanted, found, sizeof wanted); \
+        memcpy(found, input, sizeof found); \
+        column = found; \
+        (void)call; \
+        check(memcmp(wanted, found, sizeof wanted) == 0, "in place: " #call, 0, 0); \
+    } while (0)
+
+static void columns_in_place(void)
+{
+    const size_t n = ROWS;
+    const fots_date holiday = date_at(2460370);
+    IN_PLACE(years, fots_dates_from_calendar_dates(column, n, months, n, month_days, n, found, n, statuses, n));
+    IN_PLACE(years, fots_dates_from_ordinal_dates(column, n, ordinals, n, found, n, statuses, n));
+    IN_PLACE(years, fots_dates_from_iso_week_dates(column, n, weeks, n, weekdays, n, found, n, statuses, n));
+    IN_PLACE(years, fots_calendar_dates_to_iso_week_dates(column, n, months, n, month_days, n, found, n, firsts, n, seconds, n, statuses, n));
+    IN_PLACE(dates, fots_dates_to_calendar_dates(column, n, found, n, firsts, n, seconds, n, statuses, n));
+    IN_PLACE(dates, fots_dates_to_ordinal_dates(column, n, found, n, found_ordinals, n, statuses, n));
+    IN_PLACE(dates, fots_dates_to_iso_week_dates(column, n, found, n, firsts, n, seconds, n, statuses, n));
+    IN_PLACE(dates, fots_dates_add_days(column, n, days, n, found, n, statuses, n));
+    IN_PLACE(dates, fots_dates_add_months(column, n, numbers, n, found, n, statuses, n));
+    IN_PLACE(dates, fots_dates_add_workdays(column, n, numbers, n, FOTS_MONDAY_TO_FRIDAY, &holiday, 1, found, n, statuses, n));
+    IN_PLACE(dates, fots_dates_workdays_between(column, n, others, n, FOTS_MONDAY_TO_FRIDAY, &holiday, 1, found, n, statuses, n));
+}
+
 /* Checks the working days of a week and holidays. */
 static void of_workdays(size_t n, uint32_t week, const fots_date *holidays, size_t length)
 {
@@ -301,6 +331,7 @@ int main(void)
 {
     draw();
     columns(ROWS);
+    columns_in_place();
     columns(1);
     workdays();
     chained(ROWS);

@@ -1,7 +1,8 @@
-/* Times the cheapest calls, their inline functions and the rows of columns beside a loop without a
- * call. Prints the median in nanoseconds of processor time for each value. Nothing tests it. */
+/* Times the cheapest functions, their inline forms, rows of columns, strings and zones beside an
+ * empty loop. Prints the median in nanoseconds of processor time for each value. Nothing tests it. */
 #include <stdio.h>
 #include <stdlib.h>
+#include <string.h>
 #include <time.h>
 
 #include "fotsevindre_inline.h"
@@ -21,6 +22,13 @@ static fots_iso_week_date_result week_dates[VALUES];
 /* Columns. */
 static int32_t julian_days[VALUES], years[VALUES], found[VALUES];
 static uint8_t months[VALUES], month_days[VALUES], weeks[VALUES], weekdays[VALUES], statuses[VALUES];
+
+/* Instants of 2040 to 2400 in a zone, and their readings. */
+static fots_zone zone;
+static fots_moment moments[VALUES];
+static fots_text_result texts[VALUES];
+static int64_t instants[VALUES], readings[VALUES], resolved[VALUES];
+static int32_t zone_offsets[VALUES];
 
 /* Hides the number and the memory from the optimizer. */
 static void keep(int32_t number)
@@ -50,6 +58,57 @@ static void draw(void)
         calendars[k] = fots_date_to_calendar_date(dates[k]);
     }
     fots_dates_to_calendar_dates(julian_days, VALUES, years, VALUES, months, VALUES, month_days, VALUES, statuses, VALUES);
+}
+
+/* Fills in the zone, its instants, their readings and the strings of their moments. */
+static void draw_in_zone(void)
+{
+    const char *text = "CET-1CEST,M3.5.0,M10.5.0/3";
+    zone = fots_zone_from_posix(text, strlen(text)).zone;
+    for (int k = 0; k < VALUES; k++) {
+        instants[k] = 2208988800 + (int64_t)drawn() % 4294967296 * 2;
+        readings[k] = instants[k] + 3600;
+        moments[k] = fots_moment_in_zone(fots_moment_from_unix_timestamp(instants[k]).moment, &zone).moment;
+        texts[k] = fots_moment_text(moments[k].date, moments[k].time, moments[k].offset);
+    }
+}
+
+static void one_zone_offset(void)
+{
+    for (int k = 0; k < VALUES; k++) {
+        keep(fots_zone_offset(&zone, instants[k]).offset.seconds);
+    }
+}
+
+static void one_resolved(void)
+{
+    for (int k = 0; k < VALUES; k++) {
+        keep((int32_t)fots_zone_resolve(&zone, moments[k].date, moments[k].time).kind);
+    }
+}
+
+static void column_of_offsets(void)
+{
+    keep((int32_t)fots_zone_offsets(&zone, instants, VALUES, zone_offsets, VALUES, statuses, VALUES));
+}
+
+static void column_of_instants(void)
+{
+    keep((int32_t)fots_zone_instants(&zone, readings, VALUES, FOTS_COMPATIBLE, resolved, VALUES, statuses, VALUES));
+}
+
+static void one_moment_parsed(void)
+{
+    for (int k = 0; k < VALUES; k++) {
+        keep(fots_moment_parse(texts[k].bytes, texts[k].length).date.julian_day);
+    }
+}
+
+static void one_moment_text(void)
+{
+    for (int k = 0; k < VALUES; k++) {
+        keep((int32_t)fots_moment_text(moments[k].date, moments[k].time, moments[k].offset).length);
+    }
 }
 
 static void no_call(void)
@@ -170,6 +229,12 @@ static const struct {
     {"fots_dates_from_calendar_dates, a row", column_from_calendar_dates},
     {"fots_dates_to_iso_week_dates, a row", column_of_week_dates},
     {"fots_calendar_dates_to_iso_week_dates, a row", column_of_calendar_to_week_dates},
+    {"fots_zone_offset", one_zone_offset},
+    {"fots_zone_offsets, a row", column_of_offsets},
+    {"fots_zone_resolve", one_resolved},
+    {"fots_zone_instants, a row", column_of_instants},
+    {"fots_moment_parse", one_moment_parsed},
+    {"fots_moment_text", one_moment_text},
     {"fots_date_next_day, stored", next_day_called},
     {"the same inlined", next_day_inlined},
     {"fots_date_add_days, stored", add_days_called},
@@ -198,6 +263,7 @@ int main(void)
 {
     static double times[LOOPS][ROUNDS];
     draw();
+    draw_in_zone();
     for (int round = 0; round < ROUNDS; round++) {
         for (int loop = 0; loop < LOOPS; loop++) {
             clock_t start = clock();

@@ -30,7 +30,9 @@ static int parse_format(const State *state, PyObject *object, int is_description
         fots_format_from_description(text.start, text.length) :
         fots_format_new(text.start, text.length);
     *format = result.format;
-    return is_parsed(state, result.status, result.position, &text);
+    /* A lone surrogate isn't UTF-8, and no item begins with one. */
+    int32_t status = result.status == FOTS_UNEXPECTED_BYTE ? FOTS_UNKNOWN_ITEM : result.status;
+    return is_parsed(state, status, result.position, &text);
 }
 
 /* Converts a Format, the bytes of one, or a text in the syntax of strftime. */

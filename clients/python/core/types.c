@@ -80,7 +80,16 @@ static fots_moment moment_replace_time(fots_moment m, fots_time time) { m.time =
 
 /* ---- texts of ISO 8601 */
 
-/* Parses a text between two others by RFC 3339. It raises an error for another object. */
+/* Returns whether a point has more than nine digits after it, of which RFC 3339 keeps nine. */
+static int has_long_fraction(const Text *text)
+{
+    const char *point = memchr(text->start, '.', text->length);
+    size_t rest = point ? text->length - (size_t)(point + 1 - text->start) : 0;
+    return rest > 9 && point[10] >= '0' && point[10] <= '9';
+}
+
+/* Parses a text between two others by RFC 3339, with at most nine decimals. It raises an error for
+ * another object. */
 static fots_parse_moment_result parse_between(const State *state, const char *before,
     PyObject *object, const char *after)
 {
@@ -88,7 +97,8 @@ static fots_parse_moment_result parse_between(const State *state, const char *be
     char bytes[64];
     size_t start = strlen(before), added = strlen(after);
     Text text = {NULL, NULL, 0};
-    if (to_text(state, object, &text) && start + text.length + added <= sizeof bytes) {
+    if (to_text(state, object, &text) && start + text.length + added <= sizeof bytes &&
+        !has_long_fraction(&text)) {
         memcpy(bytes, before, start);
         memcpy(bytes + start, text.start, text.length);
         memcpy(bytes + start + text.length, after, added);

@@ -216,11 +216,10 @@ class Time(_Value, _TimeParts, _Formatted):
 
     def _parse(text) -> Time:
         hours = 1 if text[1:2] == ":" else 2
-        lengths = [hours + 3, hours + 6, *range(hours + 8, len(text) + 1)]
-        numbers = numbers_of(text, "0" * hours + ":00:00." + "0" * len(text), lengths)
-        # Digits after the ninth are ignored.
+        lengths = [hours + 3, hours + 6, *range(hours + 8, hours + 17)]
+        numbers = numbers_of(text, "0" * hours + ":00:00.000000000", lengths)
         hour, minute, second, fraction, *_ = *numbers, "0", "0"
-        return Time(int(hour), int(minute), int(second), int(fraction[:9].ljust(9, "0")))
+        return Time(int(hour), int(minute), int(second), int(fraction.ljust(9, "0")))
 
 class UtcOffset(_Value, _Formatted):
     """UtcOffset(hours=0, minutes=0, seconds=0): an offset from UTC, from -25:59:59 to +25:59:59,
@@ -255,7 +254,9 @@ class UtcOffset(_Value, _Formatted):
 
     def {parse,fromisoformat}(text) -> UtcOffset:
         "Parses an offset, such as Z, +01:00 or -05:30:00, or raises ParseError or ComponentRange."
-        if check(text, str) in ("Z", "z"):
+        if check(text, str)[:1] in ("Z", "z"):
+            if len(text) > 1:
+                raise ParseError(1, False)
             return UtcOffset.UTC
         sign = "-" if text[:1] == "-" else "+"
         numbers = numbers_of(text, sign + "00:00:00", (6, 9))

@@ -103,13 +103,21 @@ class _Like:
             found = found.view(f"datetime64[{self.times[name]}]")
         if self.masks:
             found = self.numpy.ma.MaskedArray(found, self.numpy.logical_or.reduce(self.masks))
-        return found if self.series is None else type(self.series)(found, index=self.series.index)
+        if self.series is None:
+            return found
+        if hasattr(self.series, "index"):
+            return type(self.series)(found, index=self.series.index)
+        # An Index of pandas has none, and a DatetimeIndex takes any numbers for times.
+        return sys.modules["pandas"].Index(found)
 
 
 def call(kind: Callable[..., _R], name: str, reads: str, writes: str,
          extra: Workdays | bytes | tuple[Any, ...] | None, **columns: Any) -> _R:
     """Calls C for columns by their names, with numbers in these letters and working days, a format
     or a zone, and makes the result."""
+    for one, given in columns.items():
+        if one != "texts" and isinstance(given, (bytes, bytearray)):
+            raise TypeError(f"expected numbers in {one}, not {type(given).__name__}")
     single = [one for one, given in columns.items() if _is_scalar(given)]
     if len(single) == len(columns):
         raise TypeError("expected a column; call a method of Date or Zone for one value")

@@ -1,7 +1,9 @@
 """Texts of ISO 8601 and units of durations, for the members in Python that types.pyi declares."""
 
+import functools
 import itertools
 import re
+import types
 from typing import Any, Callable, Container, SupportsIndex
 
 from . import _core
@@ -10,18 +12,29 @@ from .errors import ParseError
 from .formats import Format
 
 
+def _member_of(kind: type, function: types.FunctionType) -> types.FunctionType:
+    """Returns a copy of a function that errors and pickles name as a member of a type of the
+    package."""
+    copy = types.FunctionType(function.__code__, function.__globals__, function.__name__,
+        function.__defaults__, function.__closure__)
+    functools.update_wrapper(copy, function)
+    del copy.__wrapped__  # type: ignore[attr-defined]
+    copy.__kwdefaults__ = function.__kwdefaults__
+    copy.__module__ = "fotsevindre"
+    copy.__qualname__ = f"{kind.__name__}.{function.__name__}"
+    return copy
+
+
 class Members:
     """A base class: the functions of a class that extends it become members of types of C."""
 
     def __init_subclass__(cls, of: tuple[type, ...]) -> None:
         for name, member in vars(cls).items():
             function = getattr(member, "__func__", member)
-            if callable(function):
-                # Errors and pickles name it as a member of a type of the package.
-                function.__module__ = "fotsevindre"
-                function.__qualname__ = f"{of[0].__name__}.{name}"
+            if isinstance(function, types.FunctionType):
                 for kind in of:
-                    setattr(kind, name, member)
+                    copy = _member_of(kind, function)
+                    setattr(kind, name, copy if function is member else type(member)(copy))
 
 
 def whole_microseconds(nanoseconds: int, name: str) -> int:

@@ -67,11 +67,12 @@ def _file_of(key: str) -> bytes:
     parts = pathlib.PurePosixPath(key).parts
     if not key or any(part in ("..", "/") for part in parts):
         raise LookupError(f"invalid name of a time zone: {key!r}")
-    with contextlib.suppress(ImportError, OSError):
+    # A name with a zero byte or a lone surrogate is a ValueError.
+    with contextlib.suppress(ImportError, OSError, ValueError):
         return importlib.resources.files("tzdata.zoneinfo").joinpath(*parts).read_bytes()
     try:
         return pathlib.Path(os.environ.get("TZDIR", "/usr/share/zoneinfo"), *parts).read_bytes()
-    except OSError:
+    except (OSError, ValueError):
         raise LookupError(f"no time zone {key!r}") from None
 
 
@@ -110,7 +111,7 @@ class Zone:
     @classmethod
     def from_file(cls, data: bytes, key: str = "") -> Zone:
         """Creates the zone of the bytes of a TZif file, or raises `ZoneError`."""
-        return cls.__new__(cls)._set(key, bytes(data), False)
+        return cls.__new__(cls)._set(key, bytes(memoryview(data)), False)
 
     @classmethod
     def from_posix(cls, text: str) -> Zone:

@@ -134,8 +134,10 @@ class Faults(unittest.TestCase):
             with self.assertRaises(FormatError) as caught:
                 Format(text)
             self.assertEqual((caught.exception.position, str(caught.exception)), (None, "too many items in a format; expected at most 64"))
-        with self.assertRaises(ValueError):
-            Format("%Y\ud800")
+        for text, position in (("\ud800", 0), ("%Y\ud800", 2)):
+            with self.assertRaises(FormatError) as caught:
+                Format(text)
+            self.assertEqual(caught.exception.position, position)
         for wrong in (None, 1, b"", b"%Y", b"a" * 132, b"\xff" * 132):
             with self.assertRaises((TypeError, ValueError)):
                 LEAP_DAY.strftime(wrong)

@@ -260,7 +260,8 @@ class Texts(unittest.TestCase):
         for text, time in rows:
             self.assertEqual((Time.parse(text), Time.fromisoformat(text), Time.parse(str(time)), Time.parse(time.isoformat())), (time,) * 4)
         rows = [("", 0, True), ("9", 1, True), ("9:0", 3, True), ("9:05:", 5, True), ("x", 0, False), ("9:05:00Z", 7, False), ("9:05x", 4, False),
-            ("09:5", 4, True), ("9:5:00", 3, False), ("9:05:00.", 8, True), ("9:05:00.1 ", 9, False), ("10:30+01:00", 5, False)]
+            ("09:5", 4, True), ("9:5:00", 3, False), ("9:05:00.", 8, True), ("9:05:00.1 ", 9, False), ("10:30+01:00", 5, False),
+            ("9:05:00.1234567891", 17, False)]
         self.errors(Time.parse, rows)
         for text, name in (("24:00", "hour"), ("23:60", "minute"), ("23:59:60", "second")):
             with self.assertRaisesRegex(ComponentRange, name):
@@ -281,7 +282,7 @@ class Texts(unittest.TestCase):
         for seconds in range(-93599, 93600, 977):
             self.assertEqual(UtcOffset.parse(str(UtcOffset.from_whole_seconds(seconds))).whole_seconds(), seconds)
         self.errors(UtcOffset.parse, [("", 0, True), ("1", 0, False), ("+1:00", 2, False), ("+01", 3, True), ("+01:0", 5, True), ("+01:00:", 7, True),
-            ("+01:00:00x", 9, False), ("z ", 0, False), ("+0100", 3, False)])
+            ("+01:00:00x", 9, False), ("z ", 1, False), ("Zx", 1, False), ("+0100", 3, False)])
         for text, name in (("+26:00", "offset hour"), ("+00:60", "offset minute"), ("+00:00:60", "offset second")):
             with self.assertRaisesRegex(ComponentRange, name):
                 UtcOffset.parse(text)
@@ -304,7 +305,11 @@ class Texts(unittest.TestCase):
         self.errors(PlainDateTime.parse, [("", 0, True), ("2024-02-29", 10, True), ("2024-02-29T", 11, True), ("2024-02-2T9:05", 9, False),
             ("2024-02-29T9:05Z", 15, False), ("2024-02-29T9:0", 14, True), ("2024x02-29T9:05", 4, False)])
         self.errors(OffsetDateTime.parse, [("", 0, True), ("2024-02-29", 10, True), ("2024-02-29T9:05", 15, True), ("2024-02-29T9:05+1", 17, True),
-            ("2024-02-29T9:05 ", 16, True), ("2024-02-29T9:05:00Zx", 18, False), ("2024-02-29T9:05x+01:00", 15, False)])
+            ("2024-02-29T9:05 ", 16, True), ("2024-02-29T9:05:00Zx", 19, False), ("2024-02-29T00:00:00Zx", 20, False), ("2024-02-29T9:05x+01:00", 15, False),
+            ("2024-02-29T00:00:00.1234567891Z", 29, False)])
+        self.assertEqual(OffsetDateTime.parse("2024-02-29T00:00:00.123456789Z").nanosecond, 123456789)
+        with self.assertRaisesRegex(TypeError, r"^PlainDateTime\.isoformat\(\)"):
+            PlainDateTime(LEAP_DAY, Time()).isoformat(" ")
 
 
 class WorkingDays(unittest.TestCase):

@@ -36,6 +36,14 @@ class Pandas(unittest.TestCase):
         times = Zone.from_posix("CET-1CEST,M3.5.0,M10.5.0/3").instants(self.DAYS).seconds
         self.assertEqual(([str(time) for time in times], list(times.index)), (["2024-02-28 23:00:00", "NaT", "2024-12-30 23:00:00"], ["a", "b", "c"]))
 
+    def test_indexes(self):
+        days = pandas.DatetimeIndex(self.DAYS)
+        weekdays, moved = fotsevindre.dates_weekdays(days), fotsevindre.dates_add_months(days, 1)
+        self.assertIsInstance(weekdays.weekdays, pandas.Index)
+        self.assertEqual(list(weekdays.weekdays), [3, 255, 1])
+        self.assertTrue(moved.dates.equals(pandas.DatetimeIndex(["2024-03-29", None, "2025-01-31"])))
+        self.assertEqual(list(fotsevindre.dates_weekdays(pandas.Index([2460370])).weekdays), [3])
+
     def test_timedeltas(self):
         self.assertEqual(Date(2024, 2, 29) + pandas.Timedelta(days=1), Date(2024, 3, 1))
         self.assertEqual(SignedDuration.from_timedelta(pandas.Timedelta(nanoseconds=-1)), -SignedDuration.NANOSECOND)

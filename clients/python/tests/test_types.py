@@ -3,8 +3,7 @@
 import datetime
 from typing import List, Optional, Tuple
 
-from fotsevindre import Frequency, OffsetDateTime, ParseRuleError, ParseRuleErrorKind, PlainDateTime, Recurrence, Rule, Workdays
-from fotsevindre import Date, Days, Format, Local, Month, Policy, SignedDuration, Time, UtcOffset, Weekday, Zone, add_to_pair, rfc3339_text
+from fotsevindre import *
 
 day: Date = Date.from_calendar_date(2024, Month.February, 29)
 same: Date = Date.from_calendar_date(2024, 2, 29)

@@ -879,6 +879,9 @@ class Columns(Cases):
             fotsevindre.dates_parse(b"", array.array("i"))
         with self.assertRaises(TypeError):
             fotsevindre.dates_parse("2024-02-29", array.array("i", [0, 10]))
+        for wrong in (b"2024-02-29", bytearray(b"2024-02-29")):
+            with self.assertRaisesRegex(TypeError, "expected numbers in dates, not byte"):
+                fotsevindre.dates_weekdays(wrong)
 
     def test_texts_printed(self):
         printed = fotsevindre.dates_calendar_texts(self.DATES)
@@ -1011,6 +1014,9 @@ class Statuses(Cases):
 
 
 class Documentation(Cases):
+    def test_the_names_for_checkers_of_types_are_all(self):
+        self.assertLessEqual({*fotsevindre.calls.__all__}, {*fotsevindre.__all__})
+
     def test_all_that_is_public_is_documented(self):
         for name in fotsevindre.__all__:
             item = getattr(fotsevindre, name)

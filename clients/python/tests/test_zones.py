@@ -100,11 +100,11 @@ class WorkedRows(unittest.TestCase):
         for same in (Zone("Europe/Berlin"), copy.copy(berlin), pickle.loads(pickle.dumps(berlin))):
             self.assertEqual((same, hash(same), str(same), repr(same)), (berlin, hash(berlin), "Europe/Berlin", "Zone('Europe/Berlin')"))
         self.assertNotEqual(berlin, Zone("Europe/Vienna"))
-        for key in ("", "No/Where", "../zoneinfo/Europe/Berlin", "/usr/share/zoneinfo/Europe/Berlin", "Europe"):
+        for key in ("", "No/Where", "../zoneinfo/Europe/Berlin", "/usr/share/zoneinfo/Europe/Berlin", "Europe", "a\0b", "\ud800"):
             self.assertRaises(LookupError, Zone, key)
         for call in (
             lambda: Zone(1), lambda: berlin.offset_at(1.0), lambda: berlin.resolve(0), lambda: OffsetDateTime.UNIX_EPOCH.in_zone("Europe/Berlin"),
-            lambda: Zone.from_posix(b"CET-1"), lambda: berlin.strftime(0, "%Z"),
+            lambda: Zone.from_posix(b"CET-1"), lambda: berlin.strftime(0, "%Z"), lambda: Zone.from_file(5),
         ):
             self.assertRaises((TypeError, AttributeError), call)
         self.assertRaises(ValueError, lambda: OffsetDateTime.UNIX_EPOCH.strftime("%Z"))

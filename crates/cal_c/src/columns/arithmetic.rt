@@ -10,6 +10,9 @@ use super::statuses::{INVALID_DATE, OK, RESULT_OUT_OF_RANGE};
 use super::{LENGTH_MISMATCH, NO_VALUE, count_errors};
 use crate::day_number::{LAST_DAY_NUMBER, clamped_number, is_julian_day, julian_day};
 
+/// The number of rows whose days are clamped at once.
+const CLAMPED: usize = 256;
+
 /// Adds days to dates, like `fots_date_add_days`.
 #[unsafe(no_mangle)]
 pub extern "C" fn fots_dates_add_days(
@@ -27,9 +30,16 @@ pub extern "C" fn fots_dates_add_days(
     if days.len() != rows || moved.len() != rows || statuses.len() != rows {
         return LENGTH_MISMATCH;
     }
-    clamp_days(days, moved);
-    for row in 0..rows {
-        (moved[row], statuses[row]) = date_days_later(dates[row], moved[row]);
+    // Not in `moved`, which may be the array of the dates.
+    let mut clamped = [0; CLAMPED];
+    let mut start = 0;
+    while start < rows {
+        let end = rows.min(start + CLAMPED);
+        clamp_days(&days[start..end], &mut clamped);
+        for row in start..end {
+            (moved[row], statuses[row]) = date_days_later(dates[row], clamped[row - start]);
+        }
+        start = end;
     }
     count_errors(statuses)
 }
@@ -37,7 +47,7 @@ pub extern "C" fn fots_dates_add_days(
 /// Clamps the days of each row to 32 bits. Days that don't fit go past the range either way. Only
 /// this loop has rows of 64 bits, so the next one takes twice as many rows at a time.
 fn clamp_days(days: &[i64], held: &mut [i32])
-    requires { length held.old ≡ length days.now }
+    requires { length days.now ≤ length held.old }
     ensures length { length held.new ≡ length held.old }
     ensures rows { (k : ℕ) → k < length days.now
         → get_or held.new k (pos 0)
