@@ -1293,6 +1293,7 @@ typedef struct fots_zone_yearly {
     uint8_t month; /* from 0 */
     uint8_t week; /* 5 for the last one */
     uint8_t weekday; /* from 0 for Monday */
+    uint8_t unused; /* 0, so that equal zones have equal bytes */
     int32_t time; /* in seconds after midnight by the clocks before, from -604800 to 604800 */
     fots_zone_clock clock;
 } fots_zone_yearly;

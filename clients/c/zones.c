@@ -107,6 +107,26 @@ static void texts(void)
     check(fots_moment_format_in_zone(no_moment, &east, &hour, text, 16).status == FOTS_INVALID_MOMENT, "no moment", 0, 0);
 }
 
+/* Strings that POSIX does not allow, with the values of GNU date. */
+static void lenient(void)
+{
+    const fots_zone hours = posix("CET-001"), minute = posix("CET-1:5");
+    const fots_zone month = posix("CET-1CEST,M03.5.0,M10.5.0/3"), late = posix("EET-2EEST,M3.4.4/50,M10.4.4/50");
+    check(fots_zone_offset(&hours, 0).offset.seconds == 3600, "three digits of hours", 0, 0);
+    check(fots_zone_offset(&minute, 0).offset.seconds == 3900, "a minute of one digit", 0, 0);
+    check(fots_zone_next_change(&month, 1700000000).number == 1711846800, "a month with a zero", 0, 0);
+    check(fots_zone_next_change(&late, 1700000000).number == 1711756800, "a change after 50 hours", 0, 0);
+}
+
+/* Equal zones have equal bytes: no byte of the parts is padding. */
+static void equal_bytes(void)
+{
+    const fots_zone_parts one = fots_zone_posix_parts(CET, strlen(CET)).parts, other = fots_zone_posix_parts(CET, strlen(CET)).parts;
+    check(offsetof(fots_zone_yearly, unused) == 3 && offsetof(fots_zone_yearly, time) == 4, "the unused byte", 0, 0);
+    check(one.one.unused == 0 && one.other.unused == 0, "unused is 0", one.one.unused, one.other.unused);
+    check(memcmp(&one, &other, sizeof one) == 0, "equal parts", 0, 0);
+}
+
 static void is_rejected(const fots_zone *zone, long long which)
 {
     char text[16];
@@ -304,6 +324,8 @@ int main(int count, char **arguments)
     readings();
     texts();
     errors();
+    lenient();
+    equal_bytes();
     const fots_zone berlin = posix(CET);
     hostile_struct(&berlin);
     if (count > 1) {

@@ -13,7 +13,7 @@ use cal_time::{Date, SignedDuration, Time, UtcOffset};
 
 /// A duration: whole seconds, and nanoseconds from -999999999 to 999999999 with the same sign.
 #[repr(C)]
-#[derive(Clone, Copy)]
+#[derive(Clone, Copy, Debug)]
 pub struct Duration {
     pub seconds: i64,
     pub nanoseconds: i32,
@@ -21,7 +21,7 @@ pub struct Duration {
 
 /// A result with a date, as its Julian day. After an error it is `i32::MIN`.
 #[repr(C)]
-#[derive(Clone, Copy)]
+#[derive(Clone, Copy, Debug)]
 pub struct DateResult {
     pub status: i32,
     pub date: i32,
@@ -29,7 +29,7 @@ pub struct DateResult {
 
 /// A result with a component or another number. After an error it is `i32::MIN`.
 #[repr(C)]
-#[derive(Clone, Copy)]
+#[derive(Clone, Copy, Debug)]
 pub struct NumberResult {
     pub status: i32,
     pub number: i32,
@@ -37,7 +37,7 @@ pub struct NumberResult {
 
 /// A result with a duration. After an error its seconds are `i64::MIN`.
 #[repr(C)]
-#[derive(Clone, Copy)]
+#[derive(Clone, Copy, Debug)]
 pub struct DurationResult {
     pub status: i32,
     pub duration: Duration,
@@ -45,7 +45,7 @@ pub struct DurationResult {
 
 /// A result with a time of day, in nanoseconds since midnight. After an error it is `u64::MAX`.
 #[repr(C)]
-#[derive(Clone, Copy)]
+#[derive(Clone, Copy, Debug)]
 pub struct TimeResult {
     pub status: i32,
     pub time: u64,
@@ -53,7 +53,7 @@ pub struct TimeResult {
 
 /// A result with the components of a time of day. After an error each of them is `u32::MAX`.
 #[repr(C)]
-#[derive(Clone, Copy)]
+#[derive(Clone, Copy, Debug)]
 pub struct HmsNanoResult {
     pub status: i32,
     pub hour: u32,
@@ -65,7 +65,7 @@ pub struct HmsNanoResult {
 /// A result with a time of day, in nanoseconds since midnight, and the days carried: -1, 0 or 1.
 /// After an error they are `u64::MAX` and `i32::MIN`.
 #[repr(C)]
-#[derive(Clone, Copy)]
+#[derive(Clone, Copy, Debug)]
 pub struct AdjustedTimeResult {
     pub status: i32,
     pub carry: i32,
@@ -74,7 +74,7 @@ pub struct AdjustedTimeResult {
 
 /// A result with an offset, in seconds. After an error it is `i32::MIN`.
 #[repr(C)]
-#[derive(Clone, Copy)]
+#[derive(Clone, Copy, Debug)]
 pub struct OffsetResult {
     pub status: i32,
     pub offset: i32,
@@ -83,7 +83,7 @@ pub struct OffsetResult {
 /// A result with the components of an offset, all of one sign. After an error each of them is
 /// `i32::MIN`.
 #[repr(C)]
-#[derive(Clone, Copy)]
+#[derive(Clone, Copy, Debug)]
 pub struct OffsetHmsResult {
     pub status: i32,
     pub hours: i32,
@@ -93,7 +93,7 @@ pub struct OffsetHmsResult {
 
 /// A result with a number in 64 bits. After an error it is `i64::MIN`.
 #[repr(C)]
-#[derive(Clone, Copy)]
+#[derive(Clone, Copy, Debug)]
 pub struct Int64Result {
     pub status: i32,
     pub number: i64,
@@ -102,7 +102,7 @@ pub struct Int64Result {
 /// A result with a date, as its Julian day, and a time of day, in nanoseconds since midnight. After
 /// an error they are `i32::MIN` and `u64::MAX`.
 #[repr(C)]
-#[derive(Clone, Copy)]
+#[derive(Clone, Copy, Debug)]
 pub struct PairResult {
     pub status: i32,
     pub date: i32,
@@ -111,7 +111,7 @@ pub struct PairResult {
 
 /// A result with a calendar date. After an error its year is `i32::MIN`, and the others are 0.
 #[repr(C)]
-#[derive(Clone, Copy)]
+#[derive(Clone, Copy, Debug)]
 pub struct CalendarDateResult {
     pub status: i32,
     pub year: i32,
@@ -121,7 +121,7 @@ pub struct CalendarDateResult {
 
 /// A result with an ordinal date. After an error its year is `i32::MIN`, and its ordinal is 0.
 #[repr(C)]
-#[derive(Clone, Copy)]
+#[derive(Clone, Copy, Debug)]
 pub struct OrdinalDateResult {
     pub status: i32,
     pub year: i32,
@@ -130,7 +130,7 @@ pub struct OrdinalDateResult {
 
 /// A result with an ISO week date. After an error its year is `i32::MIN`, and the others are 0.
 #[repr(C)]
-#[derive(Clone, Copy)]
+#[derive(Clone, Copy, Debug)]
 pub struct IsoWeekDateResult {
     pub status: i32,
     pub year: i32,
@@ -395,7 +395,7 @@ impl PairResult {
 /// A moment: a local date, as its Julian day, and time of day, in nanoseconds since midnight, at an
 /// offset from UTC, in seconds.
 #[repr(C)]
-#[derive(Clone, Copy)]
+#[derive(Clone, Copy, Debug)]
 pub struct Moment {
     pub date: i32,
     pub offset: i32,
@@ -405,7 +405,7 @@ pub struct Moment {
 /// A result with a moment. After an error its date and its offset are `i32::MIN`, and its time is
 /// `u64::MAX`.
 #[repr(C)]
-#[derive(Clone, Copy)]
+#[derive(Clone, Copy, Debug)]
 pub struct MomentResult {
     pub status: i32,
     pub moment: Moment,

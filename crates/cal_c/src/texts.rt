@@ -17,7 +17,7 @@ const CAPACITY: usize = 40;
 
 /// A text in ASCII, followed by zero bytes.
 #[repr(C)]
-#[derive(Clone, Copy)]
+#[derive(Clone, Copy, Debug)]
 pub struct TextResult {
     pub status: i32,
     pub length: u32,
@@ -26,7 +26,7 @@ pub struct TextResult {
 
 /// A parsed date, or the position of the first wrong byte or of an end that comes too early.
 #[repr(C)]
-#[derive(Clone, Copy)]
+#[derive(Clone, Copy, Debug)]
 pub struct ParseDateResult {
     pub status: i32,
     pub date: i32,
@@ -35,7 +35,7 @@ pub struct ParseDateResult {
 
 /// A parsed date, time and offset, or a position as for a date.
 #[repr(C)]
-#[derive(Clone, Copy)]
+#[derive(Clone, Copy, Debug)]
 pub struct ParseMomentResult {
     pub status: i32,
     pub date: i32,

@@ -10,8 +10,8 @@ use crate::date_time_rule::DateTimeRule;
 use crate::date_time_set::{DateTimeSet, DateTimeSetReadings};
 use crate::readings::RuleReadings;
 use crate::recurrence::{Recurrence, RuleEnd};
-use cal_datetime::{PlainDateTime, midnight};
 use cal_date::day_number::to_date;
+use cal_datetime::{PlainDateTime, midnight};
 use std::marker::Model;
 
 /// A recurrence set of a recurrence with a `COUNT` or without one. A search counts the readings of

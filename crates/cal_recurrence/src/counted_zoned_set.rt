@@ -20,7 +20,7 @@ use std::marker::Model;
 /// A recurrence set of a recurrence in a time zone. A search counts the readings of a `COUNT` from
 /// the start, as far as it needs them. Contracts see the set, up to the last reading of the
 /// `COUNT`.
-#[derive(Drop)]
+#[derive(Debug, Drop)]
 pub struct CountedZonedSet<'a> {
     /// The set, whose rule ends at the last reading that was counted.
     set: ZonedSet<'a>,

@@ -6,8 +6,8 @@ ghost use Rattle.cal_recurrence.specs.DateTimeSet.{is_in_set, set_readings_after
 use crate::counted_set::CountedSet;
 use crate::date_time_rule::DateTimeRule;
 use crate::nearest::nearest;
-use cal_datetime::{PlainDateTime, midnight};
 use cal_date::day_number::to_date;
+use cal_datetime::{PlainDateTime, midnight};
 use std::marker::Model;
 
 /// A recurrence set of RFC 5545 with times of day: the readings of a rule and of `RDATE`, without

@@ -15,7 +15,7 @@ use cal_time::{Month, Weekday};
 
 /// A recurrence with the parts that were parsed so far. It notes if the frequency, the interval and
 /// the start of weeks are among them, since these can be given with their defaults.
-#[derive(Drop)]
+#[derive(Debug, Drop)]
 pub struct Draft {
     pub recurrence: Recurrence,
     pub has_frequency: bool,

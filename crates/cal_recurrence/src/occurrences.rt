@@ -11,7 +11,7 @@ use std::marker::Model;
 
 /// An iterator over the occurrences of a set in a zone, in ascending order, each instant once.
 /// Contracts see the set and the next occurrence.
-#[derive(Drop)]
+#[derive(Debug, Drop)]
 pub struct Occurrences<'a> {
     pub(crate) set: CountedZonedSet<'a>,
     pub(crate) front: Option<OffsetDateTime>,

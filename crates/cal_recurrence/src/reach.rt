@@ -6,9 +6,9 @@ ghost use Rattle.cal_recurrence.specs.Occurrences.{before_all};
 ghost use Rattle.cal_recurrence.specs.TimeSearch.{first_by};
 ghost use Rattle.cal_recurrence.specs.ZonedSet.{is_earlier, reach};
 
+use cal_date::day_number::to_date;
 use cal_datetime::{OffsetDateTime, PlainDateTime, midnight};
 use cal_time::UtcOffset;
-use cal_date::day_number::to_date;
 
 /// The maximum magnitude of an offset, in seconds.
 const MAX_OFFSET: i32 = 93_599;

@@ -7,9 +7,9 @@ ghost use Rattle.cal_recurrence.specs.Days.{days_of, excluded, has_end, is_numbe
 use crate::date_or_time::DateOrTime;
 use crate::fault::RulePart;
 use crate::times_of_day::TimesOfDay;
+use cal_date::day_number::to_date;
 use cal_schedule::{ByDay, Frequency, Pattern, Rule, RuleDays};
 use cal_time::Date;
-use cal_date::day_number::to_date;
 
 /// The end of a recurrence.
 #[derive(Clone, Copy, Debug, PartialEq, Eq)]

@@ -4,9 +4,9 @@ ghost use Rattle.cal_time.specs.Date.{IsDate};
 ghost use Rattle.cal_recurrence.specs.Sets.{is_in_set, set_days_after, set_days_before, set_days_from};
 
 use crate::nearest::nearest;
+use cal_date::day_number::{day_number, to_date};
 use cal_schedule::Rule;
 use cal_time::Date;
-use cal_date::day_number::{day_number, to_date};
 use std::marker::Model;
 
 /// A recurrence set of RFC 5545: the days of a rule and of `RDATE`, without the days of `EXDATE`.

@@ -15,8 +15,8 @@ use crate::set_parts::SetParts;
 use crate::times_of_day::TimesOfDay;
 use crate::words::{cut, is_alike};
 use crate::zone_name::ZoneName;
-use cal_schedule::{Frequency, Pattern, Values};
 use cal_date::day_number::to_date;
+use cal_schedule::{Frequency, Pattern, Values};
 
 /// The parts of a set that were parsed so far.
 #[derive(Debug, Drop)]

@@ -13,10 +13,10 @@ use crate::set_draft::is_date;
 use crate::set_fault::SetLine;
 use crate::set_parts::SetParts;
 use crate::set_values::kept;
+use cal_date::day_number::to_date;
 use cal_datetime::{OffsetDateTime, PlainDateTime};
 use cal_schedule::{Rule, Values};
 use cal_time::Date;
-use cal_date::day_number::to_date;
 use cal_zone::Zone;
 
 /// The days of a parsed set: its rule and its lists.

@@ -22,7 +22,7 @@ use cal_zone::laws::one_local;
 ///
 /// A count (`COUNT`) and exceptions without a zone go by the readings, and belong to the set of
 /// readings.
-#[derive(Drop)]
+#[derive(Debug, Drop)]
 pub struct ZonedSet<'a> {
     /// The readings (`DTSTART`, `RRULE`, `RDATE` and `EXDATE` with local times).
     pub readings: DateTimeSet<'a>,

@@ -102,7 +102,7 @@ structs! {
         exceptions_length: usize,
     };
     CZoneClock { offset: i32, is_daylight: u32, name_start: usize, name_end: usize };
-    CZoneYearly { month: u8, week: u8, weekday: u8, time: i32, clock: CZoneClock };
+    CZoneYearly { month: u8, week: u8, weekday: u8, unused: u8, time: i32, clock: CZoneClock };
     CZoneLayout { times: usize, indexes: usize, types: usize, names: usize, names_end: usize, changes: usize, kinds: usize };
     CZoneParts { rule: u32, skip: u32, layout: CZoneLayout, first: CZoneClock, one: CZoneYearly, other: CZoneYearly };
     CZone { bytes: *const u8, bytes_length: usize, parts: CZoneParts };

@@ -13,8 +13,8 @@ use super::statuses::{
 use super::{LENGTH_MISMATCH, NO_VALUE, count_errors};
 use crate::day_number::{FIRST_JULIAN_DAY, LAST_JULIAN_DAY, julian_day};
 use crate::values::valid_weekday;
-use cal_time::Date;
 use cal_date::day_number::{from_calendar_date, is_day_of_month};
+use cal_time::Date;
 use cal_time::limits::{MAX_YEAR, MIN_YEAR};
 
 /// Creates dates from Julian days, like `fots_date_from_julian_day`.

@@ -10,8 +10,8 @@ use crate::status::{
 use crate::values::{
     day_or_invalid, ordinal_or_invalid, valid_date_i64, valid_weekday, week_or_invalid,
 };
-use cal_time::Date;
 use cal_date::day_number::{from_calendar_date, is_day_of_month};
+use cal_time::Date;
 use cal_time::limits::{MAX_YEAR, MIN_YEAR};
 
 /// Creates a date from a Julian day, from -363521074 to 366963559. Returns the error `julian_day`

@@ -14,7 +14,7 @@ const NO_ITEM: FormatItem = FormatItem { kind: 0, value: 0 };
 
 /// An item of a format: its kind, and a number for what it shows.
 #[repr(C)]
-#[derive(Clone, Copy, PartialEq, Eq)]
+#[derive(Clone, Copy, Debug, PartialEq, Eq)]
 pub struct FormatItem {
     /// 0 for a byte, 1 to 3 for a number with zeros, with spaces or without padding, 4 for a name,
     /// 5 for a fraction, 6 for the sign of the offset, 7 for the sign of the Unix time, 8 for the
@@ -26,7 +26,7 @@ pub struct FormatItem {
 
 /// A format: as many items as its length says.
 #[repr(C)]
-#[derive(Clone, Copy)]
+#[derive(Clone, Copy, Debug)]
 pub struct FormatParts {
     pub length: u32,
     pub items: [FormatItem; MAX],

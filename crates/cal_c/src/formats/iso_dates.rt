@@ -69,12 +69,11 @@ pub(crate) fn print_date_at_once(
     ensures few { IfSome result (λ _. format.now.length ≤ 64) }
     ensures max_length { IfSome result (λ end. end ≤ format.now.length * 15) }
 {
-    if is_iso(format)
-        && buffer.len() >= LENGTH
-        && let Some(text) = usual_text(date)
-    {
-        buffer[..LENGTH].copy_from_slice(&text);
-        return Some(LENGTH);
+    if is_iso(format) && buffer.len() >= LENGTH {
+        if let Some(text) = usual_text(date) {
+            buffer[..LENGTH].copy_from_slice(&text);
+            return Some(LENGTH);
+        }
     }
     // This call states that the date is in its range. It costs nothing.
     let _ = date.to_julian_day();

@@ -11,7 +11,7 @@ use cal_time::{Time, UtcOffset};
 
 /// A parsed time of day, or a position as for a date.
 #[repr(C)]
-#[derive(Clone, Copy)]
+#[derive(Clone, Copy, Debug)]
 pub struct ParseTimeResult {
     pub status: i32,
     pub time: u64,
@@ -20,7 +20,7 @@ pub struct ParseTimeResult {
 
 /// A parsed offset, or a position as for a date.
 #[repr(C)]
-#[derive(Clone, Copy)]
+#[derive(Clone, Copy, Debug)]
 pub struct ParseOffsetResult {
     pub status: i32,
     pub offset: i32,

@@ -11,7 +11,7 @@ use cal_format::{Format, FormatError};
 
 /// A format, or the position at which no item begins.
 #[repr(C)]
-#[derive(Clone, Copy)]
+#[derive(Clone, Copy, Debug)]
 pub struct FormatResult {
     pub status: i32,
     pub format: FormatParts,
@@ -20,7 +20,7 @@ pub struct FormatResult {
 
 /// The length of a text.
 #[repr(C)]
-#[derive(Clone, Copy)]
+#[derive(Clone, Copy, Debug)]
 pub struct LengthResult {
     pub status: i32,
     pub length: usize,

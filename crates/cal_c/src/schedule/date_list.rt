@@ -15,7 +15,7 @@ use std::marker::Model;
 pub(super) const MAX_DATES: usize = 1024;
 
 /// A list of dates or readings. Contracts see their numbers.
-#[derive(Drop)]
+#[derive(Debug, Drop)]
 pub(super) struct DateList<T> {
     items: [T; MAX_DATES],
     filled: usize,

@@ -8,7 +8,7 @@ use cal_schedule::{Period, YearFraction};
 
 /// A period of years, months and days, all of one sign.
 #[repr(C)]
-#[derive(Clone, Copy)]
+#[derive(Clone, Copy, Debug)]
 pub struct PeriodResult {
     pub status: i32,
     pub years: i32,
@@ -18,7 +18,7 @@ pub struct PeriodResult {
 
 /// A fraction of a year: the days counted, over the days of a year.
 #[repr(C)]
-#[derive(Clone, Copy)]
+#[derive(Clone, Copy, Debug)]
 pub struct YearFractionResult {
     pub status: i32,
     pub denominator: u32,
@@ -27,7 +27,7 @@ pub struct YearFractionResult {
 
 /// The number of days written.
 #[repr(C)]
-#[derive(Clone, Copy)]
+#[derive(Clone, Copy, Debug)]
 pub struct DaysResult {
     pub status: i32,
     pub length: usize,

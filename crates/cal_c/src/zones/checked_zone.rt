@@ -15,7 +15,7 @@ const RULE: u32 = 2;
 
 /// A local time type: how clocks are set.
 #[repr(C)]
-#[derive(Clone, Copy, Default)]
+#[derive(Clone, Copy, Debug, Default)]
 pub struct ZoneClock {
     /// The seconds by which clocks are ahead of UTC.
     pub offset: i32,
@@ -29,7 +29,7 @@ pub struct ZoneClock {
 
 /// A change that comes each year.
 #[repr(C)]
-#[derive(Clone, Copy, Default)]
+#[derive(Clone, Copy, Debug, Default)]
 pub struct ZoneYearly {
     /// The index of the month, from 0.
     pub month: u8,
@@ -37,6 +37,8 @@ pub struct ZoneYearly {
     pub week: u8,
     /// The index of the weekday, from 0 for Monday.
     pub weekday: u8,
+    /// Always 0, so that equal zones have equal bytes.
+    pub unused: u8,
     /// The seconds from midnight to the change, by the clocks before it, from -604800 to 604800.
     pub time: i32,
     pub clock: ZoneClock,
@@ -44,7 +46,7 @@ pub struct ZoneYearly {
 
 /// The parts of a zone that a call found in its bytes.
 #[repr(C)]
-#[derive(Clone, Copy)]
+#[derive(Clone, Copy, Debug)]
 pub struct CheckedParts {
     /// 1 for a zone without a rule, 2 for one with a rule.
     pub rule: u32,
@@ -57,7 +59,7 @@ pub struct CheckedParts {
 
 /// A zone: its bytes, and the parts that a call found in them.
 #[repr(C)]
-#[derive(Clone, Copy)]
+#[derive(Clone, Copy, Debug)]
 pub struct CheckedZone<'a> {
     pub bytes: &'a [u8],
     pub parts: CheckedParts,
@@ -95,11 +97,13 @@ impl ZoneYearly {
     fn new(yearly: Yearly) -> Self
         ensures value { yearly_in result ≡ yearly }
         ensures range { HasPlaces result }
+        ensures unused { result.unused ≡ 0 }
     {
         ZoneYearly {
             month: yearly.month.place(),
             week: yearly.week,
             weekday: yearly.weekday.place(),
+            unused: 0,
             time: yearly.time,
             clock: ZoneClock::new(yearly.kind),
         }
@@ -154,6 +158,7 @@ impl CheckedParts {
         requires { AreParts parts }
         ensures parts { HasParts parts.entry.bytes.now result }
         ensures value { zone_of_parts parts.entry.bytes.now result ≡ made_of parts.entry }
+        ensures unused { (result.one.unused ≡ 0) × (result.other.unused ≡ 0) }
     {
         let first = ZoneClock::new(parts.first);
         let (layout, skip) = (parts.layout, parts.skip);

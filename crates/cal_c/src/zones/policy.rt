@@ -9,7 +9,7 @@ use cal_datetime::OffsetDateTime;
 use cal_zone::Local;
 
 /// A policy of Temporal: what a reading in a gap or a fold means.
-#[derive(Clone, Copy)]
+#[derive(Clone, Copy, Debug)]
 pub enum Policy {
     /// The reading moved forward by the length of the gap, or the earlier moment of a fold.
     Compatible,

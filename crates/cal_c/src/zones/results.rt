@@ -10,7 +10,7 @@ use cal_zone::{Instants, LocalType};
 
 /// The parts that a call found in the bytes of a zone, or the first error of the bytes.
 #[repr(C)]
-#[derive(Clone, Copy)]
+#[derive(Clone, Copy, Debug)]
 pub struct PartsResult {
     pub status: i32,
     /// The position of the first wrong byte, from 0, or the length of bytes that end too early.
@@ -20,7 +20,7 @@ pub struct PartsResult {
 
 /// How clocks are set.
 #[repr(C)]
-#[derive(Clone, Copy)]
+#[derive(Clone, Copy, Debug)]
 pub struct LocalTypeResult {
     pub status: i32,
     pub offset: i32,
@@ -33,7 +33,7 @@ pub struct LocalTypeResult {
 
 /// The instants of a reading, as Unix times, with the offsets of the clocks.
 #[repr(C)]
-#[derive(Clone, Copy)]
+#[derive(Clone, Copy, Debug)]
 pub struct LocalResult {
     pub status: i32,
     /// 1 for one instant, 2 for a gap, 3 for a fold.

@@ -13,7 +13,7 @@ const CAPACITY: usize = 4064;
 
 /// A text in ASCII, followed by zero bytes, or the first wrong part of the text that was passed.
 #[repr(C)]
-#[derive(Clone, Copy)]
+#[derive(Clone, Copy, Debug)]
 pub struct RecurrenceTextResult {
     pub status: i32,
     /// The number of the wrong part, from 1 for `FREQ`, or 0.

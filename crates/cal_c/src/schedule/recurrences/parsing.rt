@@ -10,7 +10,7 @@ use cal_recurrence::parse;
 
 /// A parsed recurrence, or the first wrong part of the text.
 #[repr(C)]
-#[derive(Clone, Copy)]
+#[derive(Clone, Copy, Debug)]
 pub struct ParseRecurrenceResult {
     pub status: i32,
     /// The number of the wrong part, from 1 for `FREQ`, or 0.

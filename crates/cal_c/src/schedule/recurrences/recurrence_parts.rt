@@ -10,7 +10,7 @@ use cal_schedule::Frequency;
 
 /// The parts of a recurrence. A list has as many values as its length says, then zeros.
 #[repr(C)]
-#[derive(Clone, Copy)]
+#[derive(Clone, Copy, Debug)]
 pub struct RecurrenceParts {
     /// 1 for daily, 2 for weekly, 3 for monthly, 4 for yearly.
     pub frequency: u32,

@@ -9,7 +9,7 @@ use cal_recurrence::{ParseRuleError, ParseRuleErrorKind, RulePart};
 
 /// The number of days written, or the first wrong part of the text.
 #[repr(C)]
-#[derive(Clone, Copy)]
+#[derive(Clone, Copy, Debug)]
 pub struct RecurrenceResult {
     pub status: i32,
     /// The number of the wrong part, from 1 for `FREQ`, or 0.

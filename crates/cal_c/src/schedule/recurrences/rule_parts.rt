@@ -2,7 +2,7 @@
 
 /// A weekday of a rule.
 #[repr(C)]
-#[derive(Clone, Copy)]
+#[derive(Clone, Copy, Debug)]
 pub struct RuleWeekday {
     /// The number in the month or the year, negative from the end, or 0 for each such weekday.
     pub number: i8,
@@ -12,7 +12,7 @@ pub struct RuleWeekday {
 
 /// A rule of RFC 5545 in parts, with dates as Julian days. An empty array excludes no day.
 #[repr(C)]
-#[derive(Clone, Copy)]
+#[derive(Clone, Copy, Debug)]
 pub struct RuleParts<'a> {
     pub start: i32,
     /// The last date on which the rule can have a day.

@@ -12,7 +12,7 @@ use cal_datetime::PlainDateTime;
 /// A recurrence set: the text of a recurrence, its start, and readings in any order. A reading is
 /// the local date and time of a moment, at any offset.
 #[repr(C)]
-#[derive(Clone, Copy)]
+#[derive(Clone, Copy, Debug)]
 pub struct TextSet<'a> {
     pub text: &'a [u8],
     /// The first possible reading (`DTSTART`).

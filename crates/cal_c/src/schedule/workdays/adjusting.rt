@@ -5,8 +5,8 @@ ghost use Rattle.cal_schedule.specs.WorkdaysConvention.{adjusted_date, first_in_
 ghost use Rattle.cal_c.specs.CheckedWorkdays.{week_of, IsChecked};
 
 use crate::schedule::workdays::ranks::RankedWorkdays;
-use cal_schedule::Convention;
 use cal_date::day_number::to_date;
+use cal_schedule::Convention;
 
 /// Returns `true` if both days are in the same month of the same year.
 fn is_in_month_of(day: u32, other: u32) -> bool

@@ -11,7 +11,7 @@ use cal_time::{Date, is_rising};
 use std::marker::Model;
 
 /// The marks of a week and the holidays. Contracts see the working week.
-#[derive(Drop)]
+#[derive(Debug, Drop)]
 pub struct Calendar {
     marks: [bool; 7],
     holidays: DateList<Date>,

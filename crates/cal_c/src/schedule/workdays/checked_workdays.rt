@@ -8,7 +8,7 @@ pub const MAX_INDEXES: usize = 1025;
 
 /// A weekmask and holidays. `fots_workdays_new` checks and fills it.
 #[repr(C)]
-#[derive(Clone, Copy)]
+#[derive(Clone, Copy, Debug)]
 pub struct CheckedWorkdays {
     pub weekmask: u32,
     pub holidays_length: u32,
@@ -20,7 +20,7 @@ pub struct CheckedWorkdays {
 
 /// Checked working days.
 #[repr(C)]
-#[derive(Clone, Copy)]
+#[derive(Clone, Copy, Debug)]
 pub struct WorkdaysResult {
     pub status: i32,
     pub workdays: CheckedWorkdays,

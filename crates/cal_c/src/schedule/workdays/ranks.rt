@@ -16,7 +16,7 @@ use crate::status::{INVALID_WEEKMASK, TOO_MANY_HOLIDAYS};
 use std::marker::Model;
 
 /// The working days of a struct, with the marks of a week counted. Contracts see the struct.
-#[derive(Drop)]
+#[derive(Debug, Drop)]
 pub struct RankedWorkdays<'a> {
     /// The number of marks before each index of a week.
     marked_in_week: [u32; 8],
