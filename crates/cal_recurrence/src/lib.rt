@@ -30,6 +30,7 @@ mod set;
 mod set_draft;
 mod set_fault;
 mod set_meaning;
+mod set_parameters;
 mod set_parsing;
 mod set_parts;
 mod set_values;

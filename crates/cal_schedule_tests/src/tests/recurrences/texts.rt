@@ -306,13 +306,23 @@ fn excluded(rt: HostRuntime) {
     let excluded = ParseRuleErrorKind::Excluded(RulePart::Weekdays);
     refused(rt, "FREQ=DAILY;BYDAY=MO,1TU", 11, excluded);
     refused(rt, "RRULE:FREQ=WEEKLY;BYMONTH=1;BYDAY=-1TU", 28, excluded);
+    // The order of the documentation, and not of the text.
+    refused(rt, "FREQ=WEEKLY;BYMONTHDAY=1;BYDAY=1MO", 25, excluded);
+    refused(
+        rt,
+        "FREQ=DAILY;BYWEEKNO=1;BYYEARDAY=1;BYDAY=1MO",
+        34,
+        excluded,
+    );
     let excluded = ParseRuleErrorKind::Excluded(RulePart::MonthDays);
     refused(rt, "FREQ=WEEKLY;BYMONTHDAY=1", 12, excluded);
+    refused(rt, "FREQ=WEEKLY;BYYEARDAY=1;BYMONTHDAY=1", 24, excluded);
     let excluded = ParseRuleErrorKind::Excluded(RulePart::YearDays);
     for &(text, position, reason) in &[
         ("FREQ=DAILY;BYYEARDAY=1", 11, excluded),
         ("FREQ=WEEKLY;BYYEARDAY=1", 12, excluded),
         ("FREQ=MONTHLY;BYYEARDAY=1;BYSETPOS=1", 13, excluded),
+        ("FREQ=MONTHLY;BYWEEKNO=1;BYYEARDAY=1", 24, excluded),
     ] {
         refused(rt, text, position, reason);
     }
