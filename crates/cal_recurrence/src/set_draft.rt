@@ -11,6 +11,7 @@ use crate::fault::{ParseRuleError, ParseRuleErrorKind};
 use crate::lists::has_room;
 use crate::parsing::parse_parts;
 use crate::recurrence::{Recurrence, RuleEnd};
+use crate::rule_count::RuleCount;
 use crate::set_fault::{ParseSetErrorKind, SetLine};
 use crate::set_parameters::{all_allow, all_ignored, all_name, first_zone};
 use crate::set_parts::SetParts;
@@ -106,7 +107,7 @@ fn once() -> Recurrence
     Recurrence {
         pattern: Pattern::new(Frequency::Daily),
         times: TimesOfDay::new(),
-        end: RuleEnd::Count(1),
+        end: RuleEnd::Count(RuleCount::from_positive(1)),
     }
 }
 

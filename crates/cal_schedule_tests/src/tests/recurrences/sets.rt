@@ -63,7 +63,7 @@ fn times(rt: HostRuntime) {
     let parts = read_set(rt, text);
     let start = reading(rt, (1997_09_02, 9_00_00));
     same(rt, parts.start, DateOrTime::Local(start));
-    let is_once = matches!(parts.recurrence.end, RuleEnd::Count(1));
+    let is_once = matches!(parts.recurrence.end, RuleEnd::Count(count) if count.get() == 1);
     same(rt, is_once, true);
     let mut walk = parts.recurrence.readings(start);
     same(rt, walk.next(), Some(start));
