@@ -776,8 +776,11 @@ enum fots_rule_part {
 
 /* Parses the text of a recurrence, as RFC 5545 has it after RRULE:. It can also begin with RRULE:.
  * Calls with such a text return its first wrong part as FOTS_UNKNOWN_PART, FOTS_TOO_MANY_VALUES,
- * FOTS_DUPLICATE_PART, FOTS_INVALID_VALUE or FOTS_MISSING_FREQUENCY. BYHOUR, BYMINUTE, BYSECOND and
- * the time of an UNTIL count only for readings and moments.
+ * FOTS_DUPLICATE_PART or FOTS_INVALID_VALUE, or else FOTS_MISSING_FREQUENCY. After these errors,
+ * FOTS_INVALID_VALUE is for a list that FREQ excludes, the first in this order: BYDAY with a number,
+ * BYMONTHDAY, BYYEARDAY, BYWEEKNO. BYWEEKNO excludes BYDAY with a number. The wrong part is the later
+ * of the two in the text. Last comes a BYSETPOS without another list.
+ * BYHOUR, BYMINUTE, BYSECOND and the time of an UNTIL count only for readings and moments.
  * "FREQ=MONTHLY;BYDAY=-1FR;COUNT=3" has FOTS_MONTHLY, the interval 1, the week start 1, the count 3
  * and the weekday {-1, 5}. */
 fots_parse_recurrence_result fots_recurrence_parse(const char *text, size_t text_length);

@@ -1,5 +1,5 @@
 -- Splitting a text whose first bytes avoid the separator.
-use Rattle.std.proofs.Common.{◌≡◌, ℕ, ◌+◌, Bool, true, false, cond, eqb, not, List, [], ◌∷◌, ◌++◌, append_assoc, take, drop, length, length-append, inl, inr, refl, sym, ap, ◌∙◌, arith}
+use Rattle.std.proofs.Common.{◌≡◌, ℕ, ◌+◌, Bool, true, false, cond, eqb, not, List, [], ◌∷◌, ◌++◌, append_assoc, take, drop, length, length-append, subst, inl, inr, refl, sym, ap, ◌∙◌, arith}
 use Rattle.std.specs.List.{All, onto_first, position_or_len}
 use Rattle.std.proofs.lemmas.Bool.{cases_Bool, eq-eqb, false≢true, ne_eqb}
 use Rattle.std.proofs.lemmas.List.{drop_at, take_at, take_all}
@@ -84,4 +84,26 @@ parts_at-some byte (x ∷ xs) =
     elim (cases_Bool (eqb x byte)) [
       | inl here ↦ ([], parts_at byte xs, slice_split-cons_yes (λ b. eqb b byte) x xs here)
       | inr apart ↦ (x ∷ rest.0, rest.1, slice_split-cons_no (λ b. eqb b byte) x xs apart ∙ ap (onto_first x) rest.2)
+    ]
+
+-- ---- the bytes of a part
+-- a byte that passes, and isn't the separator
+abbrev pub Both : (ℕ → Type 0) → ℕ → ℕ → Type 0
+Both P byte x = P x × ¬ (x ≡ byte)
+
+onto : (Q : ℕ → Type 0) (x : ℕ) (ts : List (List ℕ)) → Q x → All (All Q) ts → All (All Q) (onto_first x ts)
+onto Q x [] q h = All-cons (All Q) (x ∷ []) [] (All-cons Q x [] q (All-nil Q)) (All-nil (All Q))
+onto Q x (t ∷ ts) q h = All-cons (All Q) (x ∷ t) ts (All-cons Q x t q (All-head (All Q) t ts h)) (All-tail (All Q) t ts h)
+
+pub parts-bytes : (P : ℕ → Type 0) (byte : ℕ) (xs : List ℕ) → All P xs → All (All (Both P byte)) (parts_at byte xs)
+parts-bytes P byte [] h = All-cons (All (Both P byte)) [] [] (All-nil (Both P byte)) (All-nil (All (Both P byte)))
+parts-bytes P byte (x ∷ xs) h =
+    let rest = parts-bytes P byte xs (All-tail P x xs h) in
+    elim (cases_Bool (eqb x byte)) [
+      | inl here ↦
+          subst (All (All (Both P byte))) (sym (slice_split-cons_yes (λ b. eqb b byte) x xs here))
+          (All-cons (All (Both P byte)) [] (parts_at byte xs) (All-nil (Both P byte)) rest)
+      | inr apart ↦
+          subst (All (All (Both P byte))) (sym (slice_split-cons_no (λ b. eqb b byte) x xs apart))
+          (onto (Both P byte) x (parts_at byte xs) (All-head P x xs h, other byte x apart) rest)
     ]

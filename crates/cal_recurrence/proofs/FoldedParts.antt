@@ -12,7 +12,7 @@ use Rattle.cal_recurrence.specs.SetText.{without_return}
 use Rattle.cal_recurrence.specs.Words.{first_bytes, parts_at}
 use Rattle.cal_recurrence.proofs.Avoided.{avoids-append, cut-here, cut-nowhere, from-all}
 use Rattle.cal_recurrence.proofs.SetLines.{without-return}
-use Rattle.cal_recurrence.proofs.GivenNames.{parts-bytes}
+use Rattle.cal_recurrence.proofs.Avoided.{parts-bytes}
 use Rattle.cal_recurrence.proofs.FoldedLines.{fold_before, folded_after, folded_of, line, stays}
 
 -- ---- the size of a line

@@ -1,22 +1,22 @@
 -- A parsed set is spelled: each value is a value of its line, and some line names its zone.
-use Rattle.std.proofs.Common.{◌≡◌, ℕ, ◌-◌, Bool, true, false, cond, eqb, List, [], ◌∷◌, ◌++◌, append-nil, append_assoc, length, map, Option, Some, None, Result, Ok, Err, refl, sym, ap, subst, ◌∙◌, arith}
-use Rattle.std.specs.Prelude.{⊤, ◌||◌, codes, IfOk, IfSome, is_some, option_map, slice_index, unwrap_or}
+use Rattle.std.proofs.Common.{◌≡◌, ℕ, ◌+◌, Bool, true, false, cond, eqb, List, [], ◌∷◌, ◌++◌, append-nil, append_assoc, length, Option, Some, None, Result, Ok, Err, refl, sym, ap, subst, ◌∙◌, arith}
+use Rattle.std.specs.Prelude.{⊤, ◌&&◌, ◌||◌, codes, IfOk, IfSome, is_some, option_map, unwrap_or}
 use Rattle.std.specs.List.{All, list_any}
 use Rattle.std.specs.Option.{option_map_or, option_or, option_zip}
 use Rattle.std.specs.Result.{result_err, result_ok}
 use Rattle.std.proofs.lemmas.Bool.{false≢true}
-use Rattle.std.proofs.lemmas.List.Elements.{All-append, All-cons, All-head, All-nil, All-tail, All-take}
+use Rattle.std.proofs.lemmas.List.Elements.{All-append, All-cons, All-nil}
 use Rattle.std.proofs.lemmas.List.Folds.{list_any-append}
 use Rattle.cal_recurrence.specs.DateWords.{date_or_time_of}
 use Rattle.cal_recurrence.specs.Days.{excluded, ranks_alone}
-use Rattle.cal_recurrence.specs.SetText.{all_allow, error_after, first_zone, if_allowed, is_local, kind_of, lines_of, once, parameters_on, parts_from, parts_of, value_error, value_of, value_on, values_on, with_line, with_value, with_zone, without_return, zone_error, AreValid, SaysSet}
-use Rattle.cal_recurrence.specs.SetWritten.{IsNameByte, IsSpelledSet, IsZoneOf}
+use Rattle.cal_recurrence.specs.SetText.{all_allow, all_ignored, error_after, first_zone, has_value, if_allowed, is_local, is_zone_name, kind_of, lines_of, once, parameters_on, parts_from, parts_of, recurrence_on, value_error, value_of, value_on, values_on, with_line, with_value, with_zone, zone_error, AreValid, SaysSet}
+use Rattle.cal_recurrence.specs.SetWritten.{IsSpelledSet, IsZoneOf}
 use Rattle.cal_recurrence.specs.Spelled.{IsByDay, IsDateOrTime, IsHour, IsMinute, IsMonthDay, IsPosition, IsSecond, IsSpelled, IsWeek}
-use Rattle.cal_recurrence.specs.Text.{checked, each, fault, later_of, list_of, nothing, parts_say, place_of, read_on, recurrence_of}
-use Rattle.cal_recurrence.specs.Words.{bytes_after, first_bytes, has_name, parts_at, rest_at}
+use Rattle.cal_recurrence.specs.Text.{checked, each, fault, later_of, list_of, nothing, parts_say, place_of, read_on}
+use Rattle.cal_recurrence.specs.Words.{front_outside, parts_at, rest_outside}
 use Rattle.cal_recurrence.specs.declared.date_or_time.DateOrTime.{DateOrTime}
 use Rattle.cal_recurrence.specs.declared.fault.ParseRuleError.{ParseRuleError}
-use Rattle.cal_recurrence.specs.declared.fault.ParseRuleErrorKind.TheVariants.{Alone}
+use Rattle.cal_recurrence.specs.declared.fault.ParseRuleErrorKind.TheVariants.{Alone, Unknown as UnknownPart}
 use Rattle.cal_recurrence.specs.declared.fault.RulePart.{RulePart}
 use Rattle.cal_recurrence.specs.declared.fault.RulePart.TheVariants as part
 use Rattle.cal_recurrence.specs.declared.recurrence.Recurrence.{Recurrence}
@@ -27,7 +27,7 @@ use Rattle.cal_recurrence.specs.declared.set_fault.SetLine.{SetLine}
 use Rattle.cal_recurrence.specs.declared.set_fault.SetLine.TheVariants as line
 use Rattle.cal_recurrence.proofs.Avoided.{parts_at-some}
 use Rattle.cal_recurrence.proofs.FirstNumbers.{first_one, other_one}
-use Rattle.cal_recurrence.proofs.GivenNames.{local-if, named-bytes, no-zone, parameters-bytes, parts-bytes, IsInner}
+use Rattle.cal_recurrence.proofs.GivenNames.{no-zone, zone-if}
 use Rattle.cal_recurrence.specs.declared.set_parts.SetParts.{SetParts}
 use Rattle.cal_recurrence.proofs.GivenParts.{dates, guarded, if_there, read_is_spelled}
 use Rattle.cal_recurrence.proofs.SaidLines.{error-here, first-none, local_start, no-value, parts-more, passes, second-none, some_local}
@@ -50,12 +50,13 @@ recurrence-at at texts = by-result (read_on at nothing texts) refl
     by-result (Err why) e = tt
     by-result (Ok r) e = by-pair r (excluded r) e refl
 
-recurrence-is : (text : List ℕ) → IfOk (recurrence_of text) IsSpelled
-recurrence-is text = either (has_name text) _ _ (recurrence-at 6 (parts_at 59 (bytes_after 6 text))) (recurrence-at 0 (parts_at 59 text))
+recurrence-is : (text : List ℕ) → IfOk (recurrence_on text) IsSpelled
+recurrence-is text =
+    either (has_value text && all_ignored (parameters_on text)) _ (recurrence-at (length (front_outside 58 text) + 1) (parts_at 59 (rest_outside 58 text)))
   where
-    either : (b : Bool) (r s : Result Recurrence ParseRuleError) → IfOk r IsSpelled → IfOk s IsSpelled → IfOk (cond b r s) IsSpelled
-    either true r s h k = h
-    either false r s h k = k
+    either : (b : Bool) (r : Result Recurrence ParseRuleError) → IfOk r IsSpelled → IfOk (cond b r (Err (fault 0 UnknownPart))) IsSpelled
+    either true r h = h
+    either false r h = tt
 
 -- the recurrence of a set without one
 once-spelled : IsSpelled once
@@ -86,7 +87,7 @@ value-is ps word =
 -- the values of a line, which are readings without `Z` if the line names a zone
 record AreGiven (ps : List (List ℕ)) (vs : List DateOrTime) : Type 0 where
   all : All IsDateOrTime vs
-  local : (zone : List ℕ) → first_zone ps ≡ Some zone → list_any is_local vs ≡ true
+  local : (zone : List ℕ) → first_zone ps ≡ Some zone → (is_zone_name zone ≡ true) × (list_any is_local vs ≡ true)
 
 each-is : (ps texts : List (List ℕ)) → IfSome (each (value_of ps) texts) (All IsDateOrTime)
 each-is ps [] = All-nil IsDateOrTime
@@ -107,7 +108,7 @@ some-given ps text texts = both (value_of ps text) (each (value_of ps) texts) (v
     both (Some v) None h k = tt
     both (Some v) (Some vs) h k = record {
       all = All-cons IsDateOrTime v vs h.0 k;
-      local = λ zone e. first_one (is_local v) (list_any is_local vs) (local-if ps v zone e h.1);
+      local = λ zone e. let both = zone-if ps v zone e h.1 in (both.0, first_one (is_local v) (list_any is_local vs) both.1);
     }
 
 values-given : (ps : List (List ℕ)) (value : List ℕ) → IfSome (list_of (value_of ps) value) (AreGiven ps)
@@ -118,7 +119,7 @@ values-given ps value =
 -- ---- the parts that lines say
 abbrev IsZoneIn : SetDraft → Option (List ℕ) → Type 0
 IsZoneIn d None = ⊤
-IsZoneIn d (Some zone) = All IsNameByte zone × (some_local d ≡ true)
+IsZoneIn d (Some zone) = (is_zone_name zone ≡ true) × (some_local d ≡ true)
 
 record IsDraft (d : SetDraft) : Type 0 where
   start : IfSome d.start IsDateOrTime
@@ -130,7 +131,7 @@ record IsDraft (d : SetDraft) : Type 0 where
 -- the parts after the value of a line
 record IsNamed (ps : List (List ℕ)) (d : SetDraft) : Type 0 where
   draft : IsDraft d
-  local : (zone : List ℕ) → first_zone ps ≡ Some zone → some_local d ≡ true
+  local : (zone : List ℕ) → first_zone ps ≡ Some zone → (is_zone_name zone ≡ true) × (some_local d ≡ true)
 
 more-local : (d e : SetDraft) (zone : Option (List ℕ)) → (some_local d ≡ true → some_local e ≡ true) → IsZoneIn d zone → IsZoneIn e zone
 more-local d e None h k = tt
@@ -147,7 +148,7 @@ start-is d ps (Some v) h none e k = record {
     zone = more-local d (record d { start = Some v }) d.zone
         (λ e. other_one (is_local v) _ (sym (ap (λ s. local_start s || (list_any is_local d.dates || list_any is_local d.exceptions)) none) ∙ e)) h.zone;
   };
-  local = λ zone e. first_one (is_local v) _ (local-if ps v zone e k.1);
+  local = λ zone e. let both = zone-if ps v zone e k.1 in (both.0, first_one (is_local v) _ both.1);
 }
 
 rule-is : (d : SetDraft) (ps : List (List ℕ)) (o : Result Recurrence ParseRuleError) → IsDraft d → option_map Rule (result_err o) ≡ None → IfOk o IsSpelled
@@ -188,7 +189,9 @@ dates-is d ps (Some vs) h e k = record {
     zone = more-local d (record d { dates = d.dates ++ vs }) d.zone
         (or-more (local_start d.start) (list_any is_local d.dates) (list_any is_local d.exceptions) _ _ (any-first d.dates vs) (λ e. e)) h.zone;
   };
-  local = λ zone e. other_one (local_start d.start) _ (first_one _ (list_any is_local d.exceptions) (any-other d.dates vs (k.local zone e)));
+  local = λ zone e.
+      let both = k.local zone e in
+      (both.0, other_one (local_start d.start) _ (first_one _ (list_any is_local d.exceptions) (any-other d.dates vs both.1)));
 }
 
 exceptions-is : (d : SetDraft) (ps : List (List ℕ)) (o : Option (List DateOrTime)) → IsDraft d → is_some o ≡ true → IfSome o (AreGiven ps)
@@ -203,35 +206,37 @@ exceptions-is d ps (Some vs) h e k = record {
     zone = more-local d (record d { exceptions = d.exceptions ++ vs }) d.zone
         (or-more (local_start d.start) (list_any is_local d.dates) (list_any is_local d.exceptions) _ _ (λ e. e) (any-first d.exceptions vs)) h.zone;
   };
-  local = λ zone e. other_one (local_start d.start) _ (other_one (list_any is_local d.dates) _ (any-other d.exceptions vs (k.local zone e)));
+  local = λ zone e.
+      let both = k.local zone e in
+      (both.0, other_one (local_start d.start) _ (other_one (list_any is_local d.dates) _ (any-other d.exceptions vs both.1)));
 }
 
 -- ---- lines
 named-is : (its : SetLine) (d : SetDraft) (text : List ℕ) → IsDraft d → kind_of text ≡ Some its → value_error d text its ≡ None
     → IsNamed (parameters_on text) (with_value d text its)
 named-is line.Start d text h e k =
-    start-is d (parameters_on text) (value_on text) h (no-value d.start _ (first-none _ _ k)) (passes _ _ (second-none _ _ k)) (value-is (parameters_on text) (rest_at 58 text))
+    start-is d (parameters_on text) (value_on text) h (no-value d.start _ (first-none _ _ k)) (passes _ _ (second-none _ _ k)) (value-is (parameters_on text) (rest_outside 58 text))
 named-is line.Rule d text h e k =
-    rule-is d (parameters_on text) (recurrence_of text) h (second-none _ _ k) (recurrence-is text) (λ r zone read named. no-zone text r zone e read named)
-named-is line.Dates d text h e k = dates-is d (parameters_on text) (values_on text) h (passes _ _ (second-none _ _ k)) (values-given (parameters_on text) (rest_at 58 text))
-named-is line.Exceptions d text h e k = exceptions-is d (parameters_on text) (values_on text) h (passes _ _ (second-none _ _ k)) (values-given (parameters_on text) (rest_at 58 text))
+    rule-is d (parameters_on text) (recurrence_on text) h (second-none _ _ k) (recurrence-is text) (no-zone text)
+named-is line.Dates d text h e k = dates-is d (parameters_on text) (values_on text) h (passes _ _ (second-none _ _ k)) (values-given (parameters_on text) (rest_outside 58 text))
+named-is line.Exceptions d text h e k = exceptions-is d (parameters_on text) (values_on text) h (passes _ _ (second-none _ _ k)) (values-given (parameters_on text) (rest_outside 58 text))
 
-zone-is : (d : SetDraft) (ps : List (List ℕ)) → IsNamed ps d → All (All IsInner) ps → IsDraft (record d { zone = option_or d.zone (first_zone ps) })
-zone-is d ps h bytes = record {
+zone-is : (d : SetDraft) (ps : List (List ℕ)) → IsNamed ps d → IsDraft (record d { zone = option_or d.zone (first_zone ps) })
+zone-is d ps h = record {
   start = h.draft.start;
   recurrence = h.draft.recurrence;
   each_date = h.draft.each_date;
   each_exception = h.draft.each_exception;
-  zone = by-zones d.zone (first_zone ps) refl h.draft.zone (named-bytes ps bytes);
+  zone = by-zones d.zone (first_zone ps) refl h.draft.zone;
 }
   where
-    by-zones : (s f : Option (List ℕ)) → first_zone ps ≡ f → IsZoneIn d s → IfSome f (All IsNameByte) → IsZoneIn d (option_or s f)
-    by-zones None None g k b = tt
-    by-zones None (Some zone) g k b = (b, h.local zone g)
-    by-zones (Some zone) f g k b = k
+    by-zones : (s f : Option (List ℕ)) → first_zone ps ≡ f → IsZoneIn d s → IsZoneIn d (option_or s f)
+    by-zones None None g k = tt
+    by-zones None (Some zone) g k = h.local zone g
+    by-zones (Some zone) f g k = k
 
-line-is : (d : SetDraft) (text : List ℕ) → All (λ x. ¬ (x ≡ 10)) text → IsDraft d → error_after d text ≡ None → IsDraft (with_line d text)
-line-is d text bytes h e = unless-empty (eqb (length text) 0) e (by-kind (kind_of text) refl)
+line-is : (d : SetDraft) (text : List ℕ) → IsDraft d → error_after d text ≡ None → IsDraft (with_line d text)
+line-is d text h e = unless-empty (eqb (length text) 0) e (by-kind (kind_of text) refl)
   where
     with : Option SetLine → SetDraft
     with o = option_map_or (λ its. with_zone (with_value d text its) text) o d
@@ -241,34 +246,19 @@ line-is d text bytes h e = unless-empty (eqb (length text) 0) e (by-kind (kind_o
 
     by-kind : (o : Option SetLine) → kind_of text ≡ o → by o ≡ None → IsDraft (with o)
     by-kind None k none = absurd (cc)
-    by-kind (Some its) k none = zone-is (with_value d text its) (parameters_on text) (named-is its d text h k (first-none _ _ none)) (parameters-bytes text bytes)
+    by-kind (Some its) k none = zone-is (with_value d text its) (parameters_on text) (named-is its d text h k (first-none _ _ none))
 
     unless-empty : (b : Bool) → cond b None (by (kind_of text)) ≡ None → (by (kind_of text) ≡ None → IsDraft (with (kind_of text))) → IsDraft (cond b d (with (kind_of text)))
     unless-empty true none k = h
     unless-empty false none k = k none
 
-lines-are : (before after : List (List ℕ)) → All (All (λ x. ¬ (x ≡ 10))) after → AreValid (before ++ after) → IsDraft (parts_of before) → IsDraft (parts_of (before ++ after))
-lines-are before [] bytes valid h = subst (λ lines. IsDraft (parts_of lines)) (sym (append-nil before)) h
-lines-are before (text ∷ after) bytes valid h =
+lines-are : (before after : List (List ℕ)) → AreValid (before ++ after) → IsDraft (parts_of before) → IsDraft (parts_of (before ++ after))
+lines-are before [] valid h = subst (λ lines. IsDraft (parts_of lines)) (sym (append-nil before)) h
+lines-are before (text ∷ after) valid h =
     let none : error_after (parts_of before) text ≡ None = sym (error-here before text after) ∙ valid (length before) in
     let grown = append_assoc before (text ∷ []) after in
     subst (λ lines. IsDraft (parts_of lines)) grown
-    (lines-are (before ++ text ∷ []) after (All-tail (All (λ x. ¬ (x ≡ 10))) text after bytes) (subst AreValid (sym grown) valid)
-    (subst IsDraft (sym (parts-more before text none)) (line-is (parts_of before) text (All-head (All (λ x. ¬ (x ≡ 10))) text after bytes) h none)))
-
-returned : (text : List ℕ) → All (λ x. ¬ (x ≡ 10)) text → All (λ x. ¬ (x ≡ 10)) (without_return text)
-unfolding first_bytes
-returned text h = either (eqb (slice_index text (length text - 1)) 13) _ _ (All-take (λ x. ¬ (x ≡ 10)) (length text - 1) text h) h
-  where
-    either : (b : Bool) (xs ys : List ℕ) → All (λ x. ¬ (x ≡ 10)) xs → All (λ x. ¬ (x ≡ 10)) ys → All (λ x. ¬ (x ≡ 10)) (cond b xs ys)
-    either true xs ys h k = h
-    either false xs ys h k = k
-
-all-returned : (texts : List (List ℕ)) → All (All (λ x. ¬ (x ≡ 10))) texts → All (All (λ x. ¬ (x ≡ 10))) (map without_return texts)
-all-returned [] h = All-nil (All (λ x. ¬ (x ≡ 10)))
-all-returned (text ∷ texts) h =
-    All-cons (All (λ x. ¬ (x ≡ 10))) (without_return text) (map without_return texts) (returned text (All-head (All (λ x. ¬ (x ≡ 10))) text texts h))
-    (all-returned texts (All-tail (All (λ x. ¬ (x ≡ 10))) text texts h))
+    (lines-are (before ++ text ∷ []) after (subst AreValid (sym grown) valid) (subst IsDraft (sym (parts-more before text none)) (line-is (parts_of before) text h none)))
 
 -- ---- the whole
 finished-is : (d : SetDraft) (v : DateOrTime) → d.start ≡ Some v → IsDraft d → IsSpelledSet (parts_from d v)
@@ -290,6 +280,5 @@ finished-is d v e h = record {
 
 pub set-is : (text : List ℕ) (p : SetParts) → SaysSet (lines_of text) p → IsSpelledSet p
 set-is text p says =
-    let bytes = all-returned (parts_at 10 text) (λ k d less i e more. (parts-bytes (λ x. ⊤) 10 text (λ k d less. tt) k d less i e more).1) in
     let none : IsDraft (parts_of []) = record { start = tt; recurrence = tt; each_date = All-nil IsDateOrTime; each_exception = All-nil IsDateOrTime; zone = tt } in
-    subst IsSpelledSet (sym says.is) (finished-is (parts_of (lines_of text)) p.start says.start (lines-are [] (lines_of text) bytes says.valid none))
+    subst IsSpelledSet (sym says.is) (finished-is (parts_of (lines_of text)) p.start says.start (lines-are [] (lines_of text) says.valid none))

@@ -5,6 +5,7 @@ pub mod Digits
 pub mod Listed
 pub mod Marked
 pub mod Avoided
+pub mod Outside
 pub mod ReadValues
 pub mod ReadWords
 pub mod ReadDates

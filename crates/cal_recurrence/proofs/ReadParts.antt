@@ -289,7 +289,7 @@ unnamed : (r : Recurrence) → AreFew r → IsSpelled r → recurrence_of (text_
 unnamed r few h =
     ap (λ b. cond b (parts_say 6 (parts_at 59 (bytes_after 6 (text_of r)))) (parts_say 0 (parts_at 59 (text_of r)))) (no-name r) ∙ says-it 0 r few h
 
-after-name : (text : List ℕ) → recurrence_of (codes "RRULE:" ++ text) ≡ parts_say 6 (parts_at 59 text)
+pub after-name : (text : List ℕ) → recurrence_of (codes "RRULE:" ++ text) ≡ parts_say 6 (parts_at 59 text)
 unfolding first_bytes bytes_after
 after-name text =
     let long : nat_le 6 (length (codes "RRULE:" ++ text)) ≡ true = grind (arith, nat_tests) in

@@ -9,8 +9,7 @@ use Rattle.std.proofs.lemmas.Grind.{flat_map-append}
 use Rattle.std.proofs.lemmas.List.{take_at, take-append-le}
 use Rattle.std.proofs.lemmas.List.Elements.{filter_map-append}
 use Rattle.std.proofs.lemmas.Option.{slice_get_past}
-use Rattle.cal_recurrence.specs.SetText.{all_name, error_after, error_at, error_unless, is_local, is_named, kind_of, listed_on, parameters_on, parts_of, rule_on, start_on, unless_error, value_error, value_on, values_on, with_line, with_value, with_zone, zone_error, zone_on, AreValid}
-use Rattle.cal_recurrence.specs.Text.{recurrence_of}
+use Rattle.cal_recurrence.specs.SetText.{all_name, error_after, error_at, error_unless, is_local, is_named, kind_of, listed_on, parameters_on, parts_of, recurrence_on, rule_on, start_on, unless_error, value_error, value_on, values_on, with_line, with_value, with_zone, zone_error, zone_on, AreValid}
 use Rattle.cal_recurrence.specs.declared.date_or_time.DateOrTime.{DateOrTime}
 use Rattle.cal_recurrence.specs.declared.recurrence.Recurrence.{Recurrence}
 use Rattle.cal_recurrence.specs.declared.set_draft.SetDraft.{SetDraft}
@@ -93,7 +92,7 @@ all-said f before text = flat_map-append f before (text ∷ []) ∙ ap (λ xs. f
 abbrev after_by : SetDraft → List ℕ → Option SetLine → SetDraft
 after_by said text o = record {
   start = option_or said.start (cond (is_named line.Start o) (value_on text) None);
-  recurrence = option_or said.recurrence (cond (is_named line.Rule o) (result_ok (recurrence_of text)) None);
+  recurrence = option_or said.recurrence (cond (is_named line.Rule o) (result_ok (recurrence_on text)) None);
   dates = said.dates ++ cond (is_named line.Dates o) (unwrap_or (values_on text) []) [];
   exceptions = said.exceptions ++ cond (is_named line.Exceptions o) (unwrap_or (values_on text) []) [];
   zone = option_or said.zone (zone_on text);
@@ -122,7 +121,7 @@ unfolding make
 after-kind said text line.Start e =
     all-same _ _ _ _ _ _ _ _ _ _ (or-other said.start (value_on text) (no-value said.start _ (first-none _ _ e))) (or-none said.recurrence) (append-nil said.dates) (append-nil said.exceptions) refl
 after-kind said text line.Rule e =
-    all-same _ _ _ _ _ _ _ _ _ _ (or-none said.start) (or-other said.recurrence (result_ok (recurrence_of text)) (no-value said.recurrence _ (first-none _ _ e))) (append-nil said.dates) (append-nil said.exceptions) refl
+    all-same _ _ _ _ _ _ _ _ _ _ (or-none said.start) (or-other said.recurrence (result_ok (recurrence_on text)) (no-value said.recurrence _ (first-none _ _ e))) (append-nil said.dates) (append-nil said.exceptions) refl
 after-kind said text line.Dates e = all-same _ _ _ _ _ _ _ _ _ _ (or-none said.start) (or-none said.recurrence) refl (append-nil said.exceptions) refl
 after-kind said text line.Exceptions e = all-same _ _ _ _ _ _ _ _ _ _ (or-none said.start) (or-none said.recurrence) (append-nil said.dates) refl refl
 

@@ -1,24 +1,25 @@
 -- The lines of a set that was written, read back one after another.
-use Rattle.std.proofs.Common.{◌≡◌, ℕ, ◌+◌, ◌-◌, ◌≤◌, Bool, true, false, cond, eqb, List, [], ◌∷◌, ◌++◌, append-nil, append_assoc, length, length-append, map, take, Option, Some, None, Result, Ok, inl, inr, refl, sym, ap, subst, ◌∙◌, arith}
-use Rattle.std.specs.Prelude.{◌⊎◌, ⊤, codes, bytes_eq, slice_index, is_some, unwrap_or, IfSome, option_map, option_and_then, ◌&&◌, ◌||◌}
+use Rattle.std.proofs.Common.{◌≡◌, ℕ, ◌+◌, ◌-◌, ◌<◌, ◌≤◌, Bool, true, false, cond, eqb, not, List, [], ◌∷◌, ◌++◌, append-nil, append_assoc, length, length-append, map, take, Option, Some, None, Result, Ok, Err, inl, inr, refl, sym, ap, subst, ◌∙◌, arith}
+use Rattle.std.specs.Prelude.{◌⊎◌, ⊤, codes, bytes_eq, nat_le, nat_lt, slice_index, is_some, unwrap_or, IfSome, option_map, option_and_then, ◌&&◌, ◌||◌}
 use Rattle.std.specs.List.{All, list_any}
 use Rattle.std.specs.Option.{option_map_or, option_or}
 use Rattle.std.specs.Result.{result_err, result_ok}
-use Rattle.std.proofs.lemmas.Bool.{and_from, cases_Bool, false≢true, ne_eqb}
+use Rattle.std.proofs.lemmas.Bool.{and_from, and_parts, cases_Bool, false≢true, ne_eqb}
 use Rattle.std.proofs.lemmas.Bool.Decides.{nat_tests}
 use Rattle.std.proofs.lemmas.List.{get_or_at, take_at}
 use Rattle.std.proofs.lemmas.List.Folds.{list_any-append}
 use Rattle.std.proofs.lemmas.List.Elements.{All-head, All-tail}
 use Rattle.std.proofs.lemmas.Slice.Eq.{bytes_eq-Decides}
 use Rattle.cal_recurrence.specs.Buffers.{IsPut}
-use Rattle.cal_recurrence.specs.SetText.{after_first_part, all_allow, all_name, error_after, error_unless, first_zone, has_room, if_allowed, is_local, kind_of, line_of, lines_of, list_error, parameters_of, parameters_on, parts_from, parts_of, unless_error, value_error, value_of, value_on, values_on, with_line, with_value, with_zone, without_return, zone_error, zone_on, AreValid, SaysSet}
+use Rattle.cal_recurrence.specs.SetText.{after_first_part, all_allow, all_name, error_after, error_unless, first_zone, has_room, if_allowed, is_local, is_name_byte, is_zone_name, kind_of, line_of, lines_of, list_error, parameters_of, parameters_on, parts_from, parts_of, recurrence_on, unless_error, unquoted, value_error, value_of, value_on, values_on, with_line, with_value, with_zone, without_return, zone_error, zone_on, AreValid, SaysSet}
 use Rattle.cal_recurrence.specs.SetWritten.{head_text, is_same_kind, line_end, more_text, parameter_text, set_text, values_text, IsSpelledSet, IsZoneOf}
 use Rattle.cal_recurrence.specs.Spelled.{IsDateOrTime, IsSpelled}
-use Rattle.cal_recurrence.specs.Text.{list_of, recurrence_of, ReadsBack}
-use Rattle.cal_recurrence.specs.Words.{first_bytes, front_at, parts_at, rest_at}
+use Rattle.cal_recurrence.specs.Text.{fault, list_of, parts_say, ReadsBack}
+use Rattle.cal_recurrence.specs.Words.{first_bytes, front_outside, parts_at, rest_outside}
 use Rattle.cal_recurrence.specs.Written.{date_or_time_text, list_text, text_of}
 use Rattle.cal_recurrence.specs.declared.date_or_time.DateOrTime.{DateOrTime}
 use Rattle.cal_recurrence.specs.declared.date_or_time.DateOrTime.TheVariants.{Date, Local, Utc}
+use Rattle.cal_recurrence.specs.declared.fault.ParseRuleErrorKind.TheVariants.{Unknown as UnknownPart}
 use Rattle.cal_recurrence.specs.declared.recurrence.Recurrence.{Recurrence}
 use Rattle.cal_recurrence.specs.declared.set_fault.ParseSetErrorKind.{ParseSetErrorKind}
 use Rattle.cal_recurrence.specs.declared.set_fault.ParseSetErrorKind.TheVariants.{OtherZone, Rule, TooMany, Unknown, Value}
@@ -26,8 +27,10 @@ use Rattle.cal_recurrence.specs.declared.set_fault.SetLine.{SetLine}
 use Rattle.cal_recurrence.specs.declared.set_fault.SetLine.TheVariants as line
 use Rattle.cal_recurrence.specs.declared.set_draft.SetDraft.{SetDraft}
 use Rattle.cal_recurrence.specs.declared.set_parts.SetParts.{SetParts}
-use Rattle.cal_recurrence.proofs.Avoided.{avoids, avoids-append, avoids-cons, cut-here, cut-nowhere, from-all, front-here, front-nowhere, rest-here}
+use Rattle.cal_recurrence.proofs.Avoided.{avoids, avoids-append, avoids-cons, cut-here, from-all}
+use Rattle.cal_recurrence.proofs.Outside.{cut-outside, cut-plain, front-outside, front-plain, rest-outside}
 use Rattle.cal_recurrence.proofs.ReadDates.{date-word}
+use Rattle.cal_recurrence.proofs.ReadParts.{after-name}
 use Rattle.cal_recurrence.proofs.SaidLines.{ok-from, parts-more, some_local, valid-more}
 use Rattle.cal_recurrence.proofs.ReadValues.{IsWord, AreWords, cut, joined, length-map, list-value, no-feed}
 
@@ -65,12 +68,52 @@ one-line draft more text rest p plain put h before valid is =
 -- the bytes that end lines, heads and parameters are not in the text
 record IsName (text : List ℕ) : Type 0 where
   feed : avoids 10 text ≡ true
+  mark : avoids 34 text ≡ true
   colon : avoids 58 text ≡ true
   semicolon : avoids 59 text ≡ true
 
 abbrev IsZone : Option (List ℕ) → Type 0
 IsZone None = ⊤
-IsZone (Some tzid) = IsName tzid
+IsZone (Some tzid) = is_zone_name tzid ≡ true
+
+avoided : (byte : ℕ) (text : List ℕ) → ((x : ℕ) → is_name_byte x ≡ true → eqb x byte ≡ false) → is_zone_name text ≡ true → avoids byte text ≡ true
+avoided byte [] other h = refl
+avoided byte (x ∷ xs) other h =
+    let both = and_parts (is_name_byte x) (is_zone_name xs) h in
+    avoids-cons byte x xs (other x both.0) (avoided byte xs other both.1)
+
+zone-name : (tzid : List ℕ) → is_zone_name tzid ≡ true → IsName tzid
+zone-name tzid h = record {
+  feed = avoided 10 tzid (λ x e. (others (eqb x 10) (eqb x 34) (eqb x 58) (eqb x 59) e).0) h;
+  mark = avoided 34 tzid (λ x e. (others (eqb x 10) (eqb x 34) (eqb x 58) (eqb x 59) e).1.0) h;
+  colon = avoided 58 tzid (λ x e. (others (eqb x 10) (eqb x 34) (eqb x 58) (eqb x 59) e).1.1.0) h;
+  semicolon = avoided 59 tzid (λ x e. (others (eqb x 10) (eqb x 34) (eqb x 58) (eqb x 59) e).1.1.1) h;
+}
+  where
+    others : (a b c d : Bool) → not a && (not b && (not c && not d)) ≡ true → (a ≡ false) × ((b ≡ false) × ((c ≡ false) × (d ≡ false)))
+    others false false false false e = (refl, (refl, (refl, refl)))
+    others false false false true e = absurd (false≢true e)
+    others false false true d e = absurd (false≢true e)
+    others false true c d e = absurd (false≢true e)
+    others true b c d e = absurd (false≢true e)
+
+-- such a name is in no quotation marks
+bare-zone : (tzid : List ℕ) → is_zone_name tzid ≡ true → unquoted tzid ≡ tzid
+bare-zone [] h = refl
+bare-zone (x ∷ xs) h =
+    let whole = x ∷ xs in
+    let last = eqb (slice_index whole (length whole - 1)) 34 in
+    let first : eqb x 34 ≡ false = plain (eqb x 34) (avoids 34 xs) (zone-name whole h).mark in
+    ap (λ t. cond (nat_le 2 (length whole) && (t && last)) (take (length whole - 2) xs) whole) first
+    ∙ ap (λ t. cond t (take (length whole - 2) xs) whole) (and-false (nat_le 2 (length whole)))
+  where
+    plain : (a b : Bool) → cond a false b ≡ true → a ≡ false
+    plain true b e = absurd (false≢true e)
+    plain false b e = refl
+
+    and-false : (b : Bool) → b && false ≡ false
+    and-false true = refl
+    and-false false = refl
 
 -- the parameters of a line with such a value
 abbrev parameters : Option (List ℕ) → DateOrTime → List (List ℕ)
@@ -81,39 +124,43 @@ parameters tzid (Utc z) = []
 
 record IsHead (name head : List ℕ) (its : List (List ℕ)) : Type 0 where
   feed : avoids 10 head ≡ true
+  mark : avoids 34 head ≡ true
   colon : avoids 58 head ≡ true
-  named : front_at 59 head ≡ name
+  named : front_outside 59 head ≡ name
   parameters : parameters_of head ≡ its
 
 one-parameter : (name parameter : List ℕ) → IsName name → IsName parameter → IsHead name (name ++ 59 ∷ parameter) (parameter ∷ [])
 one-parameter name parameter h p = record {
   feed = avoids-append 10 name (59 ∷ parameter) h.feed (avoids-cons 10 59 parameter refl p.feed);
+  mark = avoids-append 34 name (59 ∷ parameter) h.mark (avoids-cons 34 59 parameter refl p.mark);
   colon = avoids-append 58 name (59 ∷ parameter) h.colon (avoids-cons 58 59 parameter refl p.colon);
-  named = front-here 59 name parameter h.semicolon;
-  parameters = ap after_first_part (cut-here 59 name parameter h.semicolon ∙ ap (λ texts. name ∷ texts) (cut-nowhere 59 parameter p.semicolon));
+  named = front-outside 59 name parameter h.semicolon h.mark;
+  parameters = ap after_first_part (cut-outside 59 name parameter h.semicolon h.mark ∙ ap (λ texts. name ∷ texts) (cut-plain 59 parameter p.semicolon p.mark));
 }
 
 no-parameter : (name : List ℕ) → IsName name → IsHead name (name ++ []) []
 no-parameter name h =
     subst (λ head. IsHead name head []) (sym (append-nil name)) (record {
       feed = h.feed;
+      mark = h.mark;
       colon = h.colon;
-      named = front-nowhere 59 name h.semicolon;
-      parameters = ap after_first_part (cut-nowhere 59 name h.semicolon);
+      named = front-plain 59 name h.semicolon h.mark;
+      parameters = ap after_first_part (cut-plain 59 name h.semicolon h.mark);
     })
 
 in-zone : (tzid : List ℕ) → IsName tzid → IsName (codes "TZID=" ++ tzid)
 in-zone tzid h = record {
   feed = avoids-append 10 (codes "TZID=") tzid refl h.feed;
+  mark = avoids-append 34 (codes "TZID=") tzid refl h.mark;
   colon = avoids-append 58 (codes "TZID=") tzid refl h.colon;
   semicolon = avoids-append 59 (codes "TZID=") tzid refl h.semicolon;
 }
 
 head-is : (name : List ℕ) (tzid : Option (List ℕ)) (v : DateOrTime) → IsName name → IsZone tzid
     → IsHead name (name ++ parameter_text tzid v) (parameters tzid v)
-head-is name tzid (Date n) h z = one-parameter name (codes "VALUE=DATE") h (record { feed = refl; colon = refl; semicolon = refl })
+head-is name tzid (Date n) h z = one-parameter name (codes "VALUE=DATE") h (record { feed = refl; mark = refl; colon = refl; semicolon = refl })
 head-is name None (Local y) h z = no-parameter name h
-head-is name (Some tzid) (Local y) h z = one-parameter name (codes "TZID=" ++ tzid) h (in-zone tzid z)
+head-is name (Some tzid) (Local y) h z = one-parameter name (codes "TZID=" ++ tzid) h (in-zone tzid (zone-name tzid z))
 head-is name tzid (Utc y) h z = no-parameter name h
 
 -- a line by its head and its value
@@ -121,17 +168,17 @@ record IsLine (whole : List ℕ) (its : SetLine) (texts : List (List ℕ)) (valu
   some : eqb (length whole) 0 ≡ false
   kind : kind_of whole ≡ Some its
   parameters : parameters_on whole ≡ texts
-  rest : rest_at 58 whole ≡ value
+  rest : rest_outside 58 whole ≡ value
 
 line-by : (name head value : List ℕ) (its : SetLine) (texts : List (List ℕ)) → IsHead name head texts → line_of name ≡ Some its → IsLine (head ++ 58 ∷ value) its texts value
 line-by name head value its texts h is =
     let whole = head ++ 58 ∷ value in
-    let front = front-here 58 head value h.colon in
+    let front = front-outside 58 head value h.colon h.mark in
     record {
       some = ne_eqb (length whole) 0 (λ e. omega (arith, e, length-append head (58 ∷ value)));
-      kind = ap (λ f. line_of (front_at 59 f)) front ∙ ap line_of h.named ∙ is;
+      kind = ap (λ f. line_of (front_outside 59 f)) front ∙ ap line_of h.named ∙ is;
       parameters = ap parameters_of front ∙ h.parameters;
-      rest = rest-here 58 head value h.colon;
+      rest = rest-outside 58 head value h.colon h.mark;
     }
 
 abbrev zone_error_in : Option (List ℕ) → List (List ℕ) → SetLine → Option ParseSetErrorKind
@@ -183,47 +230,48 @@ same-bytes tzid = and_from (bytes_eq tzid tzid) true ((bytes_eq-Decides tzid tzi
 abbrev IsZoned : SetLine → Option (List ℕ) → Option (List ℕ) → DateOrTime → Type 0
 IsZoned its tzid s v = (zone_error_in s (parameters tzid v) its ≡ None) × (option_or s (first_zone (parameters tzid v)) ≡ zone_after tzid s v)
 
-first-zone : (its : SetLine) (tzid : Option (List ℕ)) (v : DateOrTime) → IsZoned its tzid None v
-first-zone its tzid (Date n) = (refl, refl)
-first-zone its None (Local z) = (refl, refl)
-first-zone its (Some tzid) (Local z) = (rw (same-bytes tzid) refl, refl)
-first-zone its tzid (Utc z) = (refl, refl)
+first-zone : (its : SetLine) (tzid : Option (List ℕ)) (v : DateOrTime) → IsZone tzid → IsZoned its tzid None v
+first-zone its tzid (Date n) h = (refl, refl)
+first-zone its None (Local z) h = (refl, refl)
+first-zone its (Some tzid) (Local z) h = (ap (λ b. error_unless b (OtherZone its)) (same-bytes (unquoted tzid)), ap Some (bare-zone tzid h))
+first-zone its tzid (Utc z) h = (refl, refl)
 
-same-zone : (its : SetLine) (tzid : Option (List ℕ)) (v : DateOrTime) → IsZoned its tzid tzid v
-same-zone its None v = first-zone its None v
-same-zone its (Some tzid) (Date n) = (refl, refl)
-same-zone its (Some tzid) (Local z) = (rw (same-bytes tzid) refl, refl)
-same-zone its (Some tzid) (Utc z) = (refl, refl)
+same-zone : (its : SetLine) (tzid : Option (List ℕ)) (v : DateOrTime) → IsZone tzid → IsZoned its tzid tzid v
+same-zone its None v h = first-zone its None v h
+same-zone its (Some tzid) (Date n) h = (refl, refl)
+same-zone its (Some tzid) (Local z) h =
+    (ap (λ name. error_unless (bytes_eq name tzid && true) (OtherZone its)) (bare-zone tzid h) ∙ ap (λ b. error_unless b (OtherZone its)) (same-bytes tzid), refl)
+same-zone its (Some tzid) (Utc z) h = (refl, refl)
 
-zone-put : (its : SetLine) (tzid s : Option (List ℕ)) (v : DateOrTime) → Known tzid s → IsZoned its tzid s v
-zone-put its tzid s v (inl h) = subst (λ t. IsZoned its tzid t v) (sym h) (first-zone its tzid v)
-zone-put its tzid s v (inr h) = subst (λ t. IsZoned its tzid t v) (sym h) (same-zone its tzid v)
+zone-put : (its : SetLine) (tzid s : Option (List ℕ)) (v : DateOrTime) → IsZone tzid → Known tzid s → IsZoned its tzid s v
+zone-put its tzid s v z (inl h) = subst (λ t. IsZoned its tzid t v) (sym h) (first-zone its tzid v z)
+zone-put its tzid s v z (inr h) = subst (λ t. IsZoned its tzid t v) (sym h) (same-zone its tzid v z)
 
 -- ---- the values of a line
-allowed : (tzid : Option (List ℕ)) (v w : DateOrTime) → is_same_kind v w ≡ true → all_allow (parameters tzid v) w ≡ true
-allowed tzid (Date n) (Date m) h = refl
-allowed tzid (Date n) (Local z) h = absurd (false≢true h)
-allowed tzid (Date n) (Utc z) h = absurd (false≢true h)
-allowed None (Local y) w h = refl
-allowed (Some tzid) (Local y) (Date m) h = absurd (false≢true h)
-allowed (Some tzid) (Local y) (Local z) h = refl
-allowed (Some tzid) (Local y) (Utc z) h = absurd (false≢true h)
-allowed tzid (Utc y) w h = refl
+allowed : (tzid : Option (List ℕ)) (v w : DateOrTime) → IsZone tzid → is_same_kind v w ≡ true → all_allow (parameters tzid v) w ≡ true
+allowed tzid (Date n) (Date m) z h = refl
+allowed tzid (Date n) (Local y) z h = absurd (false≢true h)
+allowed tzid (Date n) (Utc y) z h = absurd (false≢true h)
+allowed None (Local y) w z h = refl
+allowed (Some tzid) (Local y) (Date m) z h = absurd (false≢true h)
+allowed (Some tzid) (Local y) (Local x) z h = ap (λ name. (is_zone_name name && true) && true) (bare-zone tzid z) ∙ ap (λ b. (b && true) && true) z
+allowed (Some tzid) (Local y) (Utc x) z h = absurd (false≢true h)
+allowed tzid (Utc y) w z h = refl
 
 same-kind : (v : DateOrTime) → is_same_kind v v ≡ true
 same-kind (Date n) = refl
 same-kind (Local z) = refl
 same-kind (Utc z) = refl
 
-kind-word : (tzid : Option (List ℕ)) (v w : DateOrTime) → is_same_kind v w ≡ true → IsDateOrTime w
+kind-word : (tzid : Option (List ℕ)) (v w : DateOrTime) → IsZone tzid → is_same_kind v w ≡ true → IsDateOrTime w
     → IsWord (value_of (parameters tzid v)) w (date_or_time_text w)
-kind-word tzid v w same is =
+kind-word tzid v w z same is =
     let word = date-word w is in
     record {
       feed = word.feed;
       comma = word.comma;
       semicolon = word.semicolon;
-      means = ap (option_and_then (if_allowed (parameters tzid v))) word.means ∙ ap (λ b. cond b (Some w) None) (allowed tzid v w same);
+      means = ap (option_and_then (if_allowed (parameters tzid v))) word.means ∙ ap (λ b. cond b (Some w) None) (allowed tzid v w z same);
     }
 
 -- the values of a line after the first, v
@@ -252,7 +300,7 @@ joined-and v ws w =
 record IsList (name : List ℕ) (its : SetLine) (to : List DateOrTime → Option (List ℕ) → SetDraft) : Type 0 where
   plain : IsName name
   means : line_of name ≡ Some its
-  puts : (ds ws : List DateOrTime) (s : Option (List ℕ)) (whole : List ℕ) → has_room (length ds) (rest_at 58 whole) ≡ true → values_on whole ≡ Some ws
+  puts : (ds ws : List DateOrTime) (s : Option (List ℕ)) (whole : List ℕ) → has_room (length ds) (rest_outside 58 whole) ≡ true → values_on whole ≡ Some ws
       → (value_error (to ds s) whole its ≡ None) × (with_value (to ds s) whole its ≡ to (ds ++ ws) s)
   zoned : (ds : List DateOrTime) (s t : Option (List ℕ)) → ((to ds s).zone ≡ s) × (record (to ds s) { zone = t } ≡ to ds t)
   locals : (ds ws : List DateOrTime) (s t : Option (List ℕ)) → some_local (to ds s) ≡ false → list_any is_local ws ≡ false → some_local (to (ds ++ ws) t) ≡ false
@@ -280,11 +328,11 @@ line-put name its to h tzid s v ws ds z known run few =
     let texts = parameters tzid v in
     let is = line-by name (head_of name tzid v) value its texts (head-is name tzid v h.plain z) h.means in
     let values : values_on whole ≡ Some (v ∷ ws) =
-    ap (λ ps. list_of (value_of ps) (rest_at 58 whole)) is.parameters ∙ ap (list_of (value_of texts)) is.rest
+    ap (λ ps. list_of (value_of ps) (rest_outside 58 whole)) is.parameters ∙ ap (list_of (value_of texts)) is.rest
     ∙ (list-value (value_of texts) date_or_time_text v ws run (omega (arith, few))).means in
     let puts = h.puts ds (v ∷ ws) s whole (ap (has_room (length ds)) is.rest ∙ room-for tzid v ws (length ds) run few) values in
     let zones = h.zoned (ds ++ v ∷ ws) s (zone_after tzid s v) in
-    line-done (to ds s) (to (ds ++ v ∷ ws) s) whole its texts value s (zone_after tzid s v) is (h.zoned ds s s).0 zones.0 puts.0 puts.1 (zone-put its tzid s v known)
+    line-done (to ds s) (to (ds ++ v ∷ ws) s) whole its texts value s (zone_after tzid s v) is (h.zoned ds s s).0 zones.0 puts.0 puts.1 (zone-put its tzid s v z known)
     ∙ ap Ok zones.1
 
 line-feed : (name : List ℕ) (tzid : Option (List ℕ)) (v : DateOrTime) (ws : List DateOrTime) → IsName name → IsZone tzid → IsRun tzid v ws
@@ -363,7 +411,7 @@ lines-read name its to h tzid z rest p all (w ∷ vs) s v ws ds known run kinds 
           append_assoc ds (v ∷ (ws ++ w ∷ [])) vs ∙ ap (λ more. ds ++ v ∷ more) (append_assoc ws (w ∷ []) vs) ∙ sym (append_assoc ds (v ∷ ws) (w ∷ vs)) ∙ same in
           subst (λ front. Reads (to ds s) (front ++ rest) p) longer
           (lines-read name its to h tzid z rest p all vs s v (ws ++ w ∷ []) ds known
-          (run.0, words-and (value_of (parameters tzid v)) date_or_time_text ws w run.1 (kind-word tzid v w alike is))
+          (run.0, words-and (value_of (parameters tzid v)) date_or_time_text ws w run.1 (kind-word tzid v w z alike is))
           (λ e. list_any-append is_local ws (w ∷ []) ∙ ap (λ b. b || (is_local w || false)) (kinds e) ∙ ap (λ b. b || false) (same-local v w alike ∙ e)) others same_more few reads)
       | inr apart ↦
           let next = more_text name tzid w vs in
@@ -376,7 +424,7 @@ lines-read name its to h tzid z rest p all (w ∷ vs) s v ws ds known run kinds 
           (one-line (to ds s) (to (ds ++ v ∷ ws) (zone_after tzid s v)) line ((line_with name tzid w [] ++ next) ++ rest) p (line-feed name tzid v ws h.plain z run)
           (line-put name its to h tzid s v ws ds z (known-zone-of name its to h tzid s ds known) run size)
           (lines-read name its to h tzid z rest p all vs (zone_after tzid s v) w [] (ds ++ v ∷ ws) (known-more name its to h tzid s v ws ds known kinds)
-          (kind-word tzid w w (same-kind w) is, tt) (λ e. refl) others (append_assoc (ds ++ v ∷ ws) (w ∷ []) vs ∙ same) few reads))
+          (kind-word tzid w w z (same-kind w) is, tt) (λ e. refl) others (append_assoc (ds ++ v ∷ ws) (w ∷ []) vs ∙ same) few reads))
     ]
 
 -- all values of a list
@@ -388,14 +436,14 @@ list-read : (name : List ℕ) (its : SetLine) (to : List DateOrTime → Option (
 list-read name its to h tzid z rest p [] s known are few reads = reads s known
 list-read name its to h tzid z rest p (v ∷ vs) s known are few reads =
     subst (λ head. Reads (to [] s) ((head ++ more_text name tzid v vs) ++ rest) p) (sym (head-line name tzid v))
-    (lines-read name its to h tzid z rest p (v ∷ vs) vs s v [] [] known (kind-word tzid v v (same-kind v) (All-head IsDateOrTime v vs are), tt) (λ e. refl)
+    (lines-read name its to h tzid z rest p (v ∷ vs) vs s v [] [] known (kind-word tzid v v z (same-kind v) (All-head IsDateOrTime v vs are), tt) (λ e. refl)
     (All-tail IsDateOrTime v vs are) refl few reads)
 
 -- ---- the whole
-list_named : (name : List ℕ) → avoids 10 name ≡ true → avoids 58 name ≡ true → avoids 59 name ≡ true → IsName name
-list_named name feed colon semicolon = record { feed = feed; colon = colon; semicolon = semicolon }
+list_named : (name : List ℕ) → avoids 10 name ≡ true → avoids 34 name ≡ true → avoids 58 name ≡ true → avoids 59 name ≡ true → IsName name
+list_named name feed mark colon semicolon = record { feed = feed; mark = mark; colon = colon; semicolon = semicolon }
 
-list-clean : (filled : ℕ) (whole : List ℕ) (its : SetLine) (ws : List DateOrTime) → has_room filled (rest_at 58 whole) ≡ true → values_on whole ≡ Some ws
+list-clean : (filled : ℕ) (whole : List ℕ) (its : SetLine) (ws : List DateOrTime) → has_room filled (rest_outside 58 whole) ≡ true → values_on whole ≡ Some ws
     → list_error filled whole its ≡ None
 list-clean filled whole its ws room values =
     ap (λ b. option_or (error_unless b (TooMany its)) (error_unless (is_some (values_on whole)) (Value its))) room ∙ ap (λ o. error_unless (is_some o) (Value its)) values
@@ -413,7 +461,7 @@ last-false false false false e h k = k
 
 dates-list : (start : DateOrTime) (r : Recurrence) → IsList (codes "RDATE") line.Dates (λ ds s. draft_of (Some start) (Some r) ds [] s)
 dates-list start r = record {
-  plain = list_named (codes "RDATE") refl refl refl;
+  plain = list_named (codes "RDATE") refl refl refl refl;
   means = refl;
   puts = λ ds ws s whole room values. (list-clean (length ds) whole line.Dates ws room values, ap (λ o. draft_of (Some start) (Some r) (ds ++ unwrap_or o []) [] s) values);
   zoned = λ ds s t. (refl, refl);
@@ -424,7 +472,7 @@ dates-list start r = record {
 exceptions-list : (start : DateOrTime) (r : Recurrence) (dates : List DateOrTime)
     → IsList (codes "EXDATE") line.Exceptions (λ ds s. draft_of (Some start) (Some r) dates ds s)
 exceptions-list start r dates = record {
-  plain = list_named (codes "EXDATE") refl refl refl;
+  plain = list_named (codes "EXDATE") refl refl refl refl;
   means = refl;
   puts = λ ds ws s whole room values.
       (list-clean (length ds) whole line.Exceptions ws room values, ap (λ o. draft_of (Some start) (Some r) dates (ds ++ unwrap_or o []) s) values);
@@ -442,26 +490,31 @@ start-put tzid start z is =
     let name = codes "DTSTART" in
     let value = joined date_or_time_text start [] in
     let whole = line_with name tzid start [] in
-    let word = kind-word tzid start start (same-kind start) is in
-    let split = line-by name (head_of name tzid start) value line.Start texts (head-is name tzid start (list_named name refl refl refl) z) refl in
+    let word = kind-word tzid start start z (same-kind start) is in
+    let split = line-by name (head_of name tzid start) value line.Start texts (head-is name tzid start (list_named name refl refl refl refl) z) refl in
     let means : value_on whole ≡ Some start =
-    ap (λ ps. value_of ps (rest_at 58 whole)) split.parameters ∙ ap (value_of texts) (split.rest ∙ append-nil (date_or_time_text start)) ∙ word.means in
+    ap (λ ps. value_of ps (rest_outside 58 whole)) split.parameters ∙ ap (value_of texts) (split.rest ∙ append-nil (date_or_time_text start)) ∙ word.means in
     line-done (parts_of []) (draft_of (Some start) None [] [] None) whole line.Start texts value None (zone_after tzid None start) split refl refl
-    (ap (λ o. error_unless (is_some o) (Value line.Start)) means) (ap (λ o. draft_of o None [] [] None) means) (first-zone line.Start tzid start)
+    (ap (λ o. error_unless (is_some o) (Value line.Start)) means) (ap (λ o. draft_of o None [] [] None) means) (first-zone line.Start tzid start z)
 
 -- the recurrence
-rule-put : (start : DateOrTime) (s : Option (List ℕ)) (r : Recurrence) (text : List ℕ) → recurrence_of (codes "RRULE:" ++ text) ≡ Ok r
+rule-put : (start : DateOrTime) (s : Option (List ℕ)) (r : Recurrence) (text : List ℕ) → parts_say 6 (parts_at 59 text) ≡ Ok r
     → put_line (draft_of (Some start) None [] [] s) (codes "RRULE:" ++ text) ≡ Ok (draft_of (Some start) (Some r) [] [] s)
 rule-put start s r text says =
     let whole : List ℕ = codes "RRULE:" ++ text in
     let name : List ℕ = codes "RRULE" in
-    line-done (draft_of (Some start) None [] [] s) (draft_of (Some start) (Some r) [] [] s) whole line.Rule [] text s s
-    (line-by name name text line.Rule [] (record { feed = refl; colon = refl; named = refl; parameters = refl }) refl) refl refl
-    (ap (λ o. option_map Rule (result_err o)) says) (ap (λ o. draft_of (Some start) (result_ok o) [] [] s) says) (no-zone s)
+    let is = line-by name name text line.Rule [] (record { feed = refl; mark = refl; colon = refl; named = refl; parameters = refl }) refl in
+    let read : recurrence_on whole ≡ Ok r =
+    ap (λ t. cond (t && true) (parts_say 6 (parts_at 59 text)) (Err (fault 0 UnknownPart))) (longer text) ∙ says in
+    line-done (draft_of (Some start) None [] [] s) (draft_of (Some start) (Some r) [] [] s) whole line.Rule [] text s s is refl refl
+    (ap (λ o. option_map Rule (result_err o)) read) (ap (λ o. draft_of (Some start) (result_ok o) [] [] s) read) (no-zone s)
   where
     no-zone : (s : Option (List ℕ)) → (zone_error_in s [] line.Rule ≡ None) × (option_or s None ≡ s)
     no-zone None = (refl, refl)
     no-zone (Some tzid) = (refl, refl)
+
+    longer : (text : List ℕ) → nat_lt 5 (length (codes "RRULE:" ++ text)) ≡ true
+    longer text = let more : 5 < length (codes "RRULE:" ++ text) = omega arith in grind (arith, nat_tests, more)
 
 -- ---- the zone at the end
 first-known : (tzid : Option (List ℕ)) (v : DateOrTime) → IsKnown tzid (draft_of (Some v) None [] [] (zone_after tzid None v))
@@ -477,11 +530,7 @@ zone-found p (Some name) s h (inr e) = absurd (false≢true (sym e.1 ∙ h.1))
 
 zone-is : (p : SetParts) (tzid : Option (List ℕ)) → IsZoneOf p tzid → IsZone tzid
 zone-is p None h = tt
-zone-is p (Some name) h = record {
-  feed = from-all 10 name (λ k d less. (h.0 k d less).0);
-  colon = from-all 58 name (λ k d less. (h.0 k d less).1.0);
-  semicolon = from-all 59 name (λ k d less. (h.0 k d less).1.1);
-}
+zone-is p (Some name) h = h.0
 
 -- ---- the set
 all-read : (p : SetParts) (s : Option (List ℕ)) → s ≡ p.zone → Reads (draft_of (Some p.start) (Some p.recurrence) p.dates p.exceptions s) [] p
@@ -511,15 +560,15 @@ set-reads p h back few less =
     let rule : List ℕ = codes "RRULE:" ++ text_of p.recurrence in
     let dates = values_text (codes "RDATE") tzid p.dates in
     let exceptions = values_text (codes "EXDATE") tzid p.exceptions in
-    let run : IsRun tzid p.start [] = (kind-word tzid p.start p.start (same-kind p.start) h.start, tt) in
-    let name = list_named start refl refl refl in
+    let run : IsRun tzid p.start [] = (kind-word tzid p.start p.start z (same-kind p.start) h.start, tt) in
+    let name = list_named start refl refl refl refl in
     let excepted = λ (s : Option (List ℕ)) (known : IsKnown tzid (draft_of (Some p.start) (Some p.recurrence) p.dates [] s)). list-read (codes "EXDATE") line.Exceptions (λ ds s. draft_of (Some p.start) (Some p.recurrence) p.dates ds s) (exceptions-list p.start p.recurrence p.dates) tzid z [] p p.exceptions s
     known h.each_exception less (λ t last. all-read p t (zone-found p tzid t h.zone last)) in
     let dated = list-read (codes "RDATE") line.Dates (λ ds s. draft_of (Some p.start) (Some p.recurrence) ds [] s) (dates-list p.start p.recurrence) tzid z (exceptions ++ []) p p.dates first
     (first-known tzid p.start) h.each_date few excepted in
     let ruled = one-line (draft_of (Some p.start) None [] [] first) (draft_of (Some p.start) (Some p.recurrence) [] [] first) rule (dates ++ (exceptions ++ [])) p
     (avoids-append 10 (codes "RRULE:") (text_of p.recurrence) refl (from-all 10 (text_of p.recurrence) back.one_line))
-    (rule-put p.start first p.recurrence (text_of p.recurrence) back.named) dated in
+    (rule-put p.start first p.recurrence (text_of p.recurrence) (sym (after-name (text_of p.recurrence)) ∙ back.named)) dated in
     let begun = one-line (parts_of []) (draft_of (Some p.start) None [] [] first) (line_with start tzid p.start []) (rule ++ 13 ∷ 10 ∷ (dates ++ (exceptions ++ []))) p
     (line-feed start tzid p.start [] name z run) (start-put tzid p.start z h.start) ruled in
     subst (λ text. SaysSet (lines_of text) p)

@@ -1,19 +1,23 @@
 -- The text of a recurrence set, after the properties of RFC 5545. Its lines end with a line feed
 -- (10), which a carriage return (13) can precede. Each has a name, parameters after `;` (59), `:`
--- (58) and a value, or a list of values separated by `,` (44).
-use Rattle.std.specs.Prelude.{◌≡◌, ◌⊎◌, ◌<◌, ℕ, ◌+◌, ◌-◌, ◌==◌, ◌&&◌, ◌||◌, nat_le, Bool, true, false, not, List, [], ◌∷◌, ◌++◌, codes, length, map, filter_map, take, slice_get, slice_index, Option, Some, None, option_map, option_and_then, is_some, unwrap_or, bytes_eq, Result, Ok, Err, MatchResult, if◌then◌else◌}
-use Rattle.std.specs.List.{flat_map}
+-- (58) and a value, or a list of values separated by `,` (44). The value of a parameter comes after
+-- `=` (61), and can have `;` and `:` in quotation marks (34).
+use Rattle.std.specs.Char.{is_ascii_alphanumeric}
+use Rattle.std.specs.Prelude.{◌≡◌, ◌⊎◌, ◌<◌, ℕ, ◌+◌, ◌-◌, ◌==◌, ◌&&◌, ◌||◌, nat_le, nat_lt, Bool, true, false, not, List, [], ◌∷◌, ◌++◌, codes, length, map, filter_map, take, drop, slice_get, slice_index, Option, Some, None, option_map, option_and_then, is_some, unwrap_or, bytes_eq, Result, Ok, Err, MatchResult, if◌then◌else◌}
+use Rattle.std.specs.List.{flat_map, list_all, list_any}
 use Rattle.std.specs.Option.{option_map_or, option_or}
 use Rattle.std.specs.Result.{result_err, result_ok}
 use Rattle.cal_schedule.specs.Pattern.{every}
 use Rattle.cal_schedule.specs.Values.{most_values}
 use Rattle.cal_schedule.specs.declared.rule.rule.Frequency.TheVariants.{Daily}
 use Rattle.cal_recurrence.specs.DateWords.{date_or_time_of}
-use Rattle.cal_recurrence.specs.Text.{list_of, recurrence_of}
+use Rattle.cal_recurrence.specs.Text.{fault, list_of, parts_say}
 use Rattle.cal_recurrence.specs.TimesOfDay.{no_times}
-use Rattle.cal_recurrence.specs.Words.{first_bytes, is_alike, parts_at, front_at, rest_at}
+use Rattle.cal_recurrence.specs.Words.{first_bytes, is_alike, parts_at, front_at, rest_at, front_outside, parts_outside, rest_outside}
 use Rattle.cal_recurrence.specs.declared.date_or_time.DateOrTime.{DateOrTime}
 use Rattle.cal_recurrence.specs.declared.date_or_time.DateOrTime.TheVariants.{Date, Local, Utc}
+use Rattle.cal_recurrence.specs.declared.fault.ParseRuleError.{ParseRuleError}
+use Rattle.cal_recurrence.specs.declared.fault.ParseRuleErrorKind.TheVariants.{Unknown as UnknownPart}
 use Rattle.cal_recurrence.specs.declared.recurrence.Recurrence.{Recurrence}
 use Rattle.cal_recurrence.specs.declared.recurrence.RuleEnd.TheVariants.{Count}
 use Rattle.cal_recurrence.specs.declared.set_fault.ParseSetError.{ParseSetError}
@@ -24,9 +28,48 @@ use Rattle.cal_recurrence.specs.declared.set_fault.SetLine.TheVariants as line
 use Rattle.cal_recurrence.specs.declared.set_draft.SetDraft.{SetDraft}
 use Rattle.cal_recurrence.specs.declared.set_parts.SetParts.{SetParts}
 
+-- ---- parameters
+-- The bytes between two quotation marks, or the whole text without them at its ends.
+abbrev pub unquoted : List ℕ → List ℕ
+unquoted text = if nat_le 2 (length text) && ((slice_index text 0 == 34) && (slice_index text (length text - 1) == 34)) then take (length text - 2) (drop 1 text) else text
+
+-- A parameter gives the name of a zone: its name is `TZID`.
+abbrev pub names_zone : List ℕ → Bool
+names_zone parameter = is_alike (front_at 61 parameter) (codes "TZID")
+
+-- The name of a zone that a parameter gives.
+abbrev pub zone_in : List ℕ → List ℕ
+zone_in parameter = unquoted (rest_at 61 parameter)
+
+-- A byte that the name of a zone can have: it ends no line, value, head or parameter.
+abbrev pub is_name_byte : ℕ → Bool
+is_name_byte byte = not (byte == 10) && (not (byte == 34) && (not (byte == 58) && not (byte == 59)))
+
+-- A name of a zone.
+abbrev pub is_zone_name : List ℕ → Bool
+is_zone_name name = list_all is_name_byte name
+
+-- A byte of the name of a parameter: an ASCII letter or digit, or `-` (45).
+abbrev pub is_token_byte : ℕ → Bool
+is_token_byte byte = is_ascii_alphanumeric byte || (byte == 45)
+
+-- A name of a parameter.
+abbrev pub is_token : List ℕ → Bool
+is_token name = not (length name == 0) && list_all is_token_byte name
+
+-- The name of a parameter that readers know.
+abbrev pub is_known : List ℕ → Bool
+is_known name = is_alike name (codes "VALUE") || is_alike name (codes "TZID")
+
+-- A parameter that readers ignore: one with a name that they don't know, `=` and a value.
+abbrev pub is_ignored : List ℕ → Bool
+is_ignored parameter =
+    let name = front_at 61 parameter in
+    list_any (λ b. b == 61) parameter && (is_token name && not (is_known name))
+
 -- ---- values
--- A parameter allows a value: `VALUE=DATE` a date, `VALUE=DATE-TIME` a reading, and `TZID` with the
--- name of a zone a reading without `Z`.
+-- A parameter allows a value: `VALUE=DATE` a date, `VALUE=DATE-TIME` a reading, `TZID` with the name
+-- of a zone a reading without `Z`, and a parameter that readers ignore each value.
 abbrev pub is_date : DateOrTime → Bool
 is_date (Date n) = true
 is_date (Local z) = false
@@ -41,7 +84,8 @@ abbrev pub allows : List ℕ → DateOrTime → Bool
 allows parameter value =
     if is_alike parameter (codes "VALUE=DATE") then is_date value else
     if is_alike parameter (codes "VALUE=DATE-TIME") then not (is_date value) else
-    is_alike (front_at 61 parameter) (codes "TZID") && is_local value
+    if names_zone parameter then is_zone_name (zone_in parameter) && is_local value else
+    is_ignored parameter
 
 -- The parts after the first.
 abbrev pub after_first_part : List (List ℕ) → List (List ℕ)
@@ -50,7 +94,7 @@ after_first_part (name ∷ parameters) = parameters
 
 -- The parameters of a line, which come after its name.
 abbrev pub parameters_of : List ℕ → List (List ℕ)
-parameters_of head = after_first_part (parts_at 59 head)
+parameters_of head = after_first_part (parts_outside 59 false head)
 
 -- Each parameter allows a value.
 abbrev pub all_allow : List (List ℕ) → DateOrTime → Bool
@@ -89,7 +133,7 @@ line_of word =
 
 -- The kind of a line, by its name.
 abbrev pub kind_of : List ℕ → Option SetLine
-kind_of text = line_of (front_at 59 (front_at 58 text))
+kind_of text = line_of (front_outside 59 (front_outside 58 text))
 
 -- A line has this name.
 abbrev pub is_named : SetLine → Option SetLine → Bool
@@ -101,29 +145,41 @@ is_named its other = false
 
 -- The parameters of a line, which come after its name.
 abbrev pub parameters_on : List ℕ → List (List ℕ)
-parameters_on text = parameters_of (front_at 58 text)
+parameters_on text = parameters_of (front_outside 58 text)
 
 -- The value of a line, if its parameters allow it.
 abbrev pub value_on : List ℕ → Option DateOrTime
-value_on text = value_of (parameters_on text) (rest_at 58 text)
+value_on text = value_of (parameters_on text) (rest_outside 58 text)
 
 -- The values of a line with commas between them, if its parameters allow each.
 abbrev pub values_on : List ℕ → Option (List DateOrTime)
-values_on text = list_of (value_of (parameters_on text)) (rest_at 58 text)
+values_on text = list_of (value_of (parameters_on text)) (rest_outside 58 text)
 
--- The name of a zone that a parameter gives: the value of TZID.
-abbrev pub names_zone : List ℕ → Bool
-names_zone parameter = is_alike (front_at 61 parameter) (codes "TZID")
+-- Readers ignore each parameter.
+abbrev pub all_ignored : List (List ℕ) → Bool
+all_ignored [] = true
+all_ignored (parameter ∷ parameters) = is_ignored parameter && all_ignored parameters
+
+-- A line has a value: `:` comes after its head.
+abbrev pub has_value : List ℕ → Bool
+has_value text = nat_lt (length (front_outside 58 text)) (length text)
+
+-- The recurrence of a line, or its first error, at a position from the start of the line. A line with
+-- a parameter that readers don't ignore is an unknown part.
+abbrev pub recurrence_on : List ℕ → Result Recurrence ParseRuleError
+recurrence_on text =
+    if has_value text && all_ignored (parameters_on text) then parts_say (length (front_outside 58 text) + 1) (parts_at 59 (rest_outside 58 text))
+    else Err (fault 0 UnknownPart)
 
 -- The first name of a zone among some parameters.
 abbrev pub first_zone : List (List ℕ) → Option (List ℕ)
 first_zone [] = None
-first_zone (parameter ∷ parameters) = if names_zone parameter then Some (rest_at 61 parameter) else first_zone parameters
+first_zone (parameter ∷ parameters) = if names_zone parameter then Some (zone_in parameter) else first_zone parameters
 
 -- Each name of a zone among some parameters is this one.
 abbrev pub all_name : List (List ℕ) → List ℕ → Bool
 all_name [] zone = true
-all_name (parameter ∷ parameters) zone = (not (names_zone parameter) || bytes_eq (rest_at 61 parameter) zone) && all_name parameters zone
+all_name (parameter ∷ parameters) zone = (not (names_zone parameter) || bytes_eq (zone_in parameter) zone) && all_name parameters zone
 
 -- ---- the parts that lines say
 -- The start that a line says.
@@ -132,7 +188,7 @@ start_on text = if is_named line.Start (kind_of text) then value_on text else No
 
 -- The recurrence that a line says.
 abbrev pub rule_on : List ℕ → Option Recurrence
-rule_on text = if is_named line.Rule (kind_of text) then result_ok (recurrence_of text) else None
+rule_on text = if is_named line.Rule (kind_of text) then result_ok (recurrence_on text) else None
 
 -- The values that a line with this name says.
 abbrev pub listed_on : SetLine → List ℕ → List DateOrTime
@@ -161,12 +217,12 @@ error_unless passes why = if passes then None else Some why
 -- The error in the values of a line, if there are already `filled` values: too many in all, or an
 -- invalid one.
 abbrev pub list_error : ℕ → List ℕ → SetLine → Option ParseSetErrorKind
-list_error filled text its = option_or (error_unless (has_room filled (rest_at 58 text)) (TooMany its)) (error_unless (is_some (values_on text)) (Value its))
+list_error filled text its = option_or (error_unless (has_room filled (rest_outside 58 text)) (TooMany its)) (error_unless (is_some (values_on text)) (Value its))
 
 -- The error in the value of a line after lines that say some parts.
 abbrev pub value_error : SetDraft → List ℕ → SetLine → Option ParseSetErrorKind
 value_error said text line.Start = option_or (error_unless (not (is_some said.start)) (Twice line.Start)) (error_unless (is_some (value_on text)) (Value line.Start))
-value_error said text line.Rule = option_or (error_unless (not (is_some said.recurrence)) (Twice line.Rule)) (option_map Rule (result_err (recurrence_of text)))
+value_error said text line.Rule = option_or (error_unless (not (is_some said.recurrence)) (Twice line.Rule)) (option_map Rule (result_err (recurrence_on text)))
 value_error said text line.Dates = list_error (length said.dates) text line.Dates
 value_error said text line.Exceptions = list_error (length said.exceptions) text line.Exceptions
 
@@ -230,7 +286,7 @@ IsSetOf text result = MatchResult result (SaysSet (lines_of text)) (λ e. IsLine
 -- The parts with the value of one more line.
 abbrev pub with_value : SetDraft → List ℕ → SetLine → SetDraft
 with_value said text line.Start = record said { start = value_on text }
-with_value said text line.Rule = record said { recurrence = result_ok (recurrence_of text) }
+with_value said text line.Rule = record said { recurrence = result_ok (recurrence_on text) }
 with_value said text line.Dates = record said { dates = said.dates ++ unwrap_or (values_on text) [] }
 with_value said text line.Exceptions = record said { exceptions = said.exceptions ++ unwrap_or (values_on text) [] }
 

@@ -2,7 +2,7 @@
 -- (RFC 5545). Each line ends with a carriage return (13) and a line feed (10).
 use Rattle.std.specs.Prelude.{◌≡◌, ⊤, true, ℕ, ◌||◌, ◌&&◌, Bool, not, List, [], ◌∷◌, ◌++◌, codes, Option, Some, None, if◌then◌else◌}
 use Rattle.std.specs.List.{All, list_any}
-use Rattle.cal_recurrence.specs.SetText.{is_date, is_local}
+use Rattle.cal_recurrence.specs.SetText.{is_date, is_local, is_zone_name}
 use Rattle.cal_recurrence.specs.Spelled.{IsDateOrTime, IsSpelled}
 use Rattle.cal_recurrence.specs.Written.{date_or_time_text, text_of}
 use Rattle.cal_recurrence.specs.declared.date_or_time.DateOrTime.{DateOrTime}
@@ -52,10 +52,6 @@ set_text p =
     ++ values_text (codes "RDATE") p.zone p.dates ++ values_text (codes "EXDATE") p.zone p.exceptions
 
 -- ---- sets that a text can have
--- The name of a zone avoids the bytes that end a line (10), a head (58) or a parameter (59).
-abbrev pub IsNameByte : ℕ → Type 0
-IsNameByte byte = ¬ (byte ≡ 10) × (¬ (byte ≡ 58) × ¬ (byte ≡ 59))
-
 -- A value is a reading without `Z`.
 abbrev pub has_local : SetParts → Bool
 has_local p = is_local p.start || (list_any is_local p.dates || list_any is_local p.exceptions)
@@ -63,7 +59,7 @@ has_local p = is_local p.start || (list_any is_local p.dates || list_any is_loca
 -- Some line of a set names its zone.
 abbrev pub IsZoneOf : SetParts → Option (List ℕ) → Type 0
 IsZoneOf p None = ⊤
-IsZoneOf p (Some tzid) = All IsNameByte tzid × (has_local p ≡ true)
+IsZoneOf p (Some tzid) = (is_zone_name tzid ≡ true) × (has_local p ≡ true)
 
 -- A set that a text can have.
 pub record IsSpelledSet (p : SetParts) : Type 0 where

@@ -1,7 +1,7 @@
 -- The words of the text of a rule. Letters match in any case.
 use denote.Ref.{Bor}
-use Rattle.std.specs.Prelude.{ℕ, min, ◌-◌, nat_lt, nat_le, ◌==◌, ◌&&◌, Bool, ℤ, pos, neg_ℤ, List, [], length, take, drop, slice_index, Option, Some, None, option_map, option_and_then, codes, if◌then◌else◌}
-use Rattle.std.specs.List.{slice_split, before_first, after_first}
+use Rattle.std.specs.Prelude.{ℕ, min, ◌+◌, ◌-◌, nat_lt, nat_le, ◌==◌, ◌&&◌, Bool, false, not, ℤ, pos, neg_ℤ, List, [], ◌∷◌, length, take, drop, slice_index, Option, Some, None, option_map, option_and_then, codes, if◌then◌else◌}
+use Rattle.std.specs.List.{slice_split, before_first, after_first, onto_first}
 use Rattle.std.specs.Option.{option_zip}
 use Rattle.std.specs.Str.{all_ascii_digits, str_eq_ignore_ascii_case}
 use Rattle.std.specs.Str.Parse.{digits_value}
@@ -38,6 +38,34 @@ parts_left byte (Some rest) = parts_at byte rest.now
 abbrev pub bytes_left : Option (Bor (List ℕ)) → List ℕ
 bytes_left None = []
 bytes_left (Some rest) = rest.now
+
+-- ---- splitting outside quotation marks
+-- The bytes after byte x are in quotation marks (34): each mark begins or ends some.
+abbrev pub quoted_after : Bool → ℕ → Bool
+quoted_after quoted x = if x == 34 then not quoted else quoted
+
+-- The number of bytes before the first `byte` outside quotation marks, or of all bytes without one.
+abbrev pub place_outside : ℕ → Bool → List ℕ → ℕ
+place_outside byte quoted [] = 0
+place_outside byte quoted (x ∷ xs) = if not quoted && (x == byte) then 0 else 1 + place_outside byte (quoted_after quoted x) xs
+
+-- The bytes of a text before the first `byte` outside quotation marks, or the whole text.
+abbrev pub front_outside : ℕ → List ℕ → List ℕ
+front_outside byte text = take (place_outside byte false text) text
+
+-- The bytes of a text after the first `byte` outside quotation marks, or nothing.
+abbrev pub rest_outside : ℕ → List ℕ → List ℕ
+rest_outside byte text = drop (place_outside byte false text + 1) text
+
+-- The parts of a text between the bytes `byte` outside quotation marks.
+abbrev pub parts_outside : ℕ → Bool → List ℕ → List (List ℕ)
+parts_outside byte quoted [] = [] ∷ []
+parts_outside byte quoted (x ∷ xs) = if not quoted && (x == byte) then [] ∷ parts_outside byte false xs else onto_first x (parts_outside byte (quoted_after quoted x) xs)
+
+-- The parts of the bytes that are left, if there are any.
+abbrev pub parts_left_outside : ℕ → Option (Bor (List ℕ)) → List (List ℕ)
+parts_left_outside byte None = []
+parts_left_outside byte (Some rest) = parts_outside byte false rest.now
 
 -- The first `size` bytes.
 unfoldable pub first_bytes : ℕ → List ℕ → List ℕ

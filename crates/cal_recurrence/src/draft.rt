@@ -8,6 +8,7 @@ use crate::date_words::date_or_time_of;
 use crate::fault::{ParseRuleError, ParseRuleErrorKind, RulePart};
 use crate::lists::{has_few_words, values_of};
 use crate::recurrence::{Recurrence, RuleEnd};
+use crate::rule_count::RuleCount;
 use crate::times_of_day::TimesOfDay;
 use crate::words::{count_of, cut, frequency_of, part_of, weekday_of};
 use cal_schedule::{ByDay, Frequency, Pattern};
@@ -155,7 +156,8 @@ impl Draft {
                 Some(self)
             }
             RulePart::Count => {
-                self.recurrence.end = RuleEnd::Count(count_of(value, u32::MAX)?);
+                let count = RuleCount::from_positive(count_of(value, u32::MAX)?);
+                self.recurrence.end = RuleEnd::Count(count);
                 Some(self)
             }
         }

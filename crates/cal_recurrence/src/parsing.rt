@@ -40,7 +40,7 @@ pub fn parse(text: &[u8]) -> Result<Recurrence, ParseRuleError>
 }
 
 /// Parses the parts from byte `position` on.
-fn parse_parts(position: usize, text: &[u8]) -> Result<Recurrence, ParseRuleError>
+pub(crate) fn parse_parts(position: usize, text: &[u8]) -> Result<Recurrence, ParseRuleError>
     requires { position + length text.now < 2 ^ 64 }
     ensures value { result ≡ parts_say position (parts_at 59 text.now) }
     ensures spelled { IfOk result IsSpelled }

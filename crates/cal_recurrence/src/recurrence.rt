@@ -6,6 +6,7 @@ ghost use Rattle.cal_recurrence.specs.Days.{days_of, excluded, has_end, is_numbe
 
 use crate::date_or_time::DateOrTime;
 use crate::fault::RulePart;
+use crate::rule_count::RuleCount;
 use crate::times_of_day::TimesOfDay;
 use cal_date::day_number::to_date;
 use cal_schedule::{ByDay, Frequency, Pattern, Rule, RuleDays};
@@ -18,8 +19,8 @@ pub enum RuleEnd {
     Never,
     /// The last possible day or reading (`UNTIL`), which counts if the rule has it.
     Until(DateOrTime),
-    /// The number of days or readings (`COUNT`), from 1.
-    Count(u32),
+    /// The number of days or readings (`COUNT`).
+    Count(RuleCount),
 }
 
 /// A recurrence as in an `RRULE` of RFC 5545: a rule without its start.
@@ -146,7 +147,7 @@ impl Recurrence {
     {
         let rule = self.rule(start);
         match self.end {
-            RuleEnd::Count(count) => rule.first_days(count),
+            RuleEnd::Count(count) => rule.first_days(count.get()),
             RuleEnd::Never | RuleEnd::Until(_) => rule.days(),
         }
     }

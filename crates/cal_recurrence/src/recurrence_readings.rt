@@ -51,7 +51,7 @@ impl Recurrence {
     {
         let rule = self.date_time_rule(start);
         match self.end {
-            RuleEnd::Count(count) => rule.first_readings(count),
+            RuleEnd::Count(count) => rule.first_readings(count.get()),
             RuleEnd::Never | RuleEnd::Until(_) => rule.readings(),
         }
     }

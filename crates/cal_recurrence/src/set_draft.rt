@@ -1,19 +1,22 @@
 //! A recurrence set while it is parsed.
 ghost use Rattle.std.specs.Prelude.{◌≡◌, ◌+◌, ◌≤◌, ◌++◌, [], length, option_map, unwrap_or};
 ghost use Rattle.cal_schedule.specs.Values.{most_values};
-ghost use Rattle.cal_recurrence.specs.SetText.{all_allow, all_name, allows, error_after, first_zone, is_date, is_local, kind_of, line_of, list_error, once, parameters_of, parts_from, parts_of, unless_error, value_error, value_of, value_on, values_on, with_line, with_value, with_zone, zone_error, zone_on};
+ghost use Rattle.cal_recurrence.specs.SetText.{error_after, kind_of, line_of, list_error, once, parameters_of, parts_from, parts_of, recurrence_on, unless_error, value_error, value_of, value_on, values_on, with_line, with_value, with_zone, zone_error, zone_on};
 ghost use Rattle.cal_recurrence.specs.Text.{list_of};
-ghost use Rattle.cal_recurrence.specs.Words.{parts_at, rest_at};
+ghost use Rattle.cal_recurrence.specs.Words.{parts_at, rest_outside};
 
 use crate::date_or_time::DateOrTime;
 use crate::date_words::date_or_time_of;
+use crate::fault::{ParseRuleError, ParseRuleErrorKind};
 use crate::lists::has_room;
-use crate::parsing::parse;
+use crate::parsing::parse_parts;
 use crate::recurrence::{Recurrence, RuleEnd};
+use crate::rule_count::RuleCount;
 use crate::set_fault::{ParseSetErrorKind, SetLine};
+use crate::set_parameters::{all_allow, all_ignored, all_name, first_zone};
 use crate::set_parts::SetParts;
 use crate::times_of_day::TimesOfDay;
-use crate::words::{cut, is_alike};
+use crate::words::{cut, cut_outside, is_alike};
 use crate::zone_name::ZoneName;
 use cal_date::day_number::to_date;
 use cal_schedule::{Frequency, Pattern, Values};
@@ -26,44 +29,6 @@ pub struct SetDraft<'a> {
     pub dates: Values<DateOrTime>,
     pub exceptions: Values<DateOrTime>,
     pub zone: Option<ZoneName<'a>>,
-}
-
-/// Returns `true` if the value is a date.
-pub(crate) fn is_date(value: &DateOrTime) -> bool
-    ensures { result ≡ is_date value.now }
-{
-    matches!(value, DateOrTime::Date(_))
-}
-
-/// Returns `true` if the value is a reading without `Z`.
-fn is_local(value: &DateOrTime) -> bool
-    ensures { result ≡ is_local value.now }
-{
-    matches!(value, DateOrTime::Local(_))
-}
-
-/// Returns `true` if the parameter allows the value.
-fn allows(parameter: &[u8], value: &DateOrTime) -> bool
-    ensures { result ≡ allows parameter.now value.now }
-{
-    if is_alike(parameter, b"VALUE=DATE") {
-        is_date(value)
-    } else if is_alike(parameter, b"VALUE=DATE-TIME") {
-        !is_date(value)
-    } else {
-        is_alike(cut(parameter, b'=').0, b"TZID") && is_local(value)
-    }
-}
-
-/// Returns `true` if each parameter allows the value. The parameters come after the name of a line,
-/// or after another parameter.
-fn all_allow(head: &[u8], value: &DateOrTime) -> bool
-    ensures { result ≡ all_allow (parameters_of head.now) value.now }
-{
-    match cut(head, b';').1 {
-        Some(rest) => allows(cut(rest, b';').0, value) && all_allow(rest, value),
-        None => true,
-    }
 }
 
 /// Parses a value that each parameter allows, or returns `None`.
@@ -107,16 +72,16 @@ fn no_values() -> Values<DateOrTime>
 
 /// Returns the bytes of a line after its head, or no bytes.
 fn tail(line: &[u8]) -> &[u8]
-    ensures { result.now ≡ rest_at 58 line.now }
+    ensures { result.now ≡ rest_outside 58 line.now }
 {
-    cut(line, b':').1.unwrap_or(b"".as_slice())
+    cut_outside(line, b':').1.unwrap_or(b"".as_slice())
 }
 
 /// Parses the value of a line, or returns `None` if it is invalid.
 fn value_on(line: &[u8]) -> Option<DateOrTime>
     ensures { result ≡ value_on line.now }
 {
-    value_of(cut(line, b':').0, tail(line))
+    value_of(cut_outside(line, b':').0, tail(line))
 }
 
 /// Returns the values with the values of one more line. Returns `TooMany` for more than 62 in all,
@@ -132,7 +97,7 @@ fn more_of(
     if !has_room(dates.as_slice().len(), tail(line)) {
         return Err(ParseSetErrorKind::TooMany(kind));
     }
-    more_values(dates, cut(line, b':').0, tail(line)).ok_or(ParseSetErrorKind::Value(kind))
+    more_values(dates, cut_outside(line, b':').0, tail(line)).ok_or(ParseSetErrorKind::Value(kind))
 }
 
 /// Returns the recurrence of a set without `RRULE`.
@@ -142,7 +107,7 @@ fn once() -> Recurrence
     Recurrence {
         pattern: Pattern::new(Frequency::Daily),
         times: TimesOfDay::new(),
-        end: RuleEnd::Count(1),
+        end: RuleEnd::Count(RuleCount::from_positive(1)),
     }
 }
 
@@ -150,7 +115,7 @@ fn once() -> Recurrence
 fn kind_of(line: &[u8]) -> Option<SetLine>
     ensures { result ≡ kind_of line.now }
 {
-    line_of(cut(cut(line, b':').0, b';').0)
+    line_of(cut_outside(cut_outside(line, b':').0, b';').0)
 }
 
 /// Returns the line with a name, or `None` for an unknown name.
@@ -170,30 +135,19 @@ fn line_of(name: &[u8]) -> Option<SetLine>
     }
 }
 
-/// Returns the first name of a zone among the parameters, or `None` without one.
-fn first_zone(head: &[u8]) -> Option<&[u8]>
-    ensures { option_map (λ name. name.now) result ≡ first_zone (parameters_of head.now) }
+/// Parses the recurrence of a line. Returns `Unknown` at byte 0 for a line without a value, or with a
+/// parameter that readers don't ignore, or the error of the value, whose position counts from the
+/// start of the line.
+fn recurrence_on(line: &[u8]) -> Result<Recurrence, ParseRuleError>
+    ensures { result ≡ recurrence_on line.now }
 {
-    let rest = cut(head, b';').1?;
-    let (name, value) = cut(cut(rest, b';').0, b'=');
-    if is_alike(name, b"TZID") {
-        Some(value.unwrap_or(b"".as_slice()))
-    } else {
-        first_zone(rest)
-    }
-}
-
-/// Returns `true` if each name of a zone among the parameters is this one.
-fn all_name(head: &[u8], zone: &[u8]) -> bool
-    ensures { result ≡ all_name (parameters_of head.now) zone.now }
-{
-    match cut(head, b';').1 {
-        Some(rest) => {
-            let (name, value) = cut(cut(rest, b';').0, b'=');
-            (!is_alike(name, b"TZID") || value.unwrap_or(b"".as_slice()) == zone)
-                && all_name(rest, zone)
-        }
-        None => true,
+    let (head, value) = cut_outside(line, b':');
+    match value {
+        Some(value) if all_ignored(head) => parse_parts(head.len() + 1, value),
+        _ => Err(ParseRuleError {
+            position: 0,
+            reason: ParseRuleErrorKind::Unknown,
+        }),
     }
 }
 
@@ -235,7 +189,7 @@ impl<'a> SetDraft<'a> {
         ensures { result ≡ unless_error (zone_error self.entry line.now kind)
             (with_zone self.entry line.now) }
     {
-        let head = cut(line, b':').0;
+        let head = cut_outside(line, b':').0;
         if self.zone.is_none() {
             self.zone = match first_zone(head) {
                 Some(name) => Some(ZoneName::new(name)),
@@ -267,7 +221,7 @@ impl<'a> SetDraft<'a> {
             SetLine::Rule if self.recurrence.is_some() => {
                 return Err(ParseSetErrorKind::Twice(kind));
             }
-            SetLine::Rule => match parse(line) {
+            SetLine::Rule => match recurrence_on(line) {
                 Ok(recurrence) => self.recurrence = Some(recurrence),
                 Err(error) => return Err(ParseSetErrorKind::Rule(error)),
             },

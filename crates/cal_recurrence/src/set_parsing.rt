@@ -19,7 +19,10 @@ use crate::words::{cut, split};
 /// A value is a date such as `20240101`, or a date and time such as `20240101T090000` or
 /// `20240101T090000Z`. The parameter `VALUE=DATE` requires dates, `VALUE=DATE-TIME` requires times,
 /// and `TZID=Europe/Berlin` requires times without `Z`. A set has one zone, so each `TZID` has the
-/// same name, byte by byte.
+/// same name, byte by byte. The name can be in quotation marks, and has no `"`, `:` or `;`.
+///
+/// Other parameters are ignored, such as `X-FOO=1` or `X-FOO="a:b;c"`. `RRULE` can have only such
+/// parameters.
 ///
 /// Returns the error of the first invalid line: `Unknown` for any other name, `Twice` for a second
 /// `DTSTART` or `RRULE`, `TooMany` for more than 62 values, `Rule` for an invalid recurrence,

@@ -1,6 +1,7 @@
 //! Single words of the text of a rule.
-ghost use Rattle.std.specs.Prelude.{◌≡◌, true, ◌+◌, ◌<◌, ◌≤◌, ◌==◌, ◌∷◌, length, position, slice_index, MatchOption, IfSome, unsigned_abs};
-ghost use Rattle.cal_recurrence.specs.Words.{by_day_of, bytes_after, bytes_left, clock_value_of, count_of, first_bytes, frequency_of, from_one_to, front_at, has_name, is_alike, month_of, number_of, part_of, parts_at, parts_left, index_of, position_of, rest_at, short_count_of, small_index_of, weekday_of};
+ghost use Rattle.std.specs.Prelude.{◌≡◌, true, false, ◌+◌, ◌<◌, ◌≤◌, ◌==◌, ◌∷◌, length, position, slice_index, MatchOption, IfSome, unsigned_abs};
+ghost use Rattle.cal_recurrence.specs.SetText.{unquoted};
+ghost use Rattle.cal_recurrence.specs.Words.{by_day_of, bytes_after, bytes_left, clock_value_of, count_of, first_bytes, frequency_of, from_one_to, front_at, front_outside, has_name, is_alike, month_of, number_of, part_of, parts_at, parts_left, parts_left_outside, parts_outside, place_outside, index_of, position_of, rest_at, rest_outside, short_count_of, small_index_of, weekday_of};
 
 use crate::fault::RulePart;
 use cal_schedule::{ByDay, Frequency};
@@ -27,6 +28,53 @@ pub fn cut(bytes: &[u8], byte: u8) -> (&[u8], Option<&[u8]>)
     match first_at(byte, bytes) {
         Some(at) => (&bytes[..at], Some(&bytes[at + 1..])),
         None => (bytes, None),
+    }
+}
+
+/// Returns the index of the first such byte outside quotation marks, or `None` without one.
+fn first_outside(byte: u8, bytes: &[u8]) -> Option<usize>
+    ensures { MatchOption result (place_outside byte false bytes.now ≡ length bytes.now)
+        (λ at. (at < length bytes.now) × (place_outside byte false bytes.now ≡ at)) }
+{
+    let (mut at, mut quoted) = (0, false);
+    while at < bytes.len() {
+        let here = bytes[at];
+        if !quoted && here == byte {
+            return Some(at);
+        }
+        if here == b'"' {
+            quoted = !quoted;
+        }
+        at += 1;
+    }
+    None
+}
+
+/// Splits at the first such byte outside quotation marks, which is in neither part. The second part
+/// is `None` without such a byte.
+#[tactic(auto, using(crate::proofs::Outside::split_here, crate::proofs::Outside::split_nowhere, std::proofs::lemmas::List::take_rest))]
+pub fn cut_outside(bytes: &[u8], byte: u8) -> (&[u8], Option<&[u8]>)
+    ensures parts { parts_outside byte false bytes.now ≡ result.0.now ∷ parts_left_outside byte result.1 }
+    ensures front { result.0.now ≡ front_outside byte bytes.now }
+    ensures rest { bytes_left result.1 ≡ rest_outside byte bytes.now }
+    ensures size { MatchOption result.1 (length result.0.now ≡ length bytes.now)
+        (λ rest. length result.0.now + 1 + length rest.now ≡ length bytes.now) }
+{
+    match first_outside(byte, bytes) {
+        Some(at) => (&bytes[..at], Some(&bytes[at + 1..])),
+        None => (bytes, None),
+    }
+}
+
+/// Returns the bytes between two quotation marks, or all bytes without them at the ends.
+pub fn unquoted(bytes: &[u8]) -> &[u8]
+    ensures { result.now ≡ unquoted bytes.now }
+{
+    let size = bytes.len();
+    if size >= 2 && bytes[0] == b'"' && bytes[size - 1] == b'"' {
+        &bytes[1..size - 1]
+    } else {
+        bytes
     }
 }
 

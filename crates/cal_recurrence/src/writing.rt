@@ -232,7 +232,7 @@ pub fn push_end(text: &mut RecurrenceText, end: RuleEnd)
         }
         RuleEnd::Count(count) => {
             text.push(";COUNT=");
-            text.push_number(count);
+            text.push_number(count.get());
         }
     }
 }

@@ -58,7 +58,7 @@ fn count_in(end: RuleEnd) -> u32
     ensures { result ≡ count_in end }
 {
     match end {
-        RuleEnd::Count(count) => count,
+        RuleEnd::Count(count) => count.get(),
         RuleEnd::Never | RuleEnd::Until(_) => 0,
     }
 }

@@ -63,7 +63,7 @@ fn times(rt: HostRuntime) {
     let parts = read_set(rt, text);
     let start = reading(rt, (1997_09_02, 9_00_00));
     same(rt, parts.start, DateOrTime::Local(start));
-    let is_once = matches!(parts.recurrence.end, RuleEnd::Count(1));
+    let is_once = matches!(parts.recurrence.end, RuleEnd::Count(count) if count.get() == 1);
     same(rt, is_once, true);
     let mut walk = parts.recurrence.readings(start);
     same(rt, walk.next(), Some(start));
@@ -186,6 +186,49 @@ fn days_of_sets(rt: HostRuntime) {
     same(rt, walk.next(), None);
 }
 
+/// Sections 3.1 and 3.2 of RFC 5545: readers ignore parameters that they don't know, and a value in
+/// quotation marks can have `:`, `;` and `,`.
+#[test]
+fn ignored_parameters(rt: HostRuntime) {
+    let rt = &rt;
+    let wanted = "DTSTART;TZID=Europe/Berlin:20240101T090000\nRRULE:FREQ=DAILY\n\
+        RDATE:20240101T120000,20240101T130000\nEXDATE:20240102T090000";
+    let wanted = read_set(rt, wanted);
+    for text in [
+        "DTSTART;X-FOO=1;TZID=Europe/Berlin:20240101T090000\nRRULE;X-FOO=1:FREQ=DAILY\n\
+            RDATE;X-FOO=1:20240101T120000,20240101T130000\nEXDATE;X-FOO=1:20240102T090000",
+        "DTSTART;TZID=Europe/Berlin;X-FOO=\"a:b;c,d\":20240101T090000\n\
+            RRULE;X-A=\":\";x-b=\";\":FREQ=DAILY\n\
+            RDATE;FMTTYPE=a/b;LANGUAGE=:20240101T120000,20240101T130000\n\
+            EXDATE;X-FOO=\"a\",\"b:c\",d:20240102T090000",
+        "dtstart;tzid=\"Europe/Berlin\":20240101T090000\nrrule:freq=daily\n\
+            rdate;x-foo=value=date:20240101T120000\nrdate:20240101T130000\n\
+            exdate;value=date-time;x=1:20240102T090000",
+    ] {
+        same_at(rt, text, read_set(rt, text) == wanted, true);
+    }
+}
+
+/// A line `RRULE` has no zone and no kind of value, and positions count from its start.
+#[test]
+fn parameters_of_rules(rt: HostRuntime) {
+    let rt = &rt;
+    let unknown = ParseRuleErrorKind::Unknown;
+    for &(text, position, reason) in &[
+        ("RRULE", 0, unknown),
+        ("RRULE;X-FOO=1", 0, unknown),
+        ("RRULE;X-FOO:FREQ=DAILY", 0, unknown),
+        ("RRULE;TZID=Europe/Berlin:FREQ=DAILY", 0, unknown),
+        ("RRULE;VALUE=RECUR:FREQ=DAILY", 0, unknown),
+        ("RRULE:FREQ=DAILY;X=1", 17, unknown),
+        ("RRULE;X-FOO=\":\":FREQ=DAILY;X=1", 27, unknown),
+        ("RRULE;X-FOO=1:COUNT=3", 21, ParseRuleErrorKind::Missing),
+    ] {
+        let rule = ParseSetErrorKind::Rule(ParseRuleError { position, reason });
+        refused(rt, text, 0, rule);
+    }
+}
+
 /// Returns the lines that exclude the days and the readings of a set.
 fn other_kinds(rt: &impl Abort, text: &str) -> (Option<SetLine>, Option<SetLine>) {
     let parts = read_set(rt, text);
@@ -280,7 +323,13 @@ fn faults(rt: HostRuntime) {
         ("DTSTART;VALUE=DATE-TIME:20240101", 0, start),
         ("DTSTART;TZID=Europe/Berlin:20240101", 0, start),
         ("DTSTART;TZID=Europe/Berlin:20240101T090000Z", 0, start),
-        ("DTSTART;X=1:20240101", 0, start),
+        ("DTSTART;TZID=\"A:B\":20240101T090000", 0, start),
+        ("DTSTART;VALUE=PERIOD:20240101T090000Z/PT1H", 0, start),
+        ("DTSTART;X-FOO:20240101", 0, start),
+        ("DTSTART;X FOO=1:20240101", 0, start),
+        ("DTSTART;=1:20240101", 0, start),
+        ("DTSTART;:20240101", 0, start),
+        ("DTSTART;X-FOO=\":20240101", 0, start),
     ] {
         refused(rt, text, position, reason);
     }

@@ -3,8 +3,8 @@ use crate::tests::recurrences::{holds, read};
 use crate::tests::{date, same, same_at};
 use cal_datetime::{midnight, with_hms};
 use cal_recurrence::{
-    DateOrTime, ParseRuleError, ParseRuleErrorKind, Pattern, Recurrence, RuleEnd, RulePart,
-    TimesOfDay, parse,
+    DateOrTime, ParseRuleError, ParseRuleErrorKind, Pattern, Recurrence, RuleCount, RuleEnd,
+    RulePart, TimesOfDay, parse,
 };
 use cal_schedule::{ByDay, Frequency};
 use cal_time::{Month, Weekday};
@@ -267,7 +267,7 @@ fn check_parts(rt: &impl Abort, text: &str) {
     let is_from_sunday = matches!(pattern.week_start, Weekday::Sunday);
     holds(rt, text, is_from_sunday);
     check_lists(rt, text, pattern);
-    let is_counted = matches!(recurrence.end, RuleEnd::Count(12));
+    let is_counted = matches!(recurrence.end, RuleEnd::Count(count) if count.get() == 12);
     holds(rt, text, is_counted);
 }
 
@@ -299,6 +299,19 @@ fn orders_and_cases(rt: HostRuntime) {
     }
 }
 
+/// A set can't have a count of 0, as a text can't.
+#[test]
+fn counts_from_one(rt: HostRuntime) {
+    let rt = &rt;
+    same(rt, RuleCount::new(0).is_none(), true);
+    same(
+        rt,
+        RuleCount::new(u32::MAX).expect(rt, "no count").get(),
+        u32::MAX,
+    );
+    refused_value(rt, RulePart::Count, &["FREQ=DAILY;COUNT=0"]);
+}
+
 /// Some parts exclude each other, and the later of the two is at fault.
 #[test]
 fn excluded(rt: HostRuntime) {
@@ -306,13 +319,23 @@ fn excluded(rt: HostRuntime) {
     let excluded = ParseRuleErrorKind::Excluded(RulePart::Weekdays);
     refused(rt, "FREQ=DAILY;BYDAY=MO,1TU", 11, excluded);
     refused(rt, "RRULE:FREQ=WEEKLY;BYMONTH=1;BYDAY=-1TU", 28, excluded);
+    // The order of the documentation, and not of the text.
+    refused(rt, "FREQ=WEEKLY;BYMONTHDAY=1;BYDAY=1MO", 25, excluded);
+    refused(
+        rt,
+        "FREQ=DAILY;BYWEEKNO=1;BYYEARDAY=1;BYDAY=1MO",
+        34,
+        excluded,
+    );
     let excluded = ParseRuleErrorKind::Excluded(RulePart::MonthDays);
     refused(rt, "FREQ=WEEKLY;BYMONTHDAY=1", 12, excluded);
+    refused(rt, "FREQ=WEEKLY;BYYEARDAY=1;BYMONTHDAY=1", 24, excluded);
     let excluded = ParseRuleErrorKind::Excluded(RulePart::YearDays);
     for &(text, position, reason) in &[
         ("FREQ=DAILY;BYYEARDAY=1", 11, excluded),
         ("FREQ=WEEKLY;BYYEARDAY=1", 12, excluded),
         ("FREQ=MONTHLY;BYYEARDAY=1;BYSETPOS=1", 13, excluded),
+        ("FREQ=MONTHLY;BYWEEKNO=1;BYYEARDAY=1", 24, excluded),
     ] {
         refused(rt, text, position, reason);
     }
@@ -372,7 +395,7 @@ fn by_fields(rt: HostRuntime) {
     let recurrence = Recurrence {
         pattern,
         times: TimesOfDay::new(),
-        end: RuleEnd::Count(1),
+        end: RuleEnd::Count(RuleCount::new(1).expect(rt, "no count")),
     };
     let (start, thanksgiving) = (date(rt, (2024, 1, 1)), date(rt, (2024, 11, 28)));
     let mut days = recurrence.days(start);

@@ -70,6 +70,41 @@ fn gaps_and_folds(rt: HostRuntime) {
     same(rt, set.contains(at(rt, 1_729_992_600)), false);
 }
 
+/// 2:30 is skipped, and is the same instant as 3:30. A local `EXDATE` leaves out its reading only.
+#[test]
+fn exceptions_of_readings(rt: HostRuntime) {
+    let rt = &rt;
+    let berlin = berlin(rt);
+    let instant = Some((1_711_848_600, 7_200));
+    for (text, wanted) in [
+        (
+            "DTSTART:20240331T023000\nRRULE:FREQ=DAILY;BYHOUR=2,3;COUNT=2",
+            instant,
+        ),
+        (
+            "DTSTART:20240331T023000\nRRULE:FREQ=DAILY;BYHOUR=2,3;COUNT=2\n\
+                EXDATE:20240331T033000",
+            instant,
+        ),
+        (
+            "DTSTART:20240331T023000\nRRULE:FREQ=DAILY;BYHOUR=2,3;COUNT=2\n\
+                EXDATE:20240331T023000,20240331T033000",
+            None,
+        ),
+        (
+            "DTSTART:20240331T023000\nRRULE:FREQ=DAILY;BYHOUR=2,3;COUNT=2\n\
+                EXDATE:20240331T013000Z",
+            None,
+        ),
+    ] {
+        let parts = parse_set(text.as_bytes()).expect(rt, text);
+        let instants = parts.instants().expect(rt, text);
+        let mut occurrences = instants.set(&berlin).occurrences();
+        same_at(rt, text, moment(occurrences.next()), wanted);
+        same_at(rt, text, moment(occurrences.next()), None);
+    }
+}
+
 #[test]
 fn readings_that_merge_or_swap(rt: HostRuntime) {
     let rt = &rt;

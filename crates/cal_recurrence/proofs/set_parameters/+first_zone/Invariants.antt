@@ -1,5 +1,5 @@
 use Rattle.std.proofs.Common.{length}
-use Rattle.cal_recurrence.proofs.set_draft.+first_zone.Given as goal
+use Rattle.cal_recurrence.proofs.set_parameters.+first_zone.Given as goal
 
 abbrev pub decreases-first_zone : goal.decreases-first_zone
 decreases-first_zone l = length l.head.now
