@@ -104,7 +104,7 @@ pub struct FormatText {
     bytes: [u8; 960],
 }
 impl FormatText {
-    fn written(print: impl FnOnce(&mut [u8]) -> Option<usize>) -> Result<Self, UnsupportedItem> {
+    pub(crate) fn written(print: impl FnOnce(&mut [u8]) -> Option<usize>) -> Result<Self, UnsupportedItem> {
         let mut bytes = [0; 960];
         let length = print(&mut bytes).ok_or(UnsupportedItem)?;
         Ok(Self { length, bytes })

@@ -21,6 +21,8 @@ include!(concat!(env!("OUT_DIR"), "/library.rs"));
 mod date_methods;
 mod from_text;
 mod traits;
+mod values;
+mod zones;
 
 pub use cal_clock::{Time, UtcOffset};
 pub use cal_date::Date;
@@ -34,6 +36,7 @@ pub use cal_units::{Month, Weekday};
 pub use cal_zone::{Gap, Local, LocalType, Zone};
 
 pub use cal_format::{Format, FormatError};
+pub use date_methods::FormatText;
 /// Returns the version.
 pub fn version() -> (u32, u32, u32) {
     (0, 2, 0)
@@ -50,6 +53,7 @@ pub mod error {
     pub use crate::cal_tzif::{ZoneError, ZoneErrorKind};
     pub use crate::cal_units::error::{Component, ComponentRange, ConversionRange, InvalidVariant};
     pub use crate::date_methods::UnsupportedItem;
+    pub use crate::values::TooManyValues;
 }
 /// Years, months and adjustments.
 pub mod util {
@@ -66,6 +70,10 @@ pub mod format {
     pub use crate::cal_format::{
         DateFormat, DateTimeFormat, Format, FormatError, OffsetDateTimeFormat, OffsetFormat, ParseError, TimeFormat,
     };
+}
+/// Rules and working days.
+pub mod schedule {
+    pub use crate::cal_schedule::{Pattern, PeriodUnit, Values};
 }
 /// Recurrences.
 pub mod recurrence {

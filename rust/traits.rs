@@ -91,9 +91,3 @@ impl core::fmt::Debug for crate::Format {
         f.write_str("Format")
     }
 }
-impl<T: Copy> crate::cal_schedule::Values<T> {
-    /// Takes the values, or returns `None` for more than 62.
-    pub fn try_from_slice(values: &[T], filler: T) -> Option<Self> {
-        if values.len() <= 62 { Some(Self::from_slice(values, filler)) } else { None }
-    }
-}

@@ -4,8 +4,8 @@
 use fotsevindre::error::ParseError::{self, UnexpectedByte, UnexpectedEnd};
 use fotsevindre::text::date::{CalendarText, OrdinalText, WeekText};
 use fotsevindre::text::julian_day::JulianText;
-use fotsevindre::text::{date, julian_day, parse_any, rfc3339, unix, DateOrMoment};
-use fotsevindre::{Date, Duration, Month, Time, UtcOffset};
+use fotsevindre::text::{DateForm, DateOrMoment, MomentForm, date, julian_day, parse_any, rfc3339, unix};
+use fotsevindre::{Date, Duration, Month, OffsetDateTime, Time, UtcOffset};
 
 fn day(year: i32, month: u8, day: u8) -> Date {
     Date::from_calendar_date(year, Month::try_from(month).unwrap(), day).unwrap()
@@ -181,9 +181,19 @@ fn texts_of_no_form() {
 /// What a moment has: the calendar date, the clock, and the seconds of the offset.
 type Numbers = ((i32, u8, u8), (u8, u8, u8, u32), i32);
 
-fn moment(((year, month, day_of_month), (hour, minute, second, nanosecond), offset): Numbers) -> (Date, Time, UtcOffset) {
+fn moment(((year, month, day_of_month), (hour, minute, second, nanosecond), offset): Numbers) -> OffsetDateTime {
     let time = Time::from_hms_nano(hour, minute, second, nanosecond).unwrap();
-    (day(year, month, day_of_month), time, UtcOffset::from_whole_seconds(offset).unwrap())
+    OffsetDateTime::new_in_offset(day(year, month, day_of_month), time, UtcOffset::from_whole_seconds(offset).unwrap())
+}
+
+/// All that a date-time shows. Its equality compares the instants only.
+fn parts(moment: OffsetDateTime) -> (Date, Time, UtcOffset) {
+    (moment.date(), moment.time(), moment.offset())
+}
+
+/// Returns the date-time of a Unix time at an offset.
+fn at(duration: Duration, offset: UtcOffset) -> Option<OffsetDateTime> {
+    OffsetDateTime::UNIX_EPOCH.checked_to_offset(offset)?.checked_add(duration)
 }
 
 /// The examples of the standard come first.
@@ -199,10 +209,9 @@ fn moments_in_text() {
         ("2024-02-29T09:05:07.000000001-00:30", ((2024, 2, 29), (9, 5, 7, 1), -1_800)),
     ];
     for (text, numbers) in printed {
-        let (date, time, offset) = moment(numbers);
-        let line = rfc3339::Text::new(date, time, offset).unwrap().text();
+        let line = rfc3339::Text::new(moment(numbers)).unwrap().text();
         assert_eq!((line.as_str(), line.as_bytes()), (text, text.as_bytes()));
-        assert_eq!(rfc3339::parse(text.as_bytes()), Ok((date, time, offset)), "{text}");
+        assert_eq!(rfc3339::parse(text.as_bytes()).map(parts), Ok(parts(moment(numbers))), "{text}");
     }
     let parsed = [
         ("0000-01-01t00:00:00z", ((0, 1, 1), (0, 0, 0, 0), 0)),
@@ -212,16 +221,16 @@ fn moments_in_text() {
         ("2024-02-29T00:00:00.0000000019Z", ((2024, 2, 29), (0, 0, 0, 1), 0)),
     ];
     for (text, numbers) in parsed {
-        assert_eq!(rfc3339::parse(text.as_bytes()), Ok(moment(numbers)), "{text}");
+        assert_eq!(rfc3339::parse(text.as_bytes()).map(parts), Ok(parts(moment(numbers))), "{text}");
     }
-    let (date, time, utc) = moment(((2024, 2, 29), (0, 0, 0, 0), 0));
-    let text = rfc3339::Text::new(date, time, utc).unwrap();
+    let midnight = moment(((2024, 2, 29), (0, 0, 0, 0), 0));
+    let text = rfc3339::Text::new(midnight).unwrap();
     assert_eq!(format!("{text:>22}|{text:_<21}|{text:2}|"), "  2024-02-29T00:00:00Z|2024-02-29T00:00:00Z_|2024-02-29T00:00:00Z|");
     for date in [day(10_000, 1, 1), day(-1, 12, 31)] {
-        assert_eq!(rfc3339::Text::new(date, time, utc), None);
+        assert!(rfc3339::Text::new(midnight.replace_date(date)).is_none());
     }
     for seconds in [86_400, -86_400, 1, -1, 3_601, 93_599] {
-        assert_eq!(rfc3339::Text::new(date, time, UtcOffset::from_whole_seconds(seconds).unwrap()), None);
+        assert!(rfc3339::Text::new(midnight.replace_offset(UtcOffset::from_whole_seconds(seconds).unwrap())).is_none());
     }
 }
 
@@ -244,18 +253,18 @@ fn unix_times() {
         (((-999_999, 1, 1), (0, 0, 0, 0), 3_600), Duration::seconds(-31_619_087_600_400), "@-31619087600400"),
     ];
     for (numbers, duration, text) in rows {
-        let (date, time, offset) = moment(numbers);
-        assert_eq!(unix::duration_of(date, time, offset), duration);
-        assert_eq!(unix::pair_of(duration, offset), Some((date, time)));
-        let printed = unix::Text::new(date, time, offset);
+        let moment = moment(numbers);
+        assert_eq!(moment - OffsetDateTime::UNIX_EPOCH, duration);
+        assert_eq!(at(duration, moment.offset()).map(parts), Some(parts(moment)));
+        let printed = unix::Text::new(moment);
         assert_eq!((printed.to_string().as_str(), printed.text().as_str()), (text, text));
-        assert_eq!(unix::parse(text.as_bytes()).ok(), unix::pair_of(duration, UtcOffset::UTC));
+        assert_eq!(unix::parse(text.as_bytes()).ok().map(parts), at(duration, UtcOffset::UTC).map(parts));
     }
     assert_eq!(unix::parse(b"@1709164800.50"), unix::parse(b"@1709164800.5"));
-    assert_eq!(format!("{:>14}", unix::Text::new(day(1970, 1, 2), Time::MIDNIGHT, UtcOffset::UTC)), "        @86400");
-    let last = unix::duration_of(Date::MAX, Time::MAX, UtcOffset::UTC);
-    assert_eq!(unix::pair_of(last + Duration::NANOSECOND, UtcOffset::UTC), None);
-    assert_eq!(unix::pair_of(Duration::MAX, UtcOffset::UTC), None);
+    assert_eq!(format!("{:>14}", unix::Text::new(OffsetDateTime::UNIX_EPOCH + Duration::DAY)), "        @86400");
+    let last = Date::MAX.with_time(Time::MAX).assume_utc() - OffsetDateTime::UNIX_EPOCH;
+    assert_eq!(at(last + Duration::NANOSECOND, UtcOffset::UTC), None);
+    assert_eq!(at(Duration::MAX, UtcOffset::UTC), None);
 }
 
 /// Every day of four years at each end of the range, and of two at the years 0 and 9999, in all forms.
@@ -288,11 +297,11 @@ fn moments_printed_and_parsed() {
         for nanosecond in [0, 500_000_000, 250_000_000, 120_000_001, 1, 10, 999_999_990, 123_456_789] {
             let time = Time::from_hms_nano((quarters.unsigned_abs() % 24) as u8, 59, 7, nanosecond).unwrap();
             let date = Date::from_julian_day(2_460_370 + quarters * 300).unwrap();
-            let text = rfc3339::Text::new(date, time, offset).unwrap().to_string();
-            assert_eq!(rfc3339::parse(text.as_bytes()), Ok((date, time, offset)), "{text}");
-            let unix_text = unix::Text::new(date, time, offset).to_string();
-            let (utc_date, utc_time) = unix::parse(unix_text.as_bytes()).unwrap();
-            assert_eq!(unix::duration_of(utc_date, utc_time, UtcOffset::UTC), unix::duration_of(date, time, offset));
+            let moment = OffsetDateTime::new_in_offset(date, time, offset);
+            let text = rfc3339::Text::new(moment).unwrap().to_string();
+            assert_eq!(rfc3339::parse(text.as_bytes()).map(parts), Ok((date, time, offset)), "{text}");
+            let at_utc = unix::parse(unix::Text::new(moment).to_string().as_bytes()).unwrap();
+            assert_eq!((at_utc, at_utc.offset()), (moment, UtcOffset::UTC));
         }
     }
 }
@@ -365,23 +374,28 @@ fn times_and_offsets_in_text() {
 #[test]
 fn any_form() {
     let date = day(2024, 2, 29);
-    let (_, time, offset) = rfc3339::parse(b"2024-02-29T23:59:59.25+01:00").unwrap();
-    let (utc_date, utc_time) = unix::parse(b"@1709247599.25").unwrap();
-    let rows = [
-        ("2024-02-29", DateOrMoment::Calendar(date)),
-        ("2024-060", DateOrMoment::Ordinal(date)),
-        ("2024-W09-4", DateOrMoment::Week(date)),
-        ("J2460370", DateOrMoment::JulianDay(date)),
-        ("2024-02-29T23:59:59.25+01:00", DateOrMoment::Rfc3339(date, time, offset)),
-        ("2024-02-29 23:59:59.25+01:00", DateOrMoment::Rfc3339(date, time, offset)),
-        ("@1709247599.25", DateOrMoment::Unix(utc_date, utc_time)),
-        ("+10000-01-01", DateOrMoment::Calendar(day(10_000, 1, 1))),
-        ("+10000-001", DateOrMoment::Ordinal(day(10_000, 1, 1))),
-        ("+10000-W01-1", DateOrMoment::Week(day(10_000, 1, 3))),
-        ("-0001-W52-6", DateOrMoment::Week(day(0, 1, 1))),
+    let dates = [
+        ("2024-02-29", DateForm::Calendar, date),
+        ("2024-060", DateForm::Ordinal, date),
+        ("2024-W09-4", DateForm::Week, date),
+        ("J2460370", DateForm::JulianDay, date),
+        ("+10000-01-01", DateForm::Calendar, day(10_000, 1, 1)),
+        ("+10000-001", DateForm::Ordinal, day(10_000, 1, 1)),
+        ("+10000-W01-1", DateForm::Week, day(10_000, 1, 3)),
+        ("-0001-W52-6", DateForm::Week, day(0, 1, 1)),
     ];
-    for (text, found) in rows {
-        assert_eq!(parse_any(text.as_bytes()), Ok(found), "{text}");
+    for (text, form, date) in dates {
+        assert_eq!(parse_any(text.as_bytes()), Ok(DateOrMoment::Date(form, date)), "{text}");
+    }
+    let late = rfc3339::parse(b"2024-02-29T23:59:59.25+01:00").unwrap();
+    let moments = [
+        ("2024-02-29T23:59:59.25+01:00", MomentForm::Rfc3339, late),
+        ("2024-02-29 23:59:59.25+01:00", MomentForm::Rfc3339, late),
+        ("@1709247599.25", MomentForm::Unix, late.to_utc()),
+    ];
+    for (text, form, moment) in moments {
+        let Ok(DateOrMoment::Moment(found, parsed)) = parse_any(text.as_bytes()) else { panic!("{text}") };
+        assert_eq!((found, parts(parsed)), (form, parts(moment)), "{text}");
     }
     for (text, error) in [
         ("", UnexpectedEnd(0)),

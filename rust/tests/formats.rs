@@ -1,7 +1,8 @@
 //! Formats: texts as Python's `datetime` and GNU `date` print them, and faults.
 
-use fotsevindre::error::{FormatError, ParseError, UnsupportedItem};
-use fotsevindre::{Date, Format, Month, OffsetDateTime, PlainDateTime, Time, UtcOffset};
+use fotsevindre::error::{Component, FormatError, UnsupportedItem};
+use fotsevindre::format::ParseError;
+use fotsevindre::{Date, Format, Month, OffsetDateTime, Time, UtcOffset};
 
 /// Returns 2024-02-29 9:05:07.25 +05:30.
 fn moment() -> OffsetDateTime {
@@ -78,7 +79,8 @@ fn values() {
 
 #[test]
 fn parsed() {
-    let row = |format: &str, text: &str| Date::parse(text, &Format::new(format).unwrap());
+    let new = |format: &str| Format::new(format).unwrap();
+    let row = |format: &str, text: &str| new(format).for_dates().unwrap().parse(text.as_bytes());
     let day = moment().date();
     for (format, text) in [("%d/%m/%Y", "29/02/2024"), ("%A, %-d %B %Y", "Thursday, 29 February 2024"), ("%G-W%V-%u", "2024-W09-4")] {
         assert_eq!(row(format, text), Ok(day));
@@ -86,17 +88,16 @@ fn parsed() {
     assert_eq!(row("%F", "2024-02-2"), Err(ParseError::UnexpectedEnd(9)));
     assert_eq!(row("%d %b %Y", "29 feb 2024"), Err(ParseError::UnexpectedByte(3)));
     assert_eq!(row("%F", "2023-02-29").unwrap_err().to_string(), "day was not in range");
-    assert_eq!(row("%a %F", "Wed 2024-02-29"), Err(ParseError::Contradiction("weekday")));
+    assert_eq!(row("%a %F", "Wed 2024-02-29"), Err(ParseError::Contradiction(Component::Weekday)));
     assert_eq!(row("%a %F", "Wed 2024-02-29").unwrap_err().to_string(), "weekday contradicts the other components");
-    assert_eq!(row("%m", "02"), Err(ParseError::InsufficientFormat));
-    assert_eq!(ParseError::InsufficientFormat.to_string(), "the texts of the format don't determine a value");
+    assert!(new("%m").for_dates().is_none());
 
-    let format = Format::new("%d/%b/%Y:%T%.f %:z").unwrap();
-    let text = "29/Feb/2024:09:05:07.25 +05:30";
-    assert_eq!(OffsetDateTime::parse(text, &format).map(|read| (read.local(), read.offset())), Ok((moment().local(), moment().offset())));
-    assert_eq!(PlainDateTime::parse("20240229 09:05:07.25", &Format::new("%Y%m%d %T%.f").unwrap()), Ok(moment().local()));
-    assert_eq!(Time::parse("9:05 PM", &Format::new("%-I:%M %p").unwrap()), Ok(Time::from_hms(21, 5, 0).unwrap()));
-    assert_eq!(UtcOffset::parse("-0530", &Format::new("%z").unwrap()), Ok(UtcOffset::from_hms(-5, -30, 0).unwrap()));
+    let read = new("%d/%b/%Y:%T%.f %:z").for_offset_date_times().unwrap().parse(b"29/Feb/2024:09:05:07.25 +05:30").unwrap();
+    assert_eq!((read.local(), read.offset()), (moment().local(), moment().offset()));
+    let local = new("%Y%m%d %T%.f").for_date_times().unwrap().parse(b"20240229 09:05:07.25");
+    assert_eq!(local, Ok(moment().local()));
+    assert_eq!(new("%-I:%M %p").for_times().unwrap().parse(b"9:05 PM"), Ok(Time::from_hms(21, 5, 0).unwrap()));
+    assert_eq!(new("%z").for_offsets().unwrap().parse(b"-0530"), Ok(UtcOffset::from_hms(-5, -30, 0).unwrap()));
 }
 
 #[test]

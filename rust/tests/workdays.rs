@@ -57,11 +57,8 @@ fn lists_of_holidays() {
     let holidays = holidays();
     let [first, second, ..] = holidays;
     assert!(Workdays::new([true; 7], &[first, first]).is_none() && Workdays::new([true; 7], &[second, first]).is_none());
+    // Their number has no limit.
     let many: Vec<_> = (0..=1024).map(|days| Date::from_julian_day(2_460_000 + days).unwrap()).collect();
-    assert!(Workdays::new([true; 7], &many).is_none());
-    let most = Workdays::new([true; 7], &many[1..]).unwrap();
+    let most = Workdays::new([true; 7], &many).unwrap();
     assert_eq!(most.next_workday(many[0]), Date::from_julian_day(2_461_025).ok());
-    assert!(
-        include_str!("../../../include/fotsevindre.h").contains(&format!("#define FOTS_MAX_HOLIDAYS {}", Workdays::MAX_HOLIDAYS))
-    );
 }

@@ -1,0 +1,14 @@
+//! The tests of the crate.
+
+mod drawn;
+mod errors;
+mod every_day;
+mod formats;
+mod moments;
+mod rows;
+mod rules;
+mod schedule;
+mod texts;
+mod walks;
+mod workdays;
+mod zones;
