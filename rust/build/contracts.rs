@@ -20,9 +20,10 @@ fn is_condition(clause: &str, function: &str) -> bool {
 
 /// Returns the clauses of a function, and the ghosts of its `impl` that are about it.
 fn clauses<'a>(source: &'a Source, item: &Item) -> Vec<&'a str> {
-    let around = source.items.iter().find(|other| {
-        other.kind == Kind::Impl && other.body.as_ref().is_some_and(|body| body.contains(&item.head.start))
-    });
+    let around = source
+        .items
+        .iter()
+        .find(|other| other.kind == Kind::Impl && other.body.as_ref().is_some_and(|body| body.contains(&item.head.start)));
     let mut found = Vec::new();
     for at in around.and_then(|around| around.body.clone()).unwrap_or_default() {
         let text = source.word(at);

@@ -11,8 +11,18 @@ use std::process::ExitCode;
 
 /// The libraries, as modules of the crate.
 const CRATES: [&str; 12] = [
-    "cal_units", "cal_span", "cal_clock", "cal_date", "cal_time", "cal_datetime", "cal_schedule", "cal_text", "cal_format", "cal_zone",
-    "cal_tzif", "cal_recurrence",
+    "cal_units",
+    "cal_span",
+    "cal_clock",
+    "cal_date",
+    "cal_time",
+    "cal_datetime",
+    "cal_schedule",
+    "cal_text",
+    "cal_format",
+    "cal_zone",
+    "cal_tzif",
+    "cal_recurrence",
 ];
 
 fn main() -> ExitCode {

@@ -79,7 +79,8 @@ impl<'a> Items<'a> {
         let head = self.at;
         self.visibility()?;
         let (kind, name) = self.kind_and_name(owner)?;
-        let has_braces = matches!(kind, Kind::Function | Kind::Impl | Kind::Trait | Kind::Module | Kind::Type) || self.is_macro(head);
+        let has_braces =
+            matches!(kind, Kind::Function | Kind::Impl | Kind::Trait | Kind::Module | Kind::Type) || self.is_macro(head);
         let end = self.declaration_end(has_braces)?;
         let mut item = Item { kind, name, owner: owner.to_string(), all: start..end, head: head..end, body: None };
         let place = self.list.len();

@@ -112,7 +112,8 @@ fn comment_length(rest: &str) -> Option<usize> {
 /// `None` if something else is at the start.
 fn literal_length(rest: &str) -> Option<Option<usize>> {
     let prefix = ["br", "cr", "r", "b", "c"].into_iter().find(|prefix| {
-        let after = rest.strip_prefix(prefix).map(|after| if prefix.ends_with('r') { after.trim_start_matches('#') } else { after });
+        let after =
+            rest.strip_prefix(prefix).map(|after| if prefix.ends_with('r') { after.trim_start_matches('#') } else { after });
         after.is_some_and(|after| after.starts_with('"') || *prefix == "b" && after.starts_with('\''))
     });
     let prefix = prefix.unwrap_or("");
@@ -206,7 +207,24 @@ fn specification_end(text: &str, start: usize, open: usize) -> Result<usize, Ref
 /// counted that isn't one. Comments in it would end the comment that it becomes.
 fn whole(text: &str, range: Range<usize>) -> Result<usize, Refusal> {
     let part = &text[range.clone()];
-    let starts = ["pub ", "pub(", "fn ", "impl ", "impl<", "#[", "///", "let mut ", "use ", "mod ", "struct ", "enum ", "const ", "ensures ", "requires ", "ghost "];
+    let starts = [
+        "pub ",
+        "pub(",
+        "fn ",
+        "impl ",
+        "impl<",
+        "#[",
+        "///",
+        "let mut ",
+        "use ",
+        "mod ",
+        "struct ",
+        "enum ",
+        "const ",
+        "ensures ",
+        "requires ",
+        "ghost ",
+    ];
     let is_item = |line: &str| line.starts_with('}') || starts.iter().any(|start| line.trim_start().starts_with(start));
     if part.lines().skip(1).any(is_item) {
         return Err((range.start, "a clause with an item in it"));
