@@ -18,6 +18,19 @@ extern crate std;
 
 include!(concat!(env!("OUT_DIR"), "/library.rs"));
 
+/// Traits with laws have a trait of this module above them. Other crates can't name it, so they
+/// can't implement them.
+mod sealed {
+    use crate::{ByDay, Date, Month, OffsetDateTime, PlainDateTime, SignedDuration, Time, UtcOffset, Weekday};
+
+    pub trait Sealed {}
+
+    macro_rules! seal {
+        ($($kind:ty)*) => { $(impl Sealed for $kind {})* };
+    }
+    seal! { ByDay Date Month OffsetDateTime PlainDateTime SignedDuration Time UtcOffset Weekday i8 i16 u8 }
+}
+
 mod date_methods;
 mod from_text;
 mod traits;

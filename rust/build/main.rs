@@ -1,0 +1,39 @@
+//! Writes the libraries as Rust into the folder of the build.
+
+mod contracts;
+mod decisions;
+mod face;
+mod strip;
+
+use std::env;
+use std::path::PathBuf;
+use std::process::ExitCode;
+
+/// The libraries, as modules of the crate.
+const CRATES: [&str; 12] = [
+    "cal_units",
+    "cal_span",
+    "cal_clock",
+    "cal_date",
+    "cal_time",
+    "cal_datetime",
+    "cal_schedule",
+    "cal_text",
+    "cal_format",
+    "cal_zone",
+    "cal_tzif",
+    "cal_recurrence",
+];
+
+fn main() -> ExitCode {
+    let folder = |name| env::var_os(name).map(PathBuf::from).unwrap_or_default();
+    println!("cargo::rerun-if-changed=rust/build");
+    let options = strip::Options { crates: &CRATES, standard: "core", has_tests: false, more: Some(&face::change) };
+    match strip::write_crates(&folder("CARGO_MANIFEST_DIR").join("crates"), &folder("OUT_DIR"), &options) {
+        Ok(_) => ExitCode::SUCCESS,
+        Err(fault) => {
+            println!("cargo::error={fault}");
+            ExitCode::FAILURE
+        }
+    }
+}
