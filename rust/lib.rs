@@ -13,7 +13,7 @@
 #![allow(unused, clippy::all)]
 #[cfg(not(target_pointer_width = "64"))]
 compile_error!("the proofs are about 64 bits of usize");
-#[cfg(test)]
+#[cfg(any(feature = "std", test))]
 extern crate std;
 
 include!(concat!(env!("OUT_DIR"), "/library.rs"));
@@ -33,6 +33,10 @@ mod sealed {
 
 mod date_methods;
 mod from_text;
+#[cfg(feature = "std")]
+mod std_clock;
+#[cfg(feature = "std")]
+mod std_zones;
 mod traits;
 mod values;
 mod zones;
@@ -66,6 +70,8 @@ pub mod error {
     pub use crate::cal_tzif::{ZoneError, ZoneErrorKind};
     pub use crate::cal_units::error::{Component, ComponentRange, ConversionRange, InvalidVariant};
     pub use crate::date_methods::UnsupportedItem;
+    #[cfg(feature = "std")]
+    pub use crate::std_zones::NamedZoneError;
     pub use crate::values::TooManyValues;
 }
 /// Years, months and adjustments.

@@ -15,7 +15,7 @@ impl Zone<'_> {
     /// # Ok::<(), fotsevindre::error::ZoneError>(())
     /// ```
     pub fn abbreviation_at(&self, instant: i64) -> &str {
-        let bytes = self.kind_at(instant).abbreviation(self.unchecked.table.bytes);
+        let bytes = self.kind_at(instant).abbreviation(self.unchecked.table.bytes());
         // A parser accepts only ASCII.
         str::from_utf8(bytes).unwrap_or_default()
     }

@@ -3,6 +3,7 @@
 
 use crate::contracts;
 use crate::decisions::{Decision, decision, is_replaced};
+use crate::members;
 use crate::strip::{Edits, Fault, Item, Kind, Source, TokenKind};
 
 /// Traits with laws. Only the crate implements them.
@@ -36,6 +37,7 @@ pub fn change(source: &Source, edits: &mut Edits) -> Result<(), Fault> {
         match item.kind {
             Kind::Function => function(source, item, edits)?,
             Kind::Impl | Kind::Trait => block(source, item, edits),
+            Kind::Type => members::add(source, item, edits),
             Kind::Use => export(source, item, edits),
             _ => {}
         }

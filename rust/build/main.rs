@@ -3,6 +3,7 @@
 mod contracts;
 mod decisions;
 mod face;
+mod members;
 mod strip;
 
 use std::env;

@@ -9,6 +9,9 @@ mod decisions;
 #[allow(dead_code)]
 #[path = "../build/face.rs"]
 mod face;
+#[allow(dead_code)]
+#[path = "../build/members.rs"]
+mod members;
 #[allow(dead_code, unused_imports)]
 #[path = "../build/strip/mod.rs"]
 mod strip;

