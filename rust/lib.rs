@@ -31,8 +31,11 @@ mod sealed {
     seal! { ByDay Date Month OffsetDateTime PlainDateTime SignedDuration Time UtcOffset Weekday i8 i16 u8 }
 }
 
+mod conversions;
 mod date_methods;
 mod from_text;
+#[cfg(feature = "serde")]
+mod serde;
 #[cfg(feature = "std")]
 mod std_clock;
 #[cfg(feature = "std")]

@@ -28,9 +28,12 @@ const CRATES: [&str; 12] = [
 
 fn main() -> ExitCode {
     let folder = |name| env::var_os(name).map(PathBuf::from).unwrap_or_default();
-    println!("cargo::rerun-if-changed=rust/build");
+    // The package in rust/interop has these sources too.
+    let package = folder("CARGO_MANIFEST_DIR");
+    let root = package.ancestors().find(|folder| folder.join("crates").is_dir()).unwrap_or(&package);
+    println!("cargo::rerun-if-changed={}", root.join("rust/build").display());
     let options = strip::Options { crates: &CRATES, standard: "core", has_tests: false, more: Some(&face::change) };
-    match strip::write_crates(&folder("CARGO_MANIFEST_DIR").join("crates"), &folder("OUT_DIR"), &options) {
+    match strip::write_crates(&root.join("crates"), &folder("OUT_DIR"), &options) {
         Ok(_) => ExitCode::SUCCESS,
         Err(fault) => {
             println!("cargo::error={fault}");

@@ -1,7 +1,7 @@
 //! Conversions from and to the crate `chrono`.
 
 use crate::conversions::same_variants;
-use crate::error::ComponentRange;
+use crate::error::{Component, ComponentRange};
 use crate::{Date, Month, OffsetDateTime, PlainDateTime, SignedDuration, Time, UtcOffset, Weekday};
 use ::chrono::{DateTime, Datelike, FixedOffset, NaiveDate, NaiveDateTime, NaiveTime, TimeZone, Timelike};
 
@@ -13,19 +13,19 @@ same_variants!(Month, ::chrono::Month, January February March April May June Jul
 
 impl From<::chrono::Weekday> for Weekday {
     fn from(weekday: ::chrono::Weekday) -> Self {
-        Self::from_number(weekday.number_from_monday())
+        Self::Monday.nth_next(weekday.num_days_from_monday() as u8)
     }
 }
 
 impl From<Weekday> for ::chrono::Weekday {
     fn from(weekday: Weekday) -> Self {
-        (1..weekday.number()).fold(Self::Mon, |day, _| day.succ())
+        (1..weekday.number_from_monday()).fold(Self::Mon, |day, _| day.succ())
     }
 }
 
 impl From<NaiveDate> for Date {
     fn from(date: NaiveDate) -> Self {
-        Self::from_c(date.num_days_from_ce() + DAY_ZERO)
+        Self::from_julian_day(date.num_days_from_ce() + DAY_ZERO).expect("each date of chrono is in range")
     }
 }
 
@@ -34,7 +34,7 @@ impl TryFrom<Date> for NaiveDate {
     type Error = ComponentRange;
 
     fn try_from(date: Date) -> Result<Self, Self::Error> {
-        Self::from_num_days_from_ce_opt(date.to_julian_day() - DAY_ZERO).ok_or(ComponentRange::YEAR)
+        Self::from_num_days_from_ce_opt(date.to_julian_day() - DAY_ZERO).ok_or(ComponentRange::unconditional(Component::Year))
     }
 }
 
@@ -49,14 +49,14 @@ impl TryFrom<NaiveTime> for Time {
 
 impl From<Time> for NaiveTime {
     fn from(time: Time) -> Self {
-        let (seconds, nanosecond) = (time.to_c() / 1_000_000_000, time.to_c() % 1_000_000_000);
-        Self::from_num_seconds_from_midnight_opt(seconds as u32, nanosecond as u32).expect("chrono has each time of day")
+        let (hour, minute, second, nanosecond) = time.as_hms_nano();
+        Self::from_hms_nano_opt(hour.into(), minute.into(), second.into(), nanosecond).expect("chrono has each time of day")
     }
 }
 
 impl From<FixedOffset> for UtcOffset {
     fn from(offset: FixedOffset) -> Self {
-        Self::from_c(offset.local_minus_utc())
+        Self::from_whole_seconds(offset.local_minus_utc()).expect("each offset of chrono is in range")
     }
 }
 
@@ -65,7 +65,7 @@ impl TryFrom<UtcOffset> for FixedOffset {
     type Error = ComponentRange;
 
     fn try_from(offset: UtcOffset) -> Result<Self, Self::Error> {
-        Self::east_opt(offset.whole_seconds()).ok_or(ComponentRange::SECONDS)
+        Self::east_opt(offset.whole_seconds()).ok_or(ComponentRange::unconditional(Component::Seconds))
     }
 }
 
@@ -84,10 +84,10 @@ impl TryFrom<SignedDuration> for ::chrono::Duration {
     fn try_from(duration: SignedDuration) -> Result<Self, Self::Error> {
         let milliseconds = i64::try_from(duration.whole_milliseconds()).unwrap_or(i64::MIN);
         if milliseconds == i64::MIN {
-            return Err(ComponentRange::SECONDS);
+            return Err(ComponentRange::unconditional(Component::Seconds));
         }
         let rest = Self::nanoseconds((duration.subsec_nanoseconds() % 1_000_000).into());
-        Self::milliseconds(milliseconds).checked_add(&rest).ok_or(ComponentRange::SECONDS)
+        Self::milliseconds(milliseconds).checked_add(&rest).ok_or(ComponentRange::unconditional(Component::Seconds))
     }
 }
 
@@ -130,6 +130,6 @@ impl TryFrom<OffsetDateTime> for DateTime<FixedOffset> {
         local
             .checked_sub_signed(::chrono::Duration::seconds(offset.local_minus_utc().into()))
             .map(|utc| offset.from_utc_datetime(&utc))
-            .ok_or(ComponentRange::YEAR)
+            .ok_or(ComponentRange::unconditional(Component::Year))
     }
 }

@@ -1,4 +1,4 @@
-//! Conversions from and to other crates, with the features of `clients/rust/conversions`.
+//! Conversions from and to other crates.
 
 #[cfg(feature = "chrono")]
 mod chrono;

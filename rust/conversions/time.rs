@@ -10,7 +10,7 @@ same_variants!(Weekday, ::time::Weekday, Monday Tuesday Wednesday Thursday Frida
 
 impl From<::time::Date> for Date {
     fn from(date: ::time::Date) -> Self {
-        Self::from_c(date.to_julian_day())
+        Self::from_julian_day(date.to_julian_day()).expect("each date of time is in range")
     }
 }
 
@@ -27,8 +27,7 @@ impl TryFrom<Date> for ::time::Date {
 impl From<::time::Time> for Time {
     fn from(time: ::time::Time) -> Self {
         let (hour, minute, second, nanosecond) = time.as_hms_nano();
-        let seconds = (u64::from(hour) * 60 + u64::from(minute)) * 60 + u64::from(second);
-        Self::from_c(seconds * 1_000_000_000 + u64::from(nanosecond))
+        Self::from_hms_nano(hour, minute, second, nanosecond).expect("both have the same times")
     }
 }
 
@@ -41,7 +40,7 @@ impl From<Time> for ::time::Time {
 
 impl From<::time::UtcOffset> for UtcOffset {
     fn from(offset: ::time::UtcOffset) -> Self {
-        Self::from_c(offset.whole_seconds())
+        Self::from_whole_seconds(offset.whole_seconds()).expect("each offset of time is in range")
     }
 }
 

@@ -1,21 +1,17 @@
 //! Values in JSON, and errors.
+#![cfg(feature = "serde")]
 
 use fotsevindre::{Date, Month, OffsetDateTime, PlainDateTime, Time, UtcOffset, Weekday};
 use serde::{Deserialize, Serialize};
 
 #[derive(Serialize, Deserialize, Debug, PartialEq)]
 struct Everything {
-    #[serde(with = "fotsevindre_serde::text")]
     date: Date,
-    #[serde(with = "fotsevindre_serde::text")]
     time: Time,
-    #[serde(with = "fotsevindre_serde::text")]
     offset: UtcOffset,
-    #[serde(with = "fotsevindre_serde::text")]
     month: Month,
-    #[serde(with = "fotsevindre_serde::text")]
     weekday: Weekday,
-    #[serde(default, with = "fotsevindre_serde::option")]
+    #[serde(default)]
     until: Option<Date>,
 }
 
@@ -41,7 +37,7 @@ fn both_ways() {
 
 #[derive(Deserialize, Debug)]
 struct Day {
-    #[serde(rename = "day", with = "fotsevindre_serde::text")]
+    #[serde(rename = "day")]
     _day: Date,
 }
 
@@ -50,7 +46,7 @@ fn errors() {
     for (text, words) in [
         (r#"{"day":"2023-02-29"}"#, "day was not in range"),
         (r#"{"day":"2024-02-3"}"#, "unexpected end at 9"),
-        (r#"{"day":2460370}"#, "expected a text"),
+        (r#"{"day":2460370}"#, "expected a string"),
     ] {
         let error = serde_json::from_str::<Day>(text).unwrap_err().to_string();
         assert!(error.contains(words), "{error}");
@@ -59,9 +55,7 @@ fn errors() {
 
 #[derive(Serialize, Deserialize, Debug, PartialEq)]
 struct Flight {
-    #[serde(with = "fotsevindre_serde::text")]
     leaves: PlainDateTime,
-    #[serde(with = "fotsevindre_serde::text")]
     lands: OffsetDateTime,
 }
 
