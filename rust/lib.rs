@@ -10,7 +10,6 @@
 //! # Ok::<(), fotsevindre::error::ComponentRange>(())
 //! ```
 #![no_std]
-#![allow(unused, clippy::all)]
 #[cfg(not(target_pointer_width = "64"))]
 compile_error!("the proofs are about 64 bits of usize");
 #[cfg(test)]

@@ -3,6 +3,7 @@
 
 use crate::contracts;
 use crate::decisions::{Decision, decision, is_replaced};
+use crate::methods;
 use crate::strip::{Edits, Fault, Item, Kind, Source, TokenKind};
 
 /// Traits with laws. Only the crate implements them.
@@ -32,9 +33,16 @@ const TRAIT_METHODS: &[(&str, &str)] = &[
 ///
 /// Returns a public function with a condition that nobody decided about.
 pub fn change(source: &Source, edits: &mut Edits) -> Result<(), Fault> {
+    if source.krate == "cal_c" {
+        plain(source, edits);
+        return Ok(());
+    }
     for item in &source.items {
         match item.kind {
-            Kind::Function => function(source, item, edits)?,
+            Kind::Function => {
+                function(source, item, edits)?;
+                methods::add(source, item, edits);
+            }
             Kind::Impl | Kind::Trait => block(source, item, edits),
             Kind::Use => export(source, item, edits),
             _ => {}
@@ -44,6 +52,25 @@ pub fn change(source: &Source, edits: &mut Edits) -> Result<(), Fault> {
         duration_parts(source, at, edits);
     }
     Ok(())
+}
+
+/// Makes functions for C plain functions of the crate, without symbols.
+fn plain(source: &Source, edits: &mut Edits) {
+    for at in 0..source.tokens.len() {
+        if source.word(at) == "#" && source.word(at + 2) == "unsafe" && source.word(at + 4) == "no_mangle" {
+            edits.comment_out(source.bytes(&(at..at + 7)));
+        }
+        if source.word(at) == "extern" && source.word(at + 2) == "\"C\"" {
+            edits.comment_out(source.bytes(&(at..at + 3)));
+        }
+    }
+    for item in source.items.iter().filter(|item| is_private_module(source, item)) {
+        edits.insert(source.bytes(&item.head).start, "pub(crate) ");
+    }
+}
+
+fn is_private_module(source: &Source, item: &Item) -> bool {
+    item.kind == Kind::Module && source.part(&item.head).starts_with("mod")
 }
 
 /// Adds methods of traits, and seals traits.

@@ -3,6 +3,7 @@
 mod contracts;
 mod decisions;
 mod face;
+mod methods;
 mod strip;
 
 use std::env;
@@ -10,7 +11,7 @@ use std::path::PathBuf;
 use std::process::ExitCode;
 
 /// The libraries, as modules of the crate.
-const CRATES: [&str; 12] = [
+const CRATES: [&str; 13] = [
     "cal_units",
     "cal_span",
     "cal_clock",
@@ -23,6 +24,7 @@ const CRATES: [&str; 12] = [
     "cal_zone",
     "cal_tzif",
     "cal_recurrence",
+    "cal_c",
 ];
 
 fn main() -> ExitCode {

@@ -9,7 +9,9 @@ mod decisions;
 #[allow(dead_code)]
 #[path = "../build/face.rs"]
 mod face;
-#[allow(dead_code, unused_imports)]
+#[allow(dead_code)]
+#[path = "../build/methods.rs"]
+mod methods;
 #[path = "../build/strip/mod.rs"]
 mod strip;
 
