@@ -45,6 +45,7 @@ pub fn change(source: &Source, edits: &mut Edits) -> Result<(), Fault> {
             }
             Kind::Impl | Kind::Trait => block(source, item, edits),
             Kind::Use => export(source, item, edits),
+            Kind::Type => derives(source, item, edits),
             _ => {}
         }
     }
@@ -83,6 +84,29 @@ fn block(source: &Source, item: &Item, edits: &mut Edits) {
         let has_bounds = source.part(&item.head).contains(':');
         let end = source.bytes(&item.head).start + source.part(&item.head).trim_end().len();
         edits.insert(end, if has_bounds { " + crate::sealed::Sealed" } else { ": crate::sealed::Sealed" });
+    }
+}
+
+/// Traits that types have in Rust besides those of the source.
+const DERIVES: &[(&str, &str)] = &[];
+
+/// Derives traits. A type that the kit drops can be cloned in Rust, unless it has a clone of its
+/// own.
+fn derives(source: &Source, item: &Item, edits: &mut Edits) {
+    let attributes = source.part(&(item.all.start..item.head.start));
+    let head = source.bytes(&item.head).start;
+    let has_clone =
+        attributes.contains("Clone") || source.items.iter().any(|other| other.name == format!("Clone for {}", item.name));
+    if attributes.contains("Drop") && !has_clone {
+        edits.insert(head, "#[derive(Clone)] ");
+    }
+    if let Some((_, traits)) = DERIVES.iter().find(|row| row.0 == item.name) {
+        edits.insert(head, format!("#[derive({traits})] "));
+    }
+    if item.name == "Table" {
+        let fields = item.body.clone().unwrap_or_default();
+        let bytes = fields.clone().find(|at| source.word(*at) == "bytes");
+        edits.insert(source.tokens[bytes.unwrap_or(fields.start)].range.start, "pub(crate) ");
     }
 }
 
