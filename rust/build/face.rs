@@ -88,7 +88,13 @@ fn block(source: &Source, item: &Item, edits: &mut Edits) {
 }
 
 /// Traits that types have in Rust besides those of the source.
-const DERIVES: &[(&str, &str)] = &[];
+const DERIVES: &[(&str, &[&str], &str)] = &[
+    ("cal_units", &["ShortText"], "Copy"),
+    ("cal_format", &["Format", "Shown", "DateFormat", "TimeFormat", "OffsetFormat", "DateTimeFormat", "OffsetDateTimeFormat"], "Debug"),
+    ("cal_recurrence", &["ZonedSet", "Occurrences", "CountedZonedSet"], "Debug"),
+    ("cal_zone", &["Zone", "UncheckedZone", "Table"], "Copy, Debug, PartialEq, Eq"),
+    ("cal_zone", &["Gap", "Layout", "Local", "Rule", "Yearly"], "Debug, PartialEq, Eq"),
+];
 
 /// Derives traits. A type that the kit drops can be cloned in Rust, unless it has a clone of its
 /// own.
@@ -100,7 +106,7 @@ fn derives(source: &Source, item: &Item, edits: &mut Edits) {
     if attributes.contains("Drop") && !has_clone {
         edits.insert(head, "#[derive(Clone)] ");
     }
-    if let Some((_, traits)) = DERIVES.iter().find(|row| row.0 == item.name) {
+    if let Some((_, _, traits)) = DERIVES.iter().find(|row| row.0 == source.krate && row.1.contains(&item.name.as_str())) {
         edits.insert(head, format!("#[derive({traits})] "));
     }
     if item.name == "Table" {
