@@ -10,13 +10,29 @@
 //! # Ok::<(), fotsevindre::error::ComponentRange>(())
 //! ```
 #![no_std]
-#![allow(unused, clippy::all)]
 #[cfg(not(target_pointer_width = "64"))]
 compile_error!("the proofs are about 64 bits of usize");
 #[cfg(any(feature = "std", test))]
 extern crate std;
 
+// Source that was proved, without its contracts.
 include!(concat!(env!("OUT_DIR"), "/library.rs"));
+
+pub mod columns;
+mod conversions;
+mod duration;
+mod errors;
+mod formats;
+mod from_text;
+mod iterators;
+#[cfg(feature = "serde")]
+mod serde;
+#[cfg(feature = "std")]
+mod std_clock;
+#[cfg(feature = "std")]
+mod std_zones;
+mod values;
+mod zones;
 
 /// Traits with laws have a trait of this module above them. Other crates can't name it, so they
 /// can't implement them.
@@ -31,77 +47,99 @@ mod sealed {
     seal! { ByDay Date Month OffsetDateTime PlainDateTime SignedDuration Time UtcOffset Weekday i8 i16 u8 }
 }
 
-mod conversions;
-mod date_methods;
-mod from_text;
-#[cfg(feature = "serde")]
-mod serde;
-#[cfg(feature = "std")]
-mod std_clock;
-#[cfg(feature = "std")]
-mod std_zones;
-mod traits;
-mod values;
-mod zones;
-
 pub use cal_clock::{Time, UtcOffset};
 pub use cal_date::Date;
 pub use cal_datetime::{OffsetDateTime, PlainDateTime};
-pub use cal_schedule::{ByDay, Convention, DayCount, Frequency, Period, Rule, RuleDays, Workdays, YearFraction};
+pub use cal_format::Format;
 pub use cal_span::SignedDuration;
 /// A duration, by its name in the crate `time`.
 pub use cal_span::SignedDuration as Duration;
 pub use cal_time::{add_to_pair, sub_from_pair};
 pub use cal_units::{Month, Weekday};
-pub use cal_zone::{Gap, Local, LocalType, Zone};
+pub use cal_zone::{Local, Zone};
+pub use formats::FormatText;
+pub use schedule::{ByDay, Convention, DayCount, Frequency, Period, Rule, RuleDays, Workdays, YearFraction};
+pub use zone::{Gap, LocalType};
+pub use zones::Policy;
 
-pub use cal_format::{Format, FormatError};
-pub use date_methods::FormatText;
-/// Returns the version.
-pub fn version() -> (u32, u32, u32) {
-    (0, 2, 0)
+/// Returns the version of the crate. `(0, 1, 0)` is 0.1.0.
+pub const fn version() -> (u32, u32, u32) {
+    let [major, minor, patch] =
+        [number(env!("CARGO_PKG_VERSION_MAJOR")), number(env!("CARGO_PKG_VERSION_MINOR")), number(env!("CARGO_PKG_VERSION_PATCH"))];
+    (major, minor, patch)
 }
+
+/// Returns the number of decimal digits.
+const fn number(digits: &str) -> u32 {
+    match u32::from_str_radix(digits, 10) {
+        Ok(number) => number,
+        Err(_) => panic!("the version of a package is made of numbers"),
+    }
+}
+
+/// Errors.
+pub mod error {
+    pub use crate::cal_format::FormatError;
+    pub use crate::cal_recurrence::{ParseRuleError, ParseRuleErrorKind, ParseSetError, ParseSetErrorKind};
+    pub use crate::cal_text::ParseError;
+    pub use crate::cal_tzif::{ZoneError, ZoneErrorKind};
+    pub use crate::cal_units::error::{Component, ComponentRange, ConversionRange, InvalidVariant};
+    pub use crate::formats::UnsupportedItem;
+    #[cfg(feature = "std")]
+    pub use crate::std_zones::NamedZoneError;
+    pub use crate::values::TooManyValues;
+}
+
+/// Formats for printing and parsing, in the syntax of `strftime` or of the crate `time`.
+pub mod format {
+    pub use crate::cal_format::{
+        DateFormat, DateTimeFormat, Format, FormatError, OffsetDateTimeFormat, OffsetFormat, ParseError, TimeFormat,
+    };
+    pub use crate::formats::{FormatText, UnsupportedItem};
+}
+
 /// Iterators.
 pub mod iter {
     pub use crate::cal_date::DateIter;
     pub use crate::cal_units::iter::{MonthIter, Rev, WeekdayIter};
 }
-/// Errors.
-pub mod error {
-    pub use crate::cal_format::FormatError;
-    pub use crate::cal_text::ParseError;
-    pub use crate::cal_tzif::{ZoneError, ZoneErrorKind};
-    pub use crate::cal_units::error::{Component, ComponentRange, ConversionRange, InvalidVariant};
-    pub use crate::date_methods::UnsupportedItem;
-    #[cfg(feature = "std")]
-    pub use crate::std_zones::NamedZoneError;
-    pub use crate::values::TooManyValues;
+
+/// Recurrences of RFC 5545: rules of days and of times of day, sets, and their strings.
+pub mod recurrence {
+    pub use crate::cal_recurrence::{
+        CountedSet, CountedZonedSet, DateOrTime, DateTimeRule, DateTimeSet, DateTimeSetReadings, Occurrences, ParseRuleError,
+        ParseRuleErrorKind, ParseSetError, ParseSetErrorKind, Recurrence, RecurrenceSet, RecurrenceSetDays, RecurrenceText,
+        RuleEnd, RulePart, RuleReadings, SetDays, SetInstants, SetLine, SetParts, SetReadings, TimesOfDay, ZoneName, ZonedSet,
+        fold, parse, parse_set, unfold,
+    };
+    pub use crate::schedule::{ByDay, Frequency, Pattern, Rule, RuleDays, Values};
 }
-/// Years, months and adjustments.
+
+/// Rules of days, working days, periods and day counts. Functions on one date are methods of
+/// [`Date`](crate::Date).
+pub mod schedule {
+    pub use crate::cal_schedule::{
+        ByDay, Convention, DayCount, Frequency, Pattern, Period, PeriodUnit, Rule, RuleDays, Values, Workdays, YearFraction,
+    };
+}
+
+/// Strings of dates and date-times.
+pub mod text {
+    pub use crate::cal_text::{DateForm, DateOrMoment, MomentForm, ParseError, date, julian_day, parse_any, rfc3339, unix};
+    pub use crate::cal_units::ShortText;
+}
+
+/// Lengths of months and years, and functions on slices of values.
 pub mod util {
     pub use crate::cal_units::util::{
         DateAdjustment, days_in_month, days_in_year, days_in_year_month, is_leap_year, weeks_in_year,
     };
+    pub use crate::cal_units::{Counted, extent, is_rising};
 }
-/// Texts of dates and moments.
-pub mod text {
-    pub use crate::cal_text::{DateForm, DateOrMoment, MomentForm, ParseError, date, julian_day, parse_any, rfc3339, unix};
-}
-/// Formats.
-pub mod format {
-    pub use crate::cal_format::{
-        DateFormat, DateTimeFormat, Format, FormatError, OffsetDateTimeFormat, OffsetFormat, ParseError, TimeFormat,
-    };
-}
-/// Rules and working days.
-pub mod schedule {
-    pub use crate::cal_schedule::{Pattern, PeriodUnit, Values};
-}
-/// Recurrences.
-pub mod recurrence {
-    pub use crate::cal_recurrence::{
-        DateOrTime, DateTimeRule, DateTimeSet, ParseRuleError, ParseRuleErrorKind, ParseSetError, Recurrence, RecurrenceSet,
-        RecurrenceText, RuleEnd, RulePart, TimesOfDay, ZonedSet, parse, parse_set,
-    };
-    pub use crate::cal_schedule::{Pattern, Values};
+
+/// Time zones.
+pub mod zone {
+    pub use crate::cal_tzif::{ZoneError, ZoneErrorKind};
+    pub use crate::cal_zone::{Change, Gap, Local, LocalType, Yearly, Zone};
+    pub use crate::zones::Policy;
 }

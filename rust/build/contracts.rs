@@ -60,3 +60,10 @@ pub fn documentation(source: &Source, item: &Item, panics: Option<&str>) -> Stri
 fn escaped(text: &str) -> String {
     text.replace('&', "&amp;").replace('<', "&lt;").replace('>', "&gt;")
 }
+
+/// Returns the documentation that the source has for an item, as one attribute.
+pub fn written(source: &Source, item: &Item) -> String {
+    let lines = (item.all.start..item.head.start).filter(|at| source.tokens[*at].kind == TokenKind::Doc);
+    let lines: Vec<&str> = lines.filter_map(|at| source.word(at).strip_prefix("///")).collect();
+    format!("#[doc = {:?}] ", lines.join("\n"))
+}

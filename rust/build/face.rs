@@ -4,6 +4,7 @@
 use crate::contracts;
 use crate::decisions::{Decision, decision, is_replaced};
 use crate::members;
+use crate::methods;
 use crate::strip::{Edits, Fault, Item, Kind, Source, TokenKind};
 
 /// Traits with laws. Only the crate implements them.
@@ -33,12 +34,22 @@ const TRAIT_METHODS: &[(&str, &str)] = &[
 ///
 /// Returns a public function with a condition that nobody decided about.
 pub fn change(source: &Source, edits: &mut Edits) -> Result<(), Fault> {
+    if source.krate == "cal_c" {
+        plain(source, edits);
+        return Ok(());
+    }
     for item in &source.items {
         match item.kind {
-            Kind::Function => function(source, item, edits)?,
+            Kind::Function => {
+                function(source, item, edits)?;
+                methods::add(source, item, edits);
+            }
             Kind::Impl | Kind::Trait => block(source, item, edits),
-            Kind::Type => members::add(source, item, edits),
             Kind::Use => export(source, item, edits),
+            Kind::Type => {
+                derives(source, item, edits);
+                members::add(source, item, edits);
+            }
             _ => {}
         }
     }
@@ -46,6 +57,25 @@ pub fn change(source: &Source, edits: &mut Edits) -> Result<(), Fault> {
         duration_parts(source, at, edits);
     }
     Ok(())
+}
+
+/// Makes functions for C plain functions of the crate, without symbols.
+fn plain(source: &Source, edits: &mut Edits) {
+    for at in 0..source.tokens.len() {
+        if source.word(at) == "#" && source.word(at + 2) == "unsafe" && source.word(at + 4) == "no_mangle" {
+            edits.comment_out(source.bytes(&(at..at + 7)));
+        }
+        if source.word(at) == "extern" && source.word(at + 2) == "\"C\"" {
+            edits.comment_out(source.bytes(&(at..at + 3)));
+        }
+    }
+    for item in source.items.iter().filter(|item| is_private_module(source, item)) {
+        edits.insert(source.bytes(&item.head).start, "pub(crate) ");
+    }
+}
+
+fn is_private_module(source: &Source, item: &Item) -> bool {
+    item.kind == Kind::Module && source.part(&item.head).starts_with("mod")
 }
 
 /// Adds methods of traits, and seals traits.
@@ -58,6 +88,35 @@ fn block(source: &Source, item: &Item, edits: &mut Edits) {
         let has_bounds = source.part(&item.head).contains(':');
         let end = source.bytes(&item.head).start + source.part(&item.head).trim_end().len();
         edits.insert(end, if has_bounds { " + crate::sealed::Sealed" } else { ": crate::sealed::Sealed" });
+    }
+}
+
+/// Traits that types have in Rust besides those of the source.
+const DERIVES: &[(&str, &[&str], &str)] = &[
+    ("cal_units", &["ShortText"], "Copy"),
+    ("cal_format", &["Format", "Shown", "DateFormat", "TimeFormat", "OffsetFormat", "DateTimeFormat", "OffsetDateTimeFormat"], "Debug"),
+    ("cal_recurrence", &["ZonedSet", "Occurrences", "CountedZonedSet"], "Debug"),
+    ("cal_zone", &["Zone", "UncheckedZone", "Table"], "Copy, Debug, PartialEq, Eq"),
+    ("cal_zone", &["Gap", "Layout", "Local", "Rule", "Yearly"], "Debug, PartialEq, Eq"),
+];
+
+/// Derives traits. A type that the kit drops can be cloned in Rust, unless it has a clone of its
+/// own.
+fn derives(source: &Source, item: &Item, edits: &mut Edits) {
+    let attributes = source.part(&(item.all.start..item.head.start));
+    let head = source.bytes(&item.head).start;
+    let has_clone =
+        attributes.contains("Clone") || source.items.iter().any(|other| other.name == format!("Clone for {}", item.name));
+    if attributes.contains("Drop") && !has_clone {
+        edits.insert(head, "#[derive(Clone)] ");
+    }
+    if let Some((_, _, traits)) = DERIVES.iter().find(|row| row.0 == source.krate && row.1.contains(&item.name.as_str())) {
+        edits.insert(head, format!("#[derive({traits})] "));
+    }
+    if item.name == "Table" {
+        let fields = item.body.clone().unwrap_or_default();
+        let bytes = fields.clone().find(|at| source.word(*at) == "bytes");
+        edits.insert(source.tokens[bytes.unwrap_or(fields.start)].range.start, "pub(crate) ");
     }
 }
 

@@ -4,6 +4,7 @@ mod contracts;
 mod decisions;
 mod face;
 mod members;
+mod methods;
 mod strip;
 
 use std::env;
@@ -11,7 +12,7 @@ use std::path::PathBuf;
 use std::process::ExitCode;
 
 /// The libraries, as modules of the crate.
-const CRATES: [&str; 12] = [
+const CRATES: [&str; 13] = [
     "cal_units",
     "cal_span",
     "cal_clock",
@@ -24,6 +25,7 @@ const CRATES: [&str; 12] = [
     "cal_zone",
     "cal_tzif",
     "cal_recurrence",
+    "cal_c",
 ];
 
 fn main() -> ExitCode {

@@ -12,7 +12,9 @@ mod face;
 #[allow(dead_code)]
 #[path = "../build/members.rs"]
 mod members;
-#[allow(dead_code, unused_imports)]
+#[allow(dead_code)]
+#[path = "../build/methods.rs"]
+mod methods;
 #[path = "../build/strip/mod.rs"]
 mod strip;
 

@@ -1,6 +1,6 @@
 //! Columns: worked rows, each row against the call of one value, and columns that are not of one length.
 
-use fotsevindre::columns::{self, row_error, RowError};
+use fotsevindre::columns::{self, RowError, row_error};
 use fotsevindre::error::ComponentRange;
 use fotsevindre::{Date, Month, Weekday, Workdays};
 use std::panic::catch_unwind;
@@ -217,7 +217,7 @@ fn columns_chain() {
     let mut back = vec![0; ROWS];
     assert_eq!(columns::dates_from_iso_week_dates(&iso_years, &weeks, &weekdays, &mut back, &mut statuses), errors);
     assert_eq!(back, dates);
-    assert_eq!(columns::julian_days(&[Date::MIN, Date::MAX]), [-363_521_074, 366_963_559]);
+    assert_eq!([Date::MIN, Date::MAX].map(Date::to_julian_day), [-363_521_074, 366_963_559]);
 }
 
 /// A call panics where its columns are not of one length, and answers where each has none.

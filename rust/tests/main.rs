@@ -1,5 +1,6 @@
 //! The tests of the crate.
 
+mod columns;
 mod drawn;
 mod errors;
 mod every_day;
