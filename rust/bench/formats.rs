@@ -14,6 +14,7 @@ fn compare_format(pattern: &str) {
     let mut draw = Draw(0x9e37_79b9_7f4a_7c15);
     let julian_days: Vec<_> = (0..DRAWN).map(|_| 2_086_303 + draw.below(3_287_182) as i32).collect();
     let format = Format::new(pattern).unwrap();
+    let for_dates = format.clone().for_dates().unwrap();
     let dates: Vec<_> = julian_days.iter().map(|day| Date::from_julian_day(*day).unwrap()).collect();
     let texts: Vec<_> = dates.iter().map(|date| date.format(&format).unwrap().as_str().to_owned()).collect();
     #[cfg(has_chrono)]
@@ -30,7 +31,7 @@ fn compare_format(pattern: &str) {
     compare(
         &format!("parse {pattern}"),
         vec![
-            ("ours", over(&texts, |text| Date::parse(text, &format).unwrap())),
+            ("ours", over(&texts, |text| Date::parse(text, &for_dates).unwrap())),
             #[cfg(has_chrono)]
             ("chrono", over(&texts, |text| chrono::NaiveDate::parse_from_str(text, pattern).unwrap())),
         ],

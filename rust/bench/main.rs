@@ -1,7 +1,9 @@
 //! Times each call of the client and of the other crates, in turn, over random dates of the years 1
-//! to 9999. Prints the median of the rounds in nanoseconds of processor time for each call.
+//! to 9999. Prints the median of the rounds in nanoseconds of processor time for each call, and in
+//! parentheses how many times the other crate's time ours is.
 #![allow(unexpected_cfgs)]
 
+mod calls;
 mod formats;
 mod zones;
 
@@ -59,10 +61,10 @@ fn over<'a, T, R>(values: &'a [T], call: impl Fn(&T) -> R + 'a) -> Box<dyn Fn() 
 }
 
 /// Columns of calendar dates.
-fn column_of_calendar_dates(dates: &[fotsevindre::Date]) -> Box<dyn Fn() + '_> {
+fn column_of_calendar_dates(dates: &[i32]) -> Box<dyn Fn() + '_> {
     Box::new(move || {
         let (mut years, mut months, mut days, mut statuses) = ([0; DRAWN], [0; DRAWN], [0; DRAWN], [0; DRAWN]);
-        let dates = fotsevindre::columns::julian_days(black_box(dates));
+        let dates = black_box(dates);
         fotsevindre::columns::dates_to_calendar_dates(dates, &mut years, &mut months, &mut days, &mut statuses);
         black_box((years, months, days, statuses));
     })
@@ -89,10 +91,16 @@ fn compare(name: &str, calls: Vec<Timed>) {
             times.push((processor_time() - start) * 1e9 / (DRAWN * PASSES) as f64);
         }
     }
-    print!("{name:<20}");
-    for ((who, _), times) in calls.iter().zip(&mut times) {
-        times.sort_by(f64::total_cmp);
-        print!("  {who} {:6.2}", times[ROUNDS / 2]);
+    print!("{name:<22}");
+    let medians: Vec<f64> = times
+        .iter_mut()
+        .map(|times| {
+            times.sort_by(f64::total_cmp);
+            times[ROUNDS / 2]
+        })
+        .collect();
+    for ((who, _), median) in calls.iter().zip(&medians) {
+        print!("  {who} {median:6.2} ({:4.2})", medians[0] / median);
     }
     println!();
 }
@@ -112,6 +120,7 @@ fn main() {
     #[cfg(has_chrono)]
     use chrono::Datelike;
 
+    let julian_days: Vec<_> = numbers.iter().map(|n| n.julian_day).collect();
     let offsets: Vec<_> =
         numbers.iter().map(|n| fotsevindre::UtcOffset::from_whole_seconds((n.days * 9) as i32).unwrap()).collect();
     println!("nanoseconds a call, median of {ROUNDS} rounds");
@@ -125,7 +134,10 @@ fn main() {
     );
     compare(
         "a row",
-        vec![("to_calendar_date", over(&ours, |date| date.to_calendar_date())), ("of a column", column_of_calendar_dates(&ours))],
+        vec![
+            ("to_calendar_date", over(&ours, |date| date.to_calendar_date())),
+            ("of a column", column_of_calendar_dates(&julian_days)),
+        ],
     );
     compare(
         "from_calendar_date",
@@ -222,6 +234,8 @@ fn main() {
             ("chrono", over(&chronos, |date| date.to_string())),
         ],
     );
+    #[cfg(has_time)]
+    calls::compare_calls(&numbers);
     formats::compare_formats();
     zones::compare_zones();
 }
