@@ -1,5 +1,4 @@
 //! Values from and to the crate `chrono`.
-#![cfg(feature = "chrono")]
 
 use chrono::{DateTime, FixedOffset, NaiveDate, NaiveDateTime, NaiveTime};
 use fotsevindre::{Date, Month, OffsetDateTime, PlainDateTime, SignedDuration, Time, UtcOffset, Weekday};

@@ -1,5 +1,4 @@
 //! Values in JSON, and errors.
-#![cfg(feature = "serde")]
 
 use fotsevindre::{Date, Month, OffsetDateTime, PlainDateTime, Time, UtcOffset, Weekday};
 use serde::{Deserialize, Serialize};

@@ -1,5 +1,4 @@
 //! Values from and to the crate `time`. The expected values are in both crates' own texts.
-#![cfg(feature = "time")]
 
 use fotsevindre::{Date, Month, OffsetDateTime, PlainDateTime, SignedDuration, Time, UtcOffset, Weekday};
 
