@@ -143,3 +143,9 @@ pub mod zone {
     pub use crate::cal_zone::{Change, Gap, Local, LocalType, Yearly, Zone};
     pub use crate::zones::Policy;
 }
+
+/// The pages for Rust, whose examples are tested.
+#[cfg(doctest)]
+#[doc = include_str!("../docs/RUST.md")]
+#[doc = include_str!("../docs/COLUMNS.md")]
+struct Pages;
