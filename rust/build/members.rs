@@ -1,5 +1,5 @@
-//! Constants of types that only the crate has. They stand after the type, whose private fields they
-//! name.
+//! Constants of types that only the crate has. They are written after the type, since they name its
+//! private fields.
 
 use crate::strip::{Edits, Item, Source};
 

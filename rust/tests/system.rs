@@ -3,6 +3,7 @@
 use fotsevindre::error::NamedZoneError;
 use fotsevindre::{Duration, OffsetDateTime, Zone};
 use std::fs;
+use std::process::Command;
 use std::time::SystemTime;
 
 /// A file of RFC 9636 without changes, whose footer is a POSIX string.
@@ -33,6 +34,9 @@ fn zones_by_name() {
     assert!(matches!(Zone::named("Missing"), Err(NamedZoneError::File(error)) if error.kind() == std::io::ErrorKind::NotFound));
     assert!(matches!(Zone::named("Europe"), Err(NamedZoneError::NotRegular)));
     assert!(matches!(Zone::named("Long"), Err(NamedZoneError::TooLong)));
+    if Command::new("mkfifo").arg(folder.join("Pipe")).status().is_ok_and(|status| status.success()) {
+        assert!(matches!(Zone::named("Pipe"), Err(NamedZoneError::NotRegular)));
+    }
     let broken: Box<dyn std::error::Error> = Zone::named("Broken").unwrap_err().into();
     assert_eq!((broken.to_string().as_str(), broken.source().unwrap().to_string().as_str()), ("unexpected end at 4", "unexpected end at 4"));
 
