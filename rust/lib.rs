@@ -17,6 +17,8 @@ extern crate std;
 
 // Source that was proved, without its contracts.
 include!(concat!(env!("OUT_DIR"), "/library.rs"));
+#[cfg(doc)]
+include!(concat!(env!("OUT_DIR"), "/definitions.rs"));
 
 pub mod columns;
 mod conversions;
@@ -116,7 +118,7 @@ pub mod recurrence {
 }
 
 /// Rules of days, working days, periods and day counts. Functions on one date are methods of
-/// [`Date`](crate::Date).
+/// [`Date`].
 pub mod schedule {
     pub use crate::cal_schedule::{
         ByDay, Convention, DayCount, Frequency, Pattern, Period, PeriodUnit, Rule, RuleDays, Values, Workdays, YearFraction,

@@ -3,6 +3,7 @@
 
 use crate::contracts;
 use crate::decisions::{Decision, decision, is_replaced};
+use crate::definitions::Definitions;
 use crate::members;
 use crate::methods;
 use crate::strip::{Edits, Fault, Item, Kind, Source, TokenKind};
@@ -33,7 +34,7 @@ const TRAIT_METHODS: &[(&str, &str)] = &[
 /// # Errors
 ///
 /// Returns a public function with a condition that nobody decided about.
-pub fn change(source: &Source, edits: &mut Edits) -> Result<(), Fault> {
+pub fn change(source: &Source, definitions: &Definitions, edits: &mut Edits) -> Result<(), Fault> {
     if source.krate == "cal_c" {
         plain(source, edits);
         return Ok(());
@@ -41,8 +42,8 @@ pub fn change(source: &Source, edits: &mut Edits) -> Result<(), Fault> {
     for item in &source.items {
         match item.kind {
             Kind::Function => {
-                function(source, item, edits)?;
-                methods::add(source, item, edits);
+                function(source, item, definitions, edits)?;
+                methods::add(source, item, definitions, edits);
             }
             Kind::Impl | Kind::Trait => block(source, item, edits),
             Kind::Use => export(source, item, edits),
@@ -55,6 +56,7 @@ pub fn change(source: &Source, edits: &mut Edits) -> Result<(), Fault> {
     }
     for at in 0..source.tokens.len() {
         duration_parts(source, at, edits);
+        methods::link(source, at, edits);
     }
     Ok(())
 }
@@ -94,7 +96,11 @@ fn block(source: &Source, item: &Item, edits: &mut Edits) {
 /// Traits that types have in Rust besides those of the source.
 const DERIVES: &[(&str, &[&str], &str)] = &[
     ("cal_units", &["ShortText"], "Copy"),
-    ("cal_format", &["Format", "Shown", "DateFormat", "TimeFormat", "OffsetFormat", "DateTimeFormat", "OffsetDateTimeFormat"], "Debug"),
+    (
+        "cal_format",
+        &["Format", "Shown", "DateFormat", "TimeFormat", "OffsetFormat", "DateTimeFormat", "OffsetDateTimeFormat"],
+        "Debug",
+    ),
     ("cal_recurrence", &["ZonedSet", "Occurrences", "CountedZonedSet"], "Debug"),
     ("cal_zone", &["Zone", "UncheckedZone", "Table"], "Copy, Debug, PartialEq, Eq"),
     ("cal_zone", &["Gap", "Layout", "Local", "Rule", "Yearly"], "Debug, PartialEq, Eq"),
@@ -138,7 +144,7 @@ fn export(source: &Source, item: &Item, edits: &mut Edits) {
 }
 
 /// Decides about a function.
-fn function(source: &Source, item: &Item, edits: &mut Edits) -> Result<(), Fault> {
+fn function(source: &Source, item: &Item, definitions: &Definitions, edits: &mut Edits) -> Result<(), Fault> {
     let head = source.bytes(&item.head);
     let is_public = source.part(&item.head).starts_with("pub fn");
     let is_reachable = is_public || is_of_trait(source, item);
@@ -155,7 +161,7 @@ fn function(source: &Source, item: &Item, edits: &mut Edits) -> Result<(), Fault
     let words = checked(source, item, found, edits)?;
     let mut attributes = String::new();
     if is_reachable && !is_hidden {
-        attributes += &contracts::documentation(source, item, words);
+        attributes += &contracts::documentation(source, item, words, definitions);
     }
     if words.is_some() {
         attributes += "#[track_caller] ";

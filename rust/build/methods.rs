@@ -2,6 +2,7 @@
 //! another crate; here all are one crate.
 
 use crate::contracts;
+use crate::definitions::Definitions;
 use crate::strip::{Edits, Item, Source, TokenKind};
 
 /// The functions by crate and by the type that has them as methods. Their first parameter becomes
@@ -37,8 +38,43 @@ const METHODS: &[(&str, &str, &[&str])] = &[
     ("cal_zone", "OffsetDateTime", &["in_zone"]),
 ];
 
+/// Makes links to functions that are methods in Rust links to these.
+pub fn link(source: &Source, at: usize, edits: &mut Edits) {
+    if source.tokens[at].kind == TokenKind::Doc {
+        let start = source.tokens[at].range.start;
+        for (place, target) in links(&source.krate, source.word(at)) {
+            edits.insert(start + place, target);
+        }
+    }
+}
+
+/// Returns the targets of links to functions that are methods, each with the place after its link.
+fn links(krate: &str, text: &str) -> Vec<(usize, String)> {
+    let mut found = Vec::new();
+    for (_, owner, names) in METHODS.iter().filter(|row| row.0 == krate) {
+        for name in *names {
+            let link = format!("[`{name}`]");
+            let places = text.match_indices(&link).map(|(start, _)| start + link.len());
+            found.extend(places.filter(|end| !text[*end..].starts_with('(')).map(|end| (end, format!("(crate::{owner}::{name})"))));
+        }
+    }
+    found.sort_by(|one, other| other.0.cmp(&one.0));
+    found
+}
+
+/// Returns the documentation that the source has for a function, as one attribute of its method.
+fn documentation(source: &Source, item: &Item) -> String {
+    let lines = (item.all.start..item.head.start).filter(|at| source.tokens[*at].kind == TokenKind::Doc);
+    let lines: Vec<&str> = lines.filter_map(|at| source.word(at).strip_prefix("///")).collect();
+    let mut text = lines.join("\n");
+    for (place, target) in links(&source.krate, &text) {
+        text.insert_str(place, &target);
+    }
+    format!("#[doc = {text:?}] ")
+}
+
 /// Adds the method of a free function after it.
-pub fn add(source: &Source, item: &Item, edits: &mut Edits) {
+pub fn add(source: &Source, item: &Item, definitions: &Definitions, edits: &mut Edits) {
     let name = item.name.as_str();
     let Some((_, owner, _)) = METHODS.iter().find(|row| row.0 == source.krate && row.2.contains(&name)) else { return };
     if !source.part(&item.head).starts_with("pub fn") {
@@ -57,7 +93,7 @@ pub fn add(source: &Source, item: &Item, edits: &mut Edits) {
     });
     let passed = parameters.iter().enumerate().map(|(index, (name, _))| if index == 0 && has_self { "self" } else { *name });
     let (declared, passed) = (declared.collect::<Vec<_>>().join(", "), passed.collect::<Vec<_>>().join(", "));
-    let documentation = contracts::written(source, item) + &contracts::documentation(source, item, None);
+    let documentation = documentation(source, item) + &contracts::documentation(source, item, None, definitions);
     let method = format!("#[inline] pub fn {name}({declared}) -> {result} {{ {name}({passed}) }}");
     edits.insert(source.bytes(&item.all).end, format!(" impl {owner} {{ {documentation}{method} }}"));
 }

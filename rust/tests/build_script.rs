@@ -7,6 +7,9 @@ mod contracts;
 #[path = "../build/decisions.rs"]
 mod decisions;
 #[allow(dead_code)]
+#[path = "../build/definitions.rs"]
+mod definitions;
+#[allow(dead_code)]
 #[path = "../build/face.rs"]
 mod face;
 #[allow(dead_code)]
@@ -18,8 +21,9 @@ mod methods;
 #[path = "../build/strip/mod.rs"]
 mod strip;
 
+use definitions::Definitions;
 use std::path::Path;
-use strip::{Fault, Kind, Options, Source, translated};
+use strip::{Edits, Fault, Kind, Options, Source, translated};
 
 fn source(text: &str) -> Result<Source, Fault> {
     Source::new(Path::new("cal_date/src/lib.rt").to_path_buf(), "cal_date", text.to_string())
@@ -145,7 +149,9 @@ fn items_have_owners() {
 }
 
 fn with_face(text: &str) -> Result<String, Fault> {
-    translated(&source(text)?, &Options { more: Some(&face::change), ..OPTIONS })
+    let definitions = Definitions::default();
+    let change = |source: &Source, edits: &mut Edits| face::change(source, &definitions, edits);
+    translated(&source(text)?, &Options { more: Some(&change), ..OPTIONS })
 }
 
 #[test]

@@ -238,10 +238,12 @@ fn columns_of_other_lengths() {
         assert!(
             catch_unwind(|| columns::dates_to_iso_week_dates(n, &mut whole(b), &mut byte(c), &mut byte(d), &mut byte(e))).is_err()
         );
-        assert!(catch_unwind(|| {
-            columns::calendar_dates_to_iso_week_dates(n, p, q, &mut whole(2), &mut byte(2), &mut byte(d), &mut byte(e))
-        })
-        .is_err());
+        assert!(
+            catch_unwind(|| {
+                columns::calendar_dates_to_iso_week_dates(n, p, q, &mut whole(2), &mut byte(2), &mut byte(d), &mut byte(e))
+            })
+            .is_err()
+        );
     }
     for [a, b, c, d] in [[1, 2, 2, 2], [2, 1, 2, 2], [2, 2, 1, 2], [2, 2, 2, 1], [2, 2, 2, 3], [0, 1, 1, 1]] {
         let n = &numbers[..a];
@@ -250,7 +252,9 @@ fn columns_of_other_lengths() {
         assert!(catch_unwind(|| columns::dates_add_months(n, &numbers[..b], &mut whole(c), &mut byte(d))).is_err());
         let workdays = Workdays::new([true; 7], &[]).unwrap();
         assert!(catch_unwind(|| columns::dates_add_workdays(n, &numbers[..b], &workdays, &mut whole(c), &mut byte(d))).is_err());
-        assert!(catch_unwind(|| columns::dates_workdays_between(n, &numbers[..b], &workdays, &mut whole(c), &mut byte(d))).is_err());
+        assert!(
+            catch_unwind(|| columns::dates_workdays_between(n, &numbers[..b], &workdays, &mut whole(c), &mut byte(d))).is_err()
+        );
         assert!(catch_unwind(|| columns::dates_to_ordinal_dates(n, &mut whole(b), &mut vec![0; c], &mut byte(d))).is_err());
     }
     for [a, b, c] in [[1, 2, 2], [2, 1, 2], [2, 2, 1], [0, 1, 1], [1, 0, 0]] {

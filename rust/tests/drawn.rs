@@ -1,7 +1,7 @@
 //! Drawn durations, times and moments against whole numbers of 128 bits.
 
 use fotsevindre::util::DateAdjustment;
-use fotsevindre::{add_to_pair, sub_from_pair, Date, Duration, Time, UtcOffset};
+use fotsevindre::{Date, Duration, Time, UtcOffset, add_to_pair, sub_from_pair};
 
 const SECOND: i128 = 1_000_000_000;
 const DAY: i128 = 86_400 * SECOND;

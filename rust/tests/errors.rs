@@ -3,7 +3,7 @@
 use fotsevindre::error::ComponentRange;
 use fotsevindre::{Date, Duration, Month, Time, UtcOffset, Weekday};
 use std::fmt::Debug;
-use std::panic::{catch_unwind, UnwindSafe};
+use std::panic::{UnwindSafe, catch_unwind};
 
 #[track_caller]
 fn is_error<T: Debug + PartialEq>(result: Result<T, ComponentRange>, name: &str, is_conditional: bool) {

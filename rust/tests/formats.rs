@@ -82,7 +82,8 @@ fn parsed() {
     let new = |format: &str| Format::new(format).unwrap();
     let row = |format: &str, text: &str| new(format).for_dates().unwrap().parse(text.as_bytes());
     let day = moment().date();
-    for (format, text) in [("%d/%m/%Y", "29/02/2024"), ("%A, %-d %B %Y", "Thursday, 29 February 2024"), ("%G-W%V-%u", "2024-W09-4")] {
+    for (format, text) in [("%d/%m/%Y", "29/02/2024"), ("%A, %-d %B %Y", "Thursday, 29 February 2024"), ("%G-W%V-%u", "2024-W09-4")]
+    {
         assert_eq!(row(format, text), Ok(day));
     }
     assert_eq!(row("%F", "2024-02-2"), Err(ParseError::UnexpectedEnd(9)));

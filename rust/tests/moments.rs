@@ -55,6 +55,8 @@ fn plain_at(local: i128) -> Option<PlainDateTime> {
     Some(PlainDateTime::new(date, time))
 }
 
+// Each operator is called.
+#[allow(clippy::nonminimal_bool)]
 #[test]
 fn a_leap_night() {
     let night = moment("2024-02-29 23:59:59.25 +01:00:00");

@@ -1,9 +1,9 @@
 //! Worked rows: dates, moves, occurrences, times, offsets, durations, months and weekdays.
 
-use fotsevindre::error::{ConversionRange, InvalidVariant};
-use fotsevindre::util::{days_in_month, days_in_year, days_in_year_month, is_leap_year, weeks_in_year, DateAdjustment};
-use fotsevindre::{add_to_pair, sub_from_pair, Date, Duration, Month, SignedDuration, Time, UtcOffset, Weekday};
 use Weekday::*;
+use fotsevindre::error::{ConversionRange, InvalidVariant};
+use fotsevindre::util::{DateAdjustment, days_in_month, days_in_year, days_in_year_month, is_leap_year, weeks_in_year};
+use fotsevindre::{Date, Duration, Month, SignedDuration, Time, UtcOffset, Weekday, add_to_pair, sub_from_pair};
 
 fn day(year: i32, month: u8, day: u8) -> Date {
     Date::from_calendar_date(year, Month::try_from(month).unwrap(), day).unwrap()

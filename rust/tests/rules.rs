@@ -1,5 +1,8 @@
 //! Recurrences, by examples of RFC 5545 with their first days.
 
+// The numbers of dates have a group for the year, the month and the day.
+#![allow(clippy::inconsistent_digit_grouping)]
+
 use fotsevindre::ByDay::{Every, Nth};
 use fotsevindre::Frequency::{Daily, Monthly, Weekly, Yearly};
 use fotsevindre::Month::{December, February, January, July, June, November};
@@ -120,11 +123,7 @@ fn examples_of_the_rfc() {
         ),
         (
             "FREQ=MONTHLY;BYDAY=SA;BYMONTHDAY=7,8,9,10,11,12,13",
-            Pattern {
-                weekdays: list([Every(Saturday)]),
-                month_days: list([7, 8, 9, 10, 11, 12, 13]),
-                ..Pattern::new(Monthly)
-            },
+            Pattern { weekdays: list([Every(Saturday)]), month_days: list([7, 8, 9, 10, 11, 12, 13]), ..Pattern::new(Monthly) },
             &[1997_09_13, 1997_10_11, 1997_11_08, 1997_12_13, 1998_01_10, 1998_02_07, 1998_03_07],
         ),
         (

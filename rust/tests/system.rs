@@ -38,7 +38,10 @@ fn zones_by_name() {
         assert!(matches!(Zone::named("Pipe"), Err(NamedZoneError::NotRegular)));
     }
     let broken: Box<dyn std::error::Error> = Zone::named("Broken").unwrap_err().into();
-    assert_eq!((broken.to_string().as_str(), broken.source().unwrap().to_string().as_str()), ("unexpected end at 4", "unexpected end at 4"));
+    assert_eq!(
+        (broken.to_string().as_str(), broken.source().unwrap().to_string().as_str()),
+        ("unexpected end at 4", "unexpected end at 4")
+    );
 
     fs::remove_dir_all(&folder).unwrap();
     assert!(std::ptr::eq(Zone::named("Europe/Berlin").unwrap(), berlin), "the zone is kept");
@@ -48,7 +51,9 @@ fn zones_by_name() {
 fn clock() {
     let (before, now, after) = (SystemTime::now(), OffsetDateTime::now_utc(), SystemTime::now());
     assert!(OffsetDateTime::from(before) <= now && now <= OffsetDateTime::from(after));
-    for (moment, by) in [(OffsetDateTime::UNIX_EPOCH, 0), (OffsetDateTime::from_unix_timestamp(1_709_164_800).unwrap(), 1_709_164_800)] {
+    for (moment, by) in
+        [(OffsetDateTime::UNIX_EPOCH, 0), (OffsetDateTime::from_unix_timestamp(1_709_164_800).unwrap(), 1_709_164_800)]
+    {
         assert_eq!(SystemTime::from(moment), SystemTime::UNIX_EPOCH + std::time::Duration::from_secs(by));
     }
     let early = OffsetDateTime::UNIX_EPOCH - Duration::milliseconds(1_500);

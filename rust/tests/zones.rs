@@ -18,7 +18,10 @@ fn instants() {
     let berlin = Zone::parse_posix(CET).unwrap();
     for (instant, offset, is_daylight, abbreviation) in [(1711846799, 3600, false, "CET"), (1711846800, 7200, true, "CEST")] {
         let kind = berlin.kind_at(instant);
-        assert_eq!((kind.offset, kind.is_daylight, kind.abbreviation(CET.as_bytes())), (offset, is_daylight, abbreviation.as_bytes()));
+        assert_eq!(
+            (kind.offset, kind.is_daylight, kind.abbreviation(CET.as_bytes())),
+            (offset, is_daylight, abbreviation.as_bytes())
+        );
         assert_eq!((berlin.utc_offset_at(instant).whole_seconds(), berlin.abbreviation_at(instant)), (offset, abbreviation));
     }
     assert_eq!(berlin.next_change(1700000000).map(|change| change.at), Some(1711846800));

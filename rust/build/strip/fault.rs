@@ -1,5 +1,5 @@
 use std::fmt;
-use std::path::PathBuf;
+use std::path::{Path, PathBuf};
 
 /// Source that the build script doesn't understand.
 #[derive(Debug)]
@@ -10,6 +10,13 @@ pub struct Fault {
     pub line: usize,
     /// What is wrong.
     pub reason: String,
+}
+
+impl Fault {
+    /// Returns the fault of a file that can't be read or written.
+    pub fn at_file(path: &Path, reason: &dyn fmt::Display) -> Self {
+        Self { path: path.to_path_buf(), line: 1, reason: reason.to_string() }
+    }
 }
 
 impl fmt::Display for Fault {

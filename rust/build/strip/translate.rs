@@ -86,6 +86,7 @@ pub fn translated(source: &Source, options: &Options) -> Result<String, Fault> {
     for at in 0..source.tokens.len() {
         attribute(source, at, &mut edits);
         path(source, at, options, &mut edits);
+        link(source, at, &mut edits);
         hasher(source, at, options, &mut edits);
     }
     for item in &source.items {
@@ -133,6 +134,16 @@ fn path(source: &Source, at: usize, options: &Options, edits: &mut Edits) {
         "std" => edits.replace(range, options.standard),
         word if options.crates.contains(&word) => edits.insert(range.start, "crate::"),
         _ => {}
+    }
+}
+
+/// Makes the targets of links in documentation the paths that they have in Rust.
+fn link(source: &Source, at: usize, edits: &mut Edits) {
+    let token = &source.tokens[at];
+    if token.kind == TokenKind::Doc {
+        for (start, target) in source.word(at).match_indices("](crate") {
+            edits.insert(token.range.start + start + target.len(), format!("::{}", source.krate));
+        }
     }
 }
 

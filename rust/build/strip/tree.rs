@@ -1,6 +1,5 @@
 use super::fault::Fault;
 use super::translate::{Options, Source, translated};
-use std::fmt::Display;
 use std::fs;
 use std::io;
 use std::path::{Path, PathBuf};
@@ -28,12 +27,12 @@ pub fn write_crates(folder: &Path, out: &Path, options: &Options) -> Result<usiz
 /// Writes the files of a folder and of the folders in it.
 fn write_folder(krate: &str, from: &Path, to: &Path, options: &Options) -> Result<usize, Fault> {
     let mut count = 0;
-    for path in entries(from).map_err(|error| fault(from, &error))? {
+    for path in entries(from).map_err(|error| Fault::at_file(from, &error))? {
         let target = to.join(path.file_name().unwrap_or_default());
         if path.is_dir() {
             count += write_folder(krate, &path, &target, options)?;
         } else if path.extension().is_some_and(|extension| extension == "rt") {
-            let text = fs::read_to_string(&path).map_err(|error| fault(&path, &error))?;
+            let text = fs::read_to_string(&path).map_err(|error| Fault::at_file(&path, &error))?;
             let source = Source::new(path, krate, text)?;
             write(&target.with_extension("rs"), &translated(&source, options)?)?;
             count += 1;
@@ -51,9 +50,5 @@ fn entries(folder: &Path) -> io::Result<Vec<PathBuf>> {
 
 fn write(path: &Path, text: &str) -> Result<(), Fault> {
     let folder = path.parent().unwrap_or(path);
-    fs::create_dir_all(folder).and_then(|()| fs::write(path, text)).map_err(|error| fault(path, &error))
-}
-
-fn fault(path: &Path, reason: &dyn Display) -> Fault {
-    Fault { path: path.to_path_buf(), line: 1, reason: reason.to_string() }
+    fs::create_dir_all(folder).and_then(|()| fs::write(path, text)).map_err(|error| Fault::at_file(path, &error))
 }
