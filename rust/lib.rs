@@ -134,3 +134,25 @@ pub mod zone {
     pub use crate::cal_zone::{Change, Gap, Local, LocalType, Yearly, Zone};
     pub use crate::zones::Policy;
 }
+
+#[cfg(test)]
+mod tests {
+    use crate::{Date, Duration, Month, OffsetDateTime, PlainDateTime, Time, UtcOffset, Weekday};
+
+    /// What the crate `time` can do in a constant.
+    const MOMENT: OffsetDateTime = {
+        let Ok(date) = Date::from_calendar_date(2024, Month::February, 29) else { panic!() };
+        let Ok(time) = Time::from_hms_nano(23, 59, 59, 250_000_000) else { panic!() };
+        let Ok(offset) = UtcOffset::from_hms(-5, -30, 0) else { panic!() };
+        PlainDateTime::new(date, time).assume_offset(offset)
+    };
+    const WEEKDAY: Weekday = MOMENT.date().weekday();
+    const DURATION: Duration = Duration::days(1);
+
+    #[test]
+    fn constants_are_the_values_of_calls() {
+        let moment: OffsetDateTime = std::hint::black_box("2024-02-29T23:59:59.25-05:30").parse().unwrap();
+        assert_eq!((MOMENT, WEEKDAY), (moment, std::hint::black_box(moment).weekday()));
+        assert_eq!(MOMENT + DURATION - moment, DURATION);
+    }
+}
