@@ -21,14 +21,13 @@ include!(concat!(env!("OUT_DIR"), "/library.rs"));
 include!(concat!(env!("OUT_DIR"), "/definitions.rs"));
 
 pub mod columns;
-mod conversions;
 mod duration;
 mod errors;
 mod formats;
 mod from_text;
+#[cfg(any(feature = "chrono", feature = "serde", feature = "time"))]
+mod interop;
 mod iterators;
-#[cfg(feature = "serde")]
-mod serde;
 #[cfg(feature = "std")]
 mod std_clock;
 #[cfg(feature = "std")]
@@ -151,3 +150,25 @@ pub mod zone {
 #[doc = include_str!("../docs/RUST.md")]
 #[doc = include_str!("../docs/COLUMNS.md")]
 struct Pages;
+
+#[cfg(test)]
+mod tests {
+    use crate::{Date, Duration, Month, OffsetDateTime, PlainDateTime, Time, UtcOffset, Weekday};
+
+    /// What the crate `time` can do in a constant.
+    const MOMENT: OffsetDateTime = {
+        let Ok(date) = Date::from_calendar_date(2024, Month::February, 29) else { panic!() };
+        let Ok(time) = Time::from_hms_nano(23, 59, 59, 250_000_000) else { panic!() };
+        let Ok(offset) = UtcOffset::from_hms(-5, -30, 0) else { panic!() };
+        PlainDateTime::new(date, time).assume_offset(offset)
+    };
+    const WEEKDAY: Weekday = MOMENT.date().weekday();
+    const DURATION: Duration = Duration::days(1);
+
+    #[test]
+    fn constants_are_the_values_of_calls() {
+        let moment: OffsetDateTime = std::hint::black_box("2024-02-29T23:59:59.25-05:30").parse().unwrap();
+        assert_eq!((MOMENT, WEEKDAY), (moment, std::hint::black_box(moment).weekday()));
+        assert_eq!(MOMENT + DURATION - moment, DURATION);
+    }
+}

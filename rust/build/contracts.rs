@@ -51,7 +51,9 @@ pub fn documentation(source: &Source, item: &Item, panics: Option<&str>, definit
     if clauses.iter().any(|clause| !clause.starts_with("//")) {
         let names = definitions.imports(ghost_uses(source));
         text += "\n\n<details><summary>Contract</summary>\n\n";
-        for clause in clauses.iter().filter(|clause| !clause.starts_with(LEFT_OUT)) {
+        // Without a panic, each value of Rust fulfils the condition.
+        let is_shown = |clause: &&String| !clause.starts_with(LEFT_OUT) && (panics.is_some() || !clause.starts_with("requires"));
+        for clause in clauses.iter().filter(is_shown) {
             text += &written_clause(clause, &names);
         }
         text += "\n</details>";
@@ -77,5 +79,5 @@ fn written_clause(clause: &str, names: &BTreeMap<&str, String>) -> String {
     let depth = clause.lines().skip(1).map(|line| line.len() - line.trim_start().len()).min().unwrap_or(0);
     let lines: Vec<String> =
         clause.lines().enumerate().map(|(index, line)| code(if index > 0 { &line[depth - 2..] } else { line }, names)).collect();
-    format!("\n{}<br>\n", lines.join("<br>\n"))
+    format!("\n{}\n", lines.join("<br>\n"))
 }

@@ -57,16 +57,21 @@ impl Definitions {
     }
 
     /// Returns the path of the page that defines a name of a module, such as
-    /// `crate::definitions::cal_date::Date#IsDate`. Modules may import the names that they export.
-    fn page(&self, module: &str, name: &str, depth: usize) -> Option<String> {
-        let (krate, module) = module.split_once(".specs.")?;
-        let text = self.files.get(&(krate.to_string(), module.to_string()))?;
-        if text.lines().any(|line| defined(line) == Some(name)) {
-            return Some(format!("crate::definitions::{krate}::{}#{name}", module.replace('.', "_")));
+    /// `crate::definitions::cal_date::Date#IsDate`. Modules and crates may export what others
+    /// define.
+    fn page(&self, path: &str, name: &str, depth: usize) -> Option<String> {
+        let (krate, module) = path.split_once(".specs.").filter(|_| depth > 0)?;
+        let text = |module: &str| self.files.get(&(krate.to_string(), module.to_string()));
+        match text(module) {
+            Some(own) if own.lines().any(|line| defined(line) == Some(name)) => {
+                Some(format!("crate::definitions::{krate}::{}#{name}", module.replace('.', "_")))
+            }
+            Some(own) => exported(own).find_map(|path| self.page(path, name, depth - 1)),
+            None => {
+                let end = format!(".specs.{module}");
+                exported(text("Lib")?).filter(|path| path.ends_with(&end)).find_map(|path| self.page(path, name, depth - 1))
+            }
         }
-        let exports = text.lines().filter_map(|line| line.strip_prefix("pub use Rattle."));
-        let mut modules = exports.map(|path| path.split(".{").next().unwrap_or(path).trim());
-        modules.find_map(|module| if depth == 0 { None } else { self.page(module, name, depth - 1) })
     }
 
     /// Returns the pages as a module of Rust.
@@ -100,6 +105,12 @@ impl Definitions {
         }
         page
     }
+}
+
+/// Returns the modules of which a file exports names.
+fn exported(text: &str) -> impl Iterator<Item = &str> {
+    let paths = text.lines().filter_map(|line| line.strip_prefix("pub use Rattle."));
+    paths.map(|path| path.split(".{").next().unwrap_or(path).trim())
 }
 
 /// Returns the name that a line defines: the word after `pub` and the kind of the definition.

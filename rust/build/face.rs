@@ -1,6 +1,7 @@
 //! What a crate of Rust has besides the source: checked conditions, contracts in the documentation,
 //! small functions that other crates may inline, and methods of traits that the kit has on types.
 
+use crate::constants;
 use crate::contracts;
 use crate::decisions::{Decision, decision, is_replaced};
 use crate::definitions::Definitions;
@@ -45,7 +46,10 @@ pub fn change(source: &Source, definitions: &Definitions, edits: &mut Edits) -> 
                 function(source, item, definitions, edits)?;
                 methods::add(source, item, definitions, edits);
             }
-            Kind::Impl | Kind::Trait => block(source, item, edits),
+            Kind::Impl | Kind::Trait => {
+                block(source, item, edits);
+                constants::own_methods(source, item, edits);
+            }
             Kind::Use => export(source, item, edits),
             Kind::Type => {
                 derives(source, item, edits);
@@ -170,6 +174,8 @@ fn function(source: &Source, item: &Item, definitions: &Definitions, edits: &mut
         attributes += "#[inline] ";
     }
     edits.insert(head.start, attributes);
+    let has_own_body = !matches!(found, Some(Decision::Body(..)));
+    constants::change(source, item, has_own_body, edits);
     Ok(())
 }
 

@@ -1,5 +1,6 @@
 //! Writes the libraries as Rust into the folder of the build.
 
+mod constants;
 mod contracts;
 mod decisions;
 mod definitions;

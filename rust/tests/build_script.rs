@@ -1,6 +1,9 @@
 //! The build script on the hard cases of its input.
 
 #[allow(dead_code)]
+#[path = "../build/constants.rs"]
+mod constants;
+#[allow(dead_code)]
 #[path = "../build/contracts.rs"]
 mod contracts;
 #[allow(dead_code)]

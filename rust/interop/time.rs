@@ -1,6 +1,6 @@
 //! Conversions from and to the crate `time`.
 
-use crate::conversions::same_variants;
+use super::same_variants;
 use crate::{Date, Month, OffsetDateTime, PlainDateTime, SignedDuration, Time, UtcOffset, Weekday};
 use ::time::error::ComponentRange;
 

@@ -1,6 +1,6 @@
 //! Conversions from and to the crate `chrono`.
 
-use crate::conversions::same_variants;
+use super::same_variants;
 use crate::error::{Component, ComponentRange};
 use crate::{Date, Month, OffsetDateTime, PlainDateTime, SignedDuration, Time, UtcOffset, Weekday};
 use ::chrono::{DateTime, Datelike, FixedOffset, NaiveDate, NaiveDateTime, NaiveTime, TimeZone, Timelike};

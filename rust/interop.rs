@@ -1,7 +1,9 @@
-//! Conversions from and to other crates.
+//! Conversions from and to other crates, for the package in this module's folder.
 
 #[cfg(feature = "chrono")]
 mod chrono;
+#[cfg(feature = "serde")]
+mod serde;
 #[cfg(feature = "time")]
 mod time;
 
