@@ -50,6 +50,7 @@ mod errors;
 mod formats;
 mod from_text;
 mod iterators;
+mod months;
 mod zones;
 
 /// Traits with laws have a trait of this module above them. Other crates can't name it, so they

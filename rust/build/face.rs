@@ -3,7 +3,7 @@
 
 use crate::constants;
 use crate::contracts;
-use crate::decisions::{Decision, decision, is_replaced};
+use crate::decisions::{Decision, TABLES, decision, is_replaced};
 use crate::definitions::Definitions;
 use crate::methods;
 use crate::strip::{Edits, Fault, Item, Kind, Source, TokenKind};
@@ -170,9 +170,24 @@ fn function(source: &Source, item: &Item, definitions: &Definitions, edits: &mut
         attributes += "#[inline] ";
     }
     edits.insert(head.start, attributes);
+    table(source, item, edits);
     let has_own_body = !matches!(found, Some(Decision::Body(..)));
     constants::change(source, item, has_own_body, edits);
     Ok(())
+}
+
+/// Makes a function a look-up in a table, which the function of the source computes.
+fn table(source: &Source, item: &Item, edits: &mut Edits) {
+    let key = (source.krate.as_str(), item.owner.as_str(), item.name.as_str());
+    let Some((.., body)) = TABLES.iter().find(|row| (row.0, row.1, row.2) == key) else { return };
+    let Some(name) = item.head.clone().find(|at| source.word(*at) == item.name) else { return };
+    let rest: String =
+        (name + 1..item.head.end).filter(|at| source.tokens[*at].kind != TokenKind::Clause).map(|at| source.word(at)).collect();
+    let rest = rest.split_whitespace().collect::<Vec<_>>().join(" ");
+    let function = item.head.clone().find(|at| source.word(*at) == "fn").unwrap_or(name);
+    edits.replace(source.bytes(&item.head).start..source.tokens[function].range.start, "pub(crate) ");
+    edits.insert(source.tokens[name].range.start, "computed_");
+    edits.insert(source.bytes(&item.all).end, format!(" #[inline] pub(crate) const fn {}{rest} {{ {body} }}", item.name));
 }
 
 /// Writes the check of a condition, and returns the words of its panic.
