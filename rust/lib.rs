@@ -9,7 +9,31 @@
 //! assert_eq!("2024-02-29".parse(), Ok(day));
 //! # Ok::<(), fotsevindre::error::ComponentRange>(())
 //! ```
+//!
+//! # Contracts
+//!
+//! The library is written in Rattle, which is Rust with contracts, and each contract is proved. The
+//! documentation of a function has its contract, folded. The terms that it uses are defined in
+//! [`definitions`]. The build script leaves the contracts out, and rustc compiles the rest.
+//!
+//! # Unsafe code
+//!
+//! Three blocks of the proved source call `from_utf8_unchecked`: two return the bytes of a
+//! [`ShortText`](text::ShortText) or a [`RecurrenceText`](recurrence::RecurrenceText), and one
+//! appends ASCII bytes to a `ShortText`. The proofs show that the bytes are UTF-8 if each argument
+//! has its invariant and each call fulfils its conditions. Rust checks neither, so other crates must
+//! not be able to break them:
+//!
+//! - A type with an invariant has private fields, and only the proved source sets them.
+//! - A public function with a condition checks it and panics. All others are visible in this crate
+//!   only, among them each function that appends to one of the two texts. The build fails for a
+//!   function with a condition that isn't in the table of decisions.
+//! - Traits with laws are sealed.
+//! - The modules written by hand have no unsafe code. They check a condition before they call a
+//!   function that has one.
 #![no_std]
+#![deny(unsafe_code)]
+#![warn(missing_docs)]
 #[cfg(not(target_pointer_width = "64"))]
 compile_error!("the proofs are about 64 bits of usize");
 #[cfg(any(feature = "std", test))]
@@ -28,6 +52,7 @@ mod from_text;
 #[cfg(any(feature = "chrono", feature = "serde", feature = "time"))]
 mod interop;
 mod iterators;
+mod months;
 #[cfg(feature = "std")]
 mod std_clock;
 #[cfg(feature = "std")]

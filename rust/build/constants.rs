@@ -25,11 +25,8 @@ pub fn change(source: &Source, item: &Item, has_own_body: bool, edits: &mut Edit
     }
     let Some(function) = item.head.clone().find(|at| source.word(*at) == "fn") else { return };
     edits.insert(source.tokens[function].range.start, "const ");
-    let is_option = source.part(&item.head).contains("-> Option");
     for at in item.body.clone().filter(|_| has_own_body).unwrap_or_default() {
-        widening(source, at, edits);
-        early_return(source, at, is_option, edits);
-        selection(source, at, edits);
+        without_traits(source, item, at, edits);
     }
 }
 
@@ -104,15 +101,29 @@ fn is_name(c: char) -> bool {
 pub fn own_methods(source: &Source, item: &Item, edits: &mut Edits) {
     let Some((_, kind)) = item.name.split_once("Cycle for ").filter(|_| item.body.is_some()) else { return };
     let methods = source.items.iter().filter(|method| method.owner == item.name && method.body.is_some());
-    let methods: Vec<String> =
-        methods.map(|method| format!("pub(crate) const {}", code(source, &method.head.start, &method.all.end))).collect();
+    let methods: Vec<String> = methods.map(|method| format!("pub(crate) const {}", code(source, method))).collect();
     edits.insert(source.bytes(&item.all).end, format!(" impl {kind} {{ {} }}", methods.join(" ")));
 }
 
-/// Returns the code of tokens, without contracts and comments.
-fn code(source: &Source, start: &usize, end: &usize) -> String {
-    let tokens = (*start..*end).filter(|at| source.tokens[*at].kind != TokenKind::Clause);
-    tokens.map(|at| if source.tokens[at].kind == TokenKind::Blank { " " } else { source.word(at) }).collect()
+/// Returns a function as constant code in one line, without its contract and comments.
+fn code(source: &Source, item: &Item) -> String {
+    let mut edits = Edits::default();
+    let part = item.head.start..item.all.end;
+    for at in part.clone() {
+        match source.tokens[at].kind {
+            TokenKind::Clause => edits.replace(source.bytes(&(at..at + 1)), ""),
+            TokenKind::Blank => edits.replace(source.bytes(&(at..at + 1)), " "),
+            _ => without_traits(source, item, at, &mut edits),
+        }
+    }
+    edits.applied_within(&source.text, source.bytes(&part))
+}
+
+/// Writes what calls a method of a trait at a token without it.
+fn without_traits(source: &Source, item: &Item, at: usize, edits: &mut Edits) {
+    widening(source, at, edits);
+    early_return(source, at, source.part(&item.head).contains("-> Option"), edits);
+    selection(source, at, edits);
 }
 
 /// Returns the token that closes the bracket.

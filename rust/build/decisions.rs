@@ -118,6 +118,11 @@ const HIDDEN: &[(&str, &[&str])] = &[
 const REPLACED: &[(&str, &[&str])] =
     &[("DateIter", &["clone"]), ("CycleIter", &["clone"]), ("Rev", &["clone"]), ("SignedDuration", &["unsigned_abs"])];
 
+/// Private functions whose results are in a table in Rust: the crate, the owner, the name, and the
+/// look-up. The function of the source computes the table, by the name with `computed_`.
+pub const TABLES: &[(&str, &str, &str, &str)] =
+    &[("cal_date", "Date", "month_and_day", "crate::months::MONTH_AND_DAY[(self.packed & 1023) as usize]")];
+
 /// Returns the decision about a function, or `None` if nobody decided.
 pub fn decision(owner: &str, name: &str) -> Option<&'static Decision> {
     let listed = DECISIONS.iter().find(|row| (row.0, row.1) == (owner, name)).map(|row| &row.2);

@@ -5,6 +5,13 @@ use std::collections::BTreeMap;
 use std::fs;
 use std::path::Path;
 
+/// The beginning of the module of definitions.
+const HEAD: &str = "/// The terms that contracts use, as they are defined for the proofs.
+///
+/// Terms without a link, such as `IfOk`, are from the library of Rattle.
+pub mod definitions {
+";
+
 /// The files of definitions: the text of each by its crate and its module, such as `cal_date` and
 /// `Date`.
 #[derive(Default)]
@@ -76,7 +83,7 @@ impl Definitions {
 
     /// Returns the pages as a module of Rust.
     pub fn written(&self) -> String {
-        let mut out = String::from("/// The terms of the contracts, as they are defined for the proofs.\npub mod definitions {\n");
+        let mut out = String::from(HEAD);
         let mut open = "";
         for ((krate, module), text) in &self.files {
             if krate != open {

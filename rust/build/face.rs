@@ -3,7 +3,7 @@
 
 use crate::constants;
 use crate::contracts;
-use crate::decisions::{Decision, decision, is_replaced};
+use crate::decisions::{Decision, TABLES, decision, is_replaced};
 use crate::definitions::Definitions;
 use crate::members;
 use crate::methods;
@@ -98,30 +98,29 @@ fn block(source: &Source, item: &Item, edits: &mut Edits) {
 }
 
 /// Traits that types have in Rust besides those of the source.
-const DERIVES: &[(&str, &[&str], &str)] = &[
-    ("cal_units", &["ShortText"], "Copy"),
+const DERIVES: &[(&str, &[&str], &[&str])] = &[
+    ("cal_units", &["ShortText"], &["Copy"]),
     (
         "cal_format",
         &["Format", "Shown", "DateFormat", "TimeFormat", "OffsetFormat", "DateTimeFormat", "OffsetDateTimeFormat"],
-        "Debug",
+        &["Debug"],
     ),
-    ("cal_recurrence", &["ZonedSet", "Occurrences", "CountedZonedSet"], "Debug"),
-    ("cal_zone", &["Zone", "UncheckedZone", "Table"], "Copy, Debug, PartialEq, Eq"),
-    ("cal_zone", &["Gap", "Layout", "Local", "Rule", "Yearly"], "Debug, PartialEq, Eq"),
+    ("cal_recurrence", &["ZonedSet", "Occurrences", "CountedZonedSet"], &["Debug"]),
+    ("cal_zone", &["Zone", "UncheckedZone", "Table"], &["Copy", "Debug", "PartialEq", "Eq"]),
+    ("cal_zone", &["Gap", "Layout", "Local", "Rule", "Yearly"], &["Debug", "PartialEq", "Eq"]),
 ];
 
 /// Derives traits. A type that the kit drops can be cloned in Rust, unless it has a clone of its
 /// own.
 fn derives(source: &Source, item: &Item, edits: &mut Edits) {
-    let attributes = source.part(&(item.all.start..item.head.start));
-    let head = source.bytes(&item.head).start;
-    let has_clone =
-        attributes.contains("Clone") || source.items.iter().any(|other| other.name == format!("Clone for {}", item.name));
-    if attributes.contains("Drop") && !has_clone {
-        edits.insert(head, "#[derive(Clone)] ");
-    }
-    if let Some((_, _, traits)) = DERIVES.iter().find(|row| row.0 == source.krate && row.1.contains(&item.name.as_str())) {
-        edits.insert(head, format!("#[derive({traits})] "));
+    let derived = source.part(&(item.all.start..item.head.start));
+    let has =
+        |name: &str| derived.contains(name) || source.items.iter().any(|other| other.name == format!("{name} for {}", item.name));
+    let listed = DERIVES.iter().filter(|row| row.0 == source.krate && row.1.contains(&item.name.as_str())).flat_map(|row| row.2);
+    let dropped = derived.contains("Drop").then_some(&"Clone");
+    let traits: Vec<&str> = listed.chain(dropped).copied().filter(|name| !has(name)).collect();
+    if !traits.is_empty() {
+        edits.insert(source.bytes(&item.head).start, format!("#[derive({})] ", traits.join(", ")));
     }
     if item.name == "Table" {
         let fields = item.body.clone().unwrap_or_default();
@@ -174,9 +173,24 @@ fn function(source: &Source, item: &Item, definitions: &Definitions, edits: &mut
         attributes += "#[inline] ";
     }
     edits.insert(head.start, attributes);
+    table(source, item, edits);
     let has_own_body = !matches!(found, Some(Decision::Body(..)));
     constants::change(source, item, has_own_body, edits);
     Ok(())
+}
+
+/// Makes a function a look-up in a table, which the function of the source computes.
+fn table(source: &Source, item: &Item, edits: &mut Edits) {
+    let key = (source.krate.as_str(), item.owner.as_str(), item.name.as_str());
+    let Some((.., body)) = TABLES.iter().find(|row| (row.0, row.1, row.2) == key) else { return };
+    let Some(name) = item.head.clone().find(|at| source.word(*at) == item.name) else { return };
+    let rest: String =
+        (name + 1..item.head.end).filter(|at| source.tokens[*at].kind != TokenKind::Clause).map(|at| source.word(at)).collect();
+    let rest = rest.split_whitespace().collect::<Vec<_>>().join(" ");
+    let function = item.head.clone().find(|at| source.word(*at) == "fn").unwrap_or(name);
+    edits.replace(source.bytes(&item.head).start..source.tokens[function].range.start, "pub(crate) ");
+    edits.insert(source.tokens[name].range.start, "computed_");
+    edits.insert(source.bytes(&item.all).end, format!(" #[inline] pub(crate) const fn {}{rest} {{ {body} }}", item.name));
 }
 
 /// Writes the check of a condition, and returns the words of its panic.

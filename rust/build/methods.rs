@@ -58,7 +58,7 @@ fn links(krate: &str, text: &str) -> Vec<(usize, String)> {
             found.extend(places.filter(|end| !text[*end..].starts_with('(')).map(|end| (end, format!("(crate::{owner}::{name})"))));
         }
     }
-    found.sort_by(|one, other| other.0.cmp(&one.0));
+    found.sort_by_key(|place| std::cmp::Reverse(place.0));
     found
 }
 

@@ -79,7 +79,7 @@ fn parts() {
     let counted = parse(b"FREQ=MONTHLY;COUNT=6;BYDAY=-2MO").unwrap();
     assert_eq!((counted.end, counted.rule(Date::MIN).until), (RuleEnd::Count(6), None));
     let last = date(1998_02_16);
-    assert_eq!(counted.days(date(1997_09_22)).last(), Some(last));
+    assert_eq!(counted.days(date(1997_09_22)).next_back(), Some(last));
     assert_eq!(counted.rule(date(1997_09_22)).next_after(last), Some(date(1998_03_23)));
     assert_eq!((parse(b"FREQ=DAILY").unwrap().end, counted == all), (RuleEnd::Never, false));
     let months = format!("FREQ=YEARLY;BYMONTH=1{}", ",1".repeat(61));

@@ -28,16 +28,25 @@ impl Edits {
     /// # Panics
     ///
     /// Panics if two ranges overlap.
-    pub fn applied(mut self, text: &str) -> String {
+    pub fn applied(self, text: &str) -> String {
+        self.applied_within(text, 0..text.len())
+    }
+
+    /// Returns a part of the text with the changes, all of which must be in it.
+    ///
+    /// # Panics
+    ///
+    /// Panics if two ranges overlap, or if one isn't in the part.
+    pub fn applied_within(mut self, text: &str, part: Range<usize>) -> String {
         self.list.sort_by_key(|(range, _)| (range.start, range.end));
-        let mut result = String::with_capacity(2 * text.len());
-        let mut at = 0;
+        let mut result = String::with_capacity(2 * part.len());
+        let mut at = part.start;
         for (range, replacement) in self.list {
             result.push_str(&text[at..range.start]);
             result.push_str(&replacement);
             at = range.end;
         }
-        result.push_str(&text[at..]);
+        result.push_str(&text[at..part.end]);
         result
     }
 }

@@ -5,6 +5,9 @@ use super::lexer::{Token, TokenKind, tokens};
 use std::ops::Range;
 use std::path::PathBuf;
 
+/// Adds changes of a file to those of the translation.
+pub type Change<'a> = dyn Fn(&Source, &mut Edits) -> Result<(), Fault> + 'a;
+
 /// How source is translated.
 pub struct Options<'a> {
     /// The crates that become modules, with the path of the module that has them, such as
@@ -15,7 +18,7 @@ pub struct Options<'a> {
     /// Whether modules of tests are kept.
     pub has_tests: bool,
     /// What else is changed in each file.
-    pub more: Option<&'a dyn Fn(&Source, &mut Edits) -> Result<(), Fault>>,
+    pub more: Option<&'a Change<'a>>,
 }
 
 /// A file with its tokens and items.

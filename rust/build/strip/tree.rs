@@ -18,7 +18,9 @@ pub fn write_crates(folder: &Path, out: &Path, options: &Options) -> Result<usiz
         println!("cargo::rerun-if-changed={}", source.display());
         count += write_folder(krate, &source, &out.join(krate), options)?;
         let root = out.join(krate).join("lib.rs");
-        library.push_str(&format!("#[path = {root:?}]\n#[allow(unused, clippy::all)]\npub(crate) mod {krate};\n"));
+        library.push_str(&format!(
+            "#[path = {root:?}]\n#[allow(unused, unsafe_code, missing_docs, clippy::all)]\npub(crate) mod {krate};\n"
+        ));
     }
     write(&out.join("library.rs"), &library)?;
     Ok(count)
