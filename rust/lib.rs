@@ -35,7 +35,7 @@
 #![deny(unsafe_code)]
 #![warn(missing_docs)]
 #[cfg(not(target_pointer_width = "64"))]
-compile_error!("the proofs are about 64 bits of usize");
+compile_error!("fotsevindre supports only targets whose usize has 64 bits, because its proofs are about these");
 #[cfg(any(feature = "std", test))]
 extern crate std;
 
@@ -62,6 +62,21 @@ mod zones;
 
 /// Traits with laws have a trait of this module above them. Other crates can't name it, so they
 /// can't implement them.
+///
+/// ```compile_fail,E0603
+/// struct Mine;
+/// impl fotsevindre::sealed::Sealed for Mine {}
+/// ```
+///
+/// Functions whose conditions nothing checks are private, too.
+///
+/// ```compile_fail,E0624
+/// fotsevindre::text::ShortText::new().push_digit(80);
+/// ```
+///
+/// ```compile_fail,E0624
+/// fotsevindre::recurrence::Values::none(0).push(1);
+/// ```
 mod sealed {
     use crate::{ByDay, Date, Month, OffsetDateTime, PlainDateTime, SignedDuration, Time, UtcOffset, Weekday};
 

@@ -1,6 +1,7 @@
 //! The tests of the crate.
 
 mod columns;
+mod conditions;
 mod drawn;
 mod errors;
 mod every_day;
