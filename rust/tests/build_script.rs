@@ -199,3 +199,70 @@ fn all_source_is_read() {
         strip::write_crates(&crates, &out, &Options { crates: &names, standard: "std", has_tests: true, more: None }).unwrap();
     assert!(count >= 200, "{count} files");
 }
+
+/// Source of a crate that has constant functions, and what it becomes.
+const CONSTANTS: &[(&str, &str)] = &[
+    ("u32::from(self.ordinal()) - 1", "((self.ordinal()) as u32) - 1"),
+    ("u8::from(month)", "u8::from(month)"),
+    ("let x = Self::f(a)?;", "let x = (match Self::f(a) { Ok(value) => value, Err(error) => return Err(error) });"),
+    (
+        "return a.b(c?)?.d();",
+        "return (match a.b((match c { Ok(value) => value, Err(error) => return Err(error) })) { Ok(value) => value, Err(error) => return Err(error) }).d();",
+    ),
+    ("S { x: y?, z }", "S { x: (match y { Ok(value) => value, Err(error) => return Err(error) }), z }"),
+    ("-a.b.min(c(d)) + 1", "-(match (a.b, c(d)) { (one, other) => if one < other { one } else { other } }) + 1"),
+    ("a[b].max(c)", "(match (a[b], c) { (one, other) => if one > other { one } else { other } })"),
+];
+
+#[test]
+fn constant_functions_call_no_traits() {
+    for (rattle, rust) in CONSTANTS {
+        let text = format!("impl Date {{ pub fn year(self) -> Result<A, B> {{ {rattle} }} }}");
+        let found = with_face(&text).unwrap();
+        assert_eq!(found, format!("impl Date {{ #[inline] pub const fn year(self) -> Result<A, B> {{ {rust} }} }}"));
+        let text = text.replace("year", "other");
+        assert_eq!(with_face(&text).unwrap(), text.replace("pub fn", "#[inline] pub fn"));
+    }
+}
+
+#[test]
+fn large_and_cold_functions_are_not_inlined() {
+    let large = format!("fn f() {{{}\n}}", "\n    a();".repeat(12));
+    assert_eq!(with_face(&large).unwrap(), large);
+    let cold = "#[cold]\nfn f() {}";
+    assert_eq!(with_face(cold).unwrap(), cold);
+}
+
+#[test]
+fn free_functions_become_methods() {
+    let text = "/// Adds to `date`, like [`quarter`].\npub fn checked_add_months(date: Date, months: i32) -> Option<Date>\n    ensures { a }\n{\n}";
+    let source = Source::new(Path::new("lib.rt").to_path_buf(), "cal_schedule", text.to_string()).unwrap();
+    let definitions = Definitions::default();
+    let change = |source: &Source, edits: &mut Edits| face::change(source, &definitions, edits);
+    let rust = translated(&source, &Options { more: Some(&change), ..OPTIONS }).unwrap();
+    let method = "#[inline] pub fn checked_add_months(self, months:  i32) -> Option<Date> { checked_add_months(self, months) } }";
+    assert!(rust.contains("} impl Date { #[doc = \" Adds to `date`, like [`quarter`](crate::Date::quarter).\"]"), "{rust}");
+    assert!(rust.ends_with(method), "{rust}");
+}
+
+#[test]
+fn contracts_link_to_definitions() {
+    let folder = Path::new(env!("CARGO_TARGET_TMPDIR")).join("definitions");
+    for (file, text) in [
+        ("cal_a/specs/Lib.antt", "pub use Rattle.cal_b.specs.Date\n"),
+        ("cal_b/specs/Date.antt", "-- n is a day *of* the range.\nabbrev pub IsDate : ℕ → Type 0\nIsDate n = n ≤ last_day\n"),
+    ] {
+        std::fs::create_dir_all(folder.join(file).parent().unwrap()).unwrap();
+        std::fs::write(folder.join(file), text).unwrap();
+    }
+    let definitions = Definitions::read(&folder, &["cal_a", "cal_b"]).unwrap();
+    let page = "crate::definitions::cal_b::Date#IsDate";
+    assert_eq!(definitions.imports(["ghost use Rattle.cal_a.specs.Date.{◌≡◌, IsDate};"].into_iter())["IsDate"], page);
+    let text = "ghost use Rattle.cal_a.specs.Date.{IsDate};\nimpl Date { pub fn new() -> Self\n    // Why.\n    ensures value { IsDate result × a_b < 1 }\n    ensures closed_form { c }\n{} }";
+    let change = |source: &Source, edits: &mut Edits| face::change(source, &definitions, edits);
+    let rust = translated(&source(text).unwrap(), &Options { more: Some(&change), ..OPTIONS }).unwrap();
+    let clause = format!("Why.\\n\\n<code>ensures value {{ [IsDate]({page}) result × a\\\\_b &lt; 1 }}</code>");
+    assert!(rust.contains(&clause) && !rust.contains("<code>ensures closed"), "{rust}");
+    let pages = definitions.written();
+    assert!(pages.contains("n is a day \\\\*of\\\\* the range.") && pages.contains("<a id=\\\"IsDate\\\"></a>"), "{pages}");
+}
