@@ -36,14 +36,14 @@ impl fmt::Display for UnsupportedItem {
 }
 
 impl fmt::Display for ZoneError {
-    /// Writes what is wrong and where, such as `invalid POSIX offset at 3`.
+    /// Writes the reason and the position, such as `invalid POSIX offset at 3`.
     fn fmt(&self, f: &mut fmt::Formatter<'_>) -> fmt::Result {
         write!(f, "{} at {}", self.reason(), self.position)
     }
 }
 
 impl ZoneError {
-    /// Returns what is wrong, such as `invalid POSIX offset`.
+    /// Returns the reason, such as `invalid POSIX offset`.
     pub fn reason(self) -> &'static str {
         match self.kind {
             ZoneErrorKind::Truncated => "unexpected end",
@@ -65,7 +65,7 @@ impl ZoneError {
     }
 }
 
-/// Returns what is wrong with the changes of a zone.
+/// Returns the reason for changes that are not in order.
 fn timeline_reason(error: TimelineError) -> &'static str {
     match error {
         TimelineError::Change(ChangeError::FirstOffset | ChangeError::Offset(_)) => "invalid local time type",

@@ -4,7 +4,7 @@ use crate::text::{date, rfc3339};
 use crate::{Date, OffsetDateTime, PlainDateTime, Time, UtcOffset};
 use core::str::FromStr;
 
-/// The rest of a text.
+/// The rest of a string.
 pub(crate) struct Reader<'a> {
     bytes: &'a [u8],
     position: usize,

@@ -1,4 +1,4 @@
-//! What iterators promise.
+//! Promises of iterators.
 
 use crate::cal_units::{Cycle, iter::CycleIter};
 use crate::iter::{DateIter, Rev};

@@ -26,7 +26,7 @@
 //!
 //! - A type with an invariant has private fields, and only the proved source sets them.
 //! - A public function with a condition checks it and panics. All others are visible in this crate
-//!   only, among them each function that appends to one of the two texts. The build fails for a
+//!   only, such as the functions that append to a `ShortText`. The build fails for a
 //!   function with a condition that isn't in the table of decisions.
 //! - Traits with laws are sealed.
 //! - The modules written by hand have no unsafe code. They check a condition before they call a
@@ -195,7 +195,7 @@ struct Pages;
 mod tests {
     use crate::{Date, Duration, Month, OffsetDateTime, PlainDateTime, Time, UtcOffset, Weekday};
 
-    /// What the crate `time` can do in a constant.
+    /// A value of functions that are constant in the crate `time`.
     const MOMENT: OffsetDateTime = {
         let Ok(date) = Date::from_calendar_date(2024, Month::February, 29) else { panic!() };
         let Ok(time) = Time::from_hms_nano(23, 59, 59, 250_000_000) else { panic!() };

@@ -3,7 +3,7 @@
 use crate::error::ZoneError;
 use crate::{Local, OffsetDateTime, Workdays, Zone, cal_tzif};
 
-/// What a local time that clocks skip or show twice means, with the names of Temporal.
+/// The meaning of a local time that clocks skip or show twice, with the names of Temporal.
 #[derive(Clone, Copy, Debug, PartialEq, Eq, Hash)]
 pub enum Policy {
     /// `Later` in a gap, and `Earlier` in a fold.
@@ -33,7 +33,7 @@ impl<'a> Zone<'a> {
     ///
     /// # Errors
     ///
-    /// Returns the position of the first wrong byte, and what is wrong.
+    /// Returns the position of the first wrong byte, and the reason.
     pub fn parse(bytes: &'a [u8]) -> Result<Self, ZoneError> {
         cal_tzif::parse(bytes)
     }
@@ -42,7 +42,7 @@ impl<'a> Zone<'a> {
     ///
     /// # Errors
     ///
-    /// Returns the position of the first wrong byte, and what is wrong.
+    /// Returns the position of the first wrong byte, and the reason.
     pub fn parse_posix(text: &'a str) -> Result<Self, ZoneError> {
         cal_tzif::parse_posix(text.as_bytes())
     }

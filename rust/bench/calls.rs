@@ -1,9 +1,9 @@
-//! Calls that the crate `time` has with the same name.
+//! Functions and methods that the crate `time` has with the same name.
 #![cfg(has_time)]
 
 use super::{compare, over, Drawn};
 
-/// Defines the calls with the types of a crate.
+/// Defines the functions with the types of a crate.
 macro_rules! module {
     ($module:ident, $krate:ident, $date_time:ident) => {
         mod $module {
@@ -40,7 +40,7 @@ macro_rules! module {
                 })
             }
 
-            /// The calls by name.
+            /// Returns the functions by name.
             pub fn all<'a>(numbers: &'a [Drawn]) -> Vec<(&'static str, Box<dyn Fn() + 'a>)> {
                 vec![
                     ("from_julian_day", over(numbers, |n| Date::from_julian_day(n.julian_day))),
@@ -139,7 +139,7 @@ macro_rules! module {
 module!(ours, fotsevindre, PlainDateTime);
 module!(theirs, time, PrimitiveDateTime);
 
-/// Times each call of both crates.
+/// Times each function of both crates.
 pub fn compare_calls(numbers: &[Drawn]) {
     for ((name, ours), (_, theirs)) in ours::all(numbers).into_iter().zip(theirs::all(numbers)) {
         compare(name, vec![("ours", ours), ("time", theirs)]);

@@ -7,8 +7,8 @@ use std::ops::Range;
 /// Types of numbers. `u8` isn't one of them, because months and weekdays are converted to it, too.
 const NUMBERS: [&str; 11] = ["i8", "i16", "i32", "i64", "i128", "isize", "u16", "u32", "u64", "u128", "usize"];
 
-/// The functions, by the compiler's leave: it refuses one that can't be constant, because of a loop,
-/// a closure or a trait. A line has a crate, a type or `-`, and names.
+/// The functions: a line has a crate, a type or `-`, and names. The compiler rejects a function that
+/// can't be constant, because of a loop, a closure or a trait.
 const LIST: &str = include_str!("constants.txt");
 
 /// Returns `true` if a function is listed.
@@ -74,7 +74,7 @@ fn selection(source: &Source, at: usize, edits: &mut Edits) {
     );
 }
 
-/// Returns the first token of the calls, fields and paths that end before a token.
+/// Returns the first token of the methods, fields and paths that end before a token.
 fn operand(source: &Source, end: usize) -> usize {
     let mut start = end;
     let mut depth = 0;

@@ -1,8 +1,8 @@
-//! What becomes of each public function whose contract has a condition. Rust checks no contract, so
-//! a condition is checked here, or the function isn't public. The build fails for a function that
-//! isn't in a table.
+//! The decision about each public function whose contract has a condition. Rust checks no contract,
+//! so the crate checks the condition, or the function isn't public. The build fails for a function
+//! that isn't in a table.
 
-/// What the crate does in the place of a condition.
+/// A replacement for a condition.
 pub enum Decision {
     /// Panics with these words: the body ends with `.unwrap()` of the checked function.
     Panic(&'static str),
@@ -10,7 +10,7 @@ pub enum Decision {
     Calls(&'static str),
     /// Panics with these words, by this body.
     Body(&'static str, &'static str),
-    /// Has no condition in Rust, where each closure may be called.
+    /// Needs no check: Rust can call each closure.
     Keep,
     /// Is visible in the crate only.
     Hide,

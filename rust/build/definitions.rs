@@ -148,7 +148,7 @@ pub fn code(line: &str, names: &BTreeMap<&str, String>) -> String {
     out + "</code>"
 }
 
-/// Returns a text in which no character means something in Markdown or HTML.
+/// Returns the string with each special character of Markdown and HTML escaped.
 pub fn escaped(text: &str) -> String {
     let mut out = String::new();
     for c in text.chars() {

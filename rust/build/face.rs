@@ -1,4 +1,4 @@
-//! What a crate of Rust has besides the source: checked conditions, contracts in the documentation,
+//! Additions for a crate of Rust: checked conditions, contracts in the documentation,
 //! small functions that other crates may inline, and methods of traits that the kit has on types.
 
 use crate::constants;
@@ -97,7 +97,7 @@ fn block(source: &Source, item: &Item, edits: &mut Edits) {
     }
 }
 
-/// Traits that types have in Rust besides those of the source.
+/// Traits that types have in Rust, but not in the source.
 const DERIVES: &[(&str, &[&str], &[&str])] = &[
     ("cal_units", &["ShortText"], &["Copy"]),
     (

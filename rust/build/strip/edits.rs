@@ -1,6 +1,6 @@
 use std::ops::Range;
 
-/// Changes to a file: each puts a text in the place of a range of bytes.
+/// Changes to a file. Each replaces a range of bytes.
 #[derive(Default)]
 pub struct Edits {
     list: Vec<(Range<usize>, String)>,
@@ -12,7 +12,7 @@ impl Edits {
         self.list.push((range, text.into()));
     }
 
-    /// Inserts a text before an index.
+    /// Inserts a string before an index.
     pub fn insert(&mut self, at: usize, text: impl Into<String>) {
         self.replace(at..at, text);
     }

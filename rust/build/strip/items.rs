@@ -23,7 +23,7 @@ pub enum Kind {
 /// An item of a file. Ranges are of tokens.
 #[derive(Clone, Debug)]
 pub struct Item {
-    /// What it is.
+    /// The kind.
     pub kind: Kind,
     /// Its name. Type parameters are left out.
     pub name: String,
@@ -46,7 +46,7 @@ pub struct Items<'a> {
 }
 
 impl<'a> Items<'a> {
-    /// Returns the items, those of an `impl`, a trait or a module in braces after it.
+    /// Returns the items. The items of an `impl`, a trait or a module in braces come after it.
     ///
     /// # Errors
     ///

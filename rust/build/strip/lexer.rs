@@ -22,13 +22,13 @@ pub enum TokenKind {
 /// A part of a file.
 #[derive(Clone, Debug, PartialEq, Eq)]
 pub struct Token {
-    /// What it is.
+    /// The kind.
     pub kind: TokenKind,
-    /// Where it is, in bytes.
+    /// The range in bytes.
     pub range: Range<usize>,
 }
 
-/// Returns the index and the reason of a text that isn't understood.
+/// The index and the reason of source that isn't understood.
 pub type Refusal = (usize, &'static str);
 
 /// Splits a file into tokens, without gaps.
@@ -203,7 +203,7 @@ fn specification_end(text: &str, start: usize, open: usize) -> Result<usize, Ref
     }
 }
 
-/// Returns the end of a range, or refuses it if it has an item or the end of one: then a brace was
+/// Returns the end of a range, or an error if it has an item or the end of one: then a brace was
 /// counted that isn't one. Comments in it would end the comment that it becomes.
 fn whole(text: &str, range: Range<usize>) -> Result<usize, Refusal> {
     let part = &text[range.clone()];

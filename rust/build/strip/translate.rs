@@ -5,7 +5,7 @@ use super::lexer::{Token, TokenKind, tokens};
 use std::ops::Range;
 use std::path::PathBuf;
 
-/// Adds changes of a file to those of the translation.
+/// Adds changes to the translation of a file.
 pub type Change<'a> = dyn Fn(&Source, &mut Edits) -> Result<(), Fault> + 'a;
 
 /// How source is translated.
@@ -13,11 +13,11 @@ pub struct Options<'a> {
     /// The crates that become modules, with the path of the module that has them, such as
     /// `crate::`.
     pub crates: &'a [&'a str],
-    /// What takes the place of the kit's `std`, such as `core`.
+    /// The path that replaces the kit's `std`, such as `core`.
     pub standard: &'a str,
     /// Whether modules of tests are kept.
     pub has_tests: bool,
-    /// What else is changed in each file.
+    /// Other changes of each file.
     pub more: Option<&'a Change<'a>>,
 }
 
@@ -36,7 +36,7 @@ pub struct Source {
 }
 
 impl Source {
-    /// Splits a text into tokens and items.
+    /// Splits a file into tokens and items.
     ///
     /// # Errors
     ///
@@ -124,7 +124,7 @@ fn attribute(source: &Source, at: usize, edits: &mut Edits) {
     }
 }
 
-/// Makes the first name of a path the one that it has in Rust.
+/// Replaces the first name of a path with its name in Rust.
 fn path(source: &Source, at: usize, options: &Options, edits: &mut Edits) {
     let is_path = source.word(at + 1) == ":" && source.word(at + 2) == ":";
     let is_inner = at > 0 && source.word(at - 1) == ":";
