@@ -50,7 +50,7 @@ static int64_t number(int64_t first, int64_t last)
     case 0: return (int64_t)draw() - INT64_MAX / 2;
     case 1: return one_of(2) ? first - 1 : last + 1;
     case 2: return one_of(2) ? first : last;
-    default: return first + (int64_t)(draw() % ((uint64_t)(last - first) + 1));
+    default: return (int64_t)((uint64_t)first + draw() % ((uint64_t)last - (uint64_t)first + 1));
     }
 }
 
@@ -70,16 +70,23 @@ static fots_offset any_fots_offset(void)
     return offset_at((int32_t)(one_of(2) ? 1800 * number(-24, 28) : number(-FOTS_MAX_OFFSET_SECONDS, FOTS_MAX_OFFSET_SECONDS)));
 }
 
+/* In what follows each draw is a statement, since C doesn't order those of an expression. */
 static fots_duration any_fots_duration(void)
 {
-    fots_duration duration = {number(-(INT64_MAX >> draw() % 64), INT64_MAX >> draw() % 64), (int32_t)number(0, 999999999)};
+    fots_duration duration;
+    const int64_t most = INT64_MAX >> draw() % 64;
+    duration.seconds = number(-most, most);
+    duration.nanoseconds = (int32_t)number(0, 999999999);
     duration.nanoseconds = duration.seconds < 0 ? -duration.nanoseconds : duration.nanoseconds;
     return duration;
 }
 
 static fots_moment any_fots_moment(void)
 {
-    const fots_moment moment = {any_fots_date(), any_fots_offset(), any_fots_time()};
+    fots_moment moment;
+    moment.date = any_fots_date();
+    moment.offset = any_fots_offset();
+    moment.time = any_fots_time();
     return moment;
 }
 
