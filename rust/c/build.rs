@@ -1,6 +1,6 @@
 //! Writes the library for C, and the libraries below it, as Rust into the folder of the build.
 
-mod slices;
+mod parameters;
 #[path = "../build/strip/mod.rs"]
 #[allow(dead_code, unused_imports)]
 mod strip;
@@ -32,7 +32,7 @@ fn main() -> ExitCode {
     let top = folder("CARGO_MANIFEST_DIR").join("../..");
     println!("cargo::rerun-if-changed=.");
     println!("cargo::rerun-if-changed=../build/strip");
-    let options = strip::Options { crates: &CRATES, standard: "core", has_tests: false, more: Some(&slices::change) };
+    let options = strip::Options { crates: &CRATES, standard: "core", has_tests: false, more: Some(&parameters::change) };
     match strip::write_crates(&top.join("crates"), &folder("OUT_DIR"), &options) {
         Ok(_) => {
             name_shared_object(&top);

@@ -6,6 +6,10 @@
 
 include!(concat!(env!("OUT_DIR"), "/library.rs"));
 
+/// A date by its Julian day, or an offset by its seconds, as C passes it.
+#[repr(C)]
+struct Number(i32);
+
 #[link(name = "c")]
 unsafe extern "C" {
     fn abort() -> !;

@@ -1,10 +1,12 @@
-//! Slices as C passes them. In the proved source a parameter `days: &[i32]` of an `extern "C"` function is a pointer and a
-//! length. For rustc it is one struct, which C passes in other places. So a function with slices becomes one of Rust, with a
-//! wrapper of its name that has pointers and lengths.
+//! Parameters as C passes them. In the proved source a parameter `days: &[i32]` of an `extern "C"` function is a pointer and
+//! a length. For rustc it is one struct, which C passes in other places. And a date is an `i32` there, but a struct with one
+//! `int32_t` in the header: processors such as s390x extend the former to 64 bits, and not the latter.
+//!
+//! So a function with such parameters becomes one of Rust, with a wrapper of its name that C calls.
 
 use crate::strip::{Edits, Fault, Kind, Source, TokenKind};
 
-/// Gives wrappers to the exported functions of a file that have slices.
+/// Gives wrappers to the exported functions of a file that need them.
 ///
 /// # Errors
 ///
@@ -57,18 +59,16 @@ impl<'a> Signature<'a> {
         Some(Self { name, lifetimes, parameters, result })
     }
 
-    /// Returns the function that C calls, or `None` if there are no slices.
+    /// Returns the function that C calls, or `None` if that has the same parameters.
     fn wrapper(&self) -> Option<String> {
-        if self.parameters.iter().all(|parameter| parameter.slice().is_none()) {
+        if self.parameters.iter().all(|parameter| parameter.slice().is_none() && !parameter.is_number()) {
             return None;
         }
         let name = self.name;
         let parameters: Vec<String> = self.parameters.iter().map(Parameter::for_c).collect();
         let arguments: Vec<String> = self.parameters.iter().map(Parameter::argument).collect();
         Some(format!(
-            "\n#[unsafe(export_name = \"{name}\")]\nunsafe extern \"C\" fn {name}_for_c{}({}) -> {} {{\n    \
-             // SAFETY: the header requires arrays of these lengths, and that a written array overlaps nothing else.\n    \
-             unsafe {{ {name}({}) }}\n}}\n",
+            "\n#[unsafe(export_name = \"{name}\")]\nextern \"C\" fn {name}_for_c{}({}) -> {} {{\n    {name}({})\n}}\n",
             self.lifetimes.join(" "),
             parameters.join(", "),
             self.result.join(" "),
@@ -91,22 +91,30 @@ impl<'a> Parameter<'a> {
         Some((self.kind.contains(&"mut"), item))
     }
 
+    /// Returns whether this can be a struct of one number in C. Where C has a number, the struct takes the same place.
+    fn is_number(&self) -> bool {
+        self.kind == ["i32"]
+    }
+
     /// Returns the declaration for C.
     fn for_c(&self) -> String {
         let name = self.name;
         match self.slice() {
             Some((true, item)) => format!("{name}: *mut {item}, {name}_length: usize"),
             Some((false, item)) => format!("{name}: *const {item}, {name}_length: usize"),
+            None if self.is_number() => format!("{name}: crate::Number"),
             None => format!("{name}: {}", self.kind.join(" ")),
         }
     }
 
-    /// Returns the argument of the function in Rust.
+    /// Returns the argument of the function in Rust. The `unsafe` relies on the header: it requires arrays of these lengths,
+    /// and that a written array overlaps nothing else.
     fn argument(&self) -> String {
         let name = self.name;
         match self.slice() {
-            Some((true, _)) => format!("core::slice::from_raw_parts_mut({name}, {name}_length)"),
-            Some((false, _)) => format!("core::slice::from_raw_parts({name}, {name}_length)"),
+            Some((true, _)) => format!("unsafe {{ core::slice::from_raw_parts_mut({name}, {name}_length) }}"),
+            Some((false, _)) => format!("unsafe {{ core::slice::from_raw_parts({name}, {name}_length) }}"),
+            None if self.is_number() => format!("{name}.0"),
             None => name.to_string(),
         }
     }
