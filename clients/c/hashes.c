@@ -48,7 +48,7 @@ static int64_t number(int64_t first, int64_t last)
 {
     switch (draw() % 32) {
     case 0: return (int64_t)draw() - INT64_MAX / 2;
-    case 1: return one_of(2) ? first - 1 : last + 1;
+    case 1: return (int64_t)(one_of(2) ? (uint64_t)first - 1 : (uint64_t)last + 1);
     case 2: return one_of(2) ? first : last;
     default: return (int64_t)((uint64_t)first + draw() % ((uint64_t)last - (uint64_t)first + 1));
     }
@@ -62,12 +62,12 @@ static fots_date any_fots_date(void)
 
 static fots_time any_fots_time(void)
 {
-    return (fots_time)(one_of(4) ? 1800000000000 * number(0, 47) : number(0, FOTS_MAX_TIME));
+    return (fots_time)(one_of(4) ? 1800000000000 * (uint64_t)number(0, 47) : (uint64_t)number(0, FOTS_MAX_TIME));
 }
 
 static fots_offset any_fots_offset(void)
 {
-    return offset_at((int32_t)(one_of(2) ? 1800 * number(-24, 28) : number(-FOTS_MAX_OFFSET_SECONDS, FOTS_MAX_OFFSET_SECONDS)));
+    return offset_at((int32_t)(one_of(2) ? 1800 * (number(-24, 28) % 100) : number(-FOTS_MAX_OFFSET_SECONDS, FOTS_MAX_OFFSET_SECONDS)));
 }
 
 /* In what follows each draw is a statement, since C doesn't order those of an expression. */
@@ -181,6 +181,27 @@ static fots_zone any_fots_zone(void)
 {
     const char *text = zones[draw() % COUNT(zones)];
     return one_of(2) ? fots_zone_from_file((const uint8_t *)file_bytes, file_length).zone : fots_zone_from_posix(text, strlen(text)).zone;
+}
+
+/* Draws a Unix time, mostly near a change of the zone. */
+static int64_t any_instant(const fots_zone *zone)
+{
+    const int64_t seconds = number(-3000000000, 8000000000);
+    const fots_int64_result change = fots_zone_next_change(zone, seconds);
+    if (change.status != FOTS_OK || one_of(3)) {
+        return seconds;
+    }
+    return change.number + (one_of(2) ? number(-1, 1) : number(-7200, 7200)) % 100000;
+}
+
+/* Draws the local date and time of such a Unix time, and returns the date. */
+static fots_moment reading;
+static fots_date any_reading(const fots_zone *zone)
+{
+    int64_t seconds = any_instant(zone);
+    seconds = seconds % 100000000000 + fots_zone_offset(zone, seconds).offset.seconds + (one_of(2) ? 0 : number(-7200, 7200) % 100000);
+    reading = fots_moment_from_unix_timestamp(seconds).moment;
+    return reading.date;
 }
 
 /* ---- lists */
