@@ -1,7 +1,7 @@
 //! The library for C, from the proved source. Its build script leaves out the contracts.
 #![no_std]
 #![deny(improper_ctypes_definitions)]
-// The libraries have public items that the calls for C don't use, and laws.
+// The functions for C don't use every public item of the libraries.
 #![allow(unused)]
 
 include!(concat!(env!("OUT_DIR"), "/library.rs"));
@@ -22,7 +22,7 @@ fn panic(_: &core::panic::PanicInfo<'_>) -> ! {
     unsafe { abort() }
 }
 
-// The unwind tables of `core` name this function, which nothing calls, since a panic doesn't unwind. As a weak and hidden
-// symbol it gives way to that of a program in Rust, and the shared object doesn't export it.
+// The unwind tables of `core` name this function. Nothing calls it, since a panic doesn't unwind. The symbol is weak, so a
+// program in Rust can have its own, and hidden, so the shared object doesn't export it.
 #[cfg(target_os = "linux")]
 core::arch::global_asm!(".weak rust_eh_personality", ".hidden rust_eh_personality", "rust_eh_personality:");

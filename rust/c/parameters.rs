@@ -1,6 +1,6 @@
 //! Parameters as C passes them. In the proved source a parameter `days: &[i32]` of an `extern "C"` function is a pointer and
-//! a length. For rustc it is one struct, which C passes in other places. And a date is an `i32` there, but a struct with one
-//! `int32_t` in the header: processors such as s390x extend the former to 64 bits, and not the latter.
+//! a length. For rustc it is one struct, which C passes in other places. A date is an `i32` in the source and a struct with
+//! one `int32_t` in the header. Some processors, such as s390x, extend the number to 64 bits, and not the struct.
 //!
 //! So a function with such parameters becomes one of Rust, with a wrapper of its name that C calls.
 
@@ -91,7 +91,7 @@ impl<'a> Parameter<'a> {
         Some((self.kind.contains(&"mut"), item))
     }
 
-    /// Returns whether this can be a struct of one number in C. Where C has a number, the struct takes the same place.
+    /// Returns whether this can be a struct of one number in C. If C has a number, it is in the same place.
     fn is_number(&self) -> bool {
         self.kind == ["i32"]
     }
