@@ -1,0 +1,56 @@
+use super::fault::Fault;
+use super::translate::{Options, Source, translated};
+use std::fs;
+use std::io;
+use std::path::{Path, PathBuf};
+
+/// Writes the crates of a folder as Rust: the files of each into a folder of its name, and a file
+/// `library.rs` that declares all of them as modules. Returns the number of files.
+///
+/// # Errors
+///
+/// Returns the first file that isn't understood, or can't be read or written.
+pub fn write_crates(folder: &Path, out: &Path, options: &Options) -> Result<usize, Fault> {
+    let mut library = String::new();
+    let mut count = 0;
+    for krate in options.crates {
+        let source = folder.join(krate).join("src");
+        println!("cargo::rerun-if-changed={}", source.display());
+        count += write_folder(krate, &source, &out.join(krate), options)?;
+        let root = out.join(krate).join(if source.join("main.rt").exists() { "main.rs" } else { "lib.rs" });
+        library.push_str(&format!(
+            "#[path = {root:?}]\n#[allow(unused, unsafe_code, missing_docs, clippy::all)]\npub(crate) mod {krate};\n"
+        ));
+    }
+    write(&out.join("library.rs"), &library)?;
+    Ok(count)
+}
+
+/// Writes the files of a folder and of the folders in it.
+fn write_folder(krate: &str, from: &Path, to: &Path, options: &Options) -> Result<usize, Fault> {
+    let mut count = 0;
+    for path in entries(from).map_err(|error| Fault::at_file(from, &error))? {
+        let target = to.join(path.file_name().unwrap_or_default());
+        if path.is_dir() {
+            count += write_folder(krate, &path, &target, options)?;
+        } else if path.extension().is_some_and(|extension| extension == "rt") {
+            let text = fs::read_to_string(&path).map_err(|error| Fault::at_file(&path, &error))?;
+            let source = Source::new(path, krate, text)?;
+            write(&target.with_extension("rs"), &translated(&source, options)?)?;
+            count += 1;
+        }
+    }
+    Ok(count)
+}
+
+/// Returns the entries of a folder in the order of their names.
+fn entries(folder: &Path) -> io::Result<Vec<PathBuf>> {
+    let mut paths = fs::read_dir(folder)?.map(|entry| Ok(entry?.path())).collect::<io::Result<Vec<_>>>()?;
+    paths.sort();
+    Ok(paths)
+}
+
+fn write(path: &Path, text: &str) -> Result<(), Fault> {
+    let folder = path.parent().unwrap_or(path);
+    fs::create_dir_all(folder).and_then(|()| fs::write(path, text)).map_err(|error| Fault::at_file(path, &error))
+}

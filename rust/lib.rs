@@ -1,0 +1,214 @@
+//! The calendar of Fotsevindre with the names of the crate `time`.
+//!
+//! ```
+//! use fotsevindre::{Date, Duration, Month};
+//!
+//! let day = Date::from_calendar_date(2024, Month::February, 29)?;
+//! assert_eq!((day + Duration::days(366)).to_string(), "2025-03-01");
+//! assert_eq!(day.replace_year(2023).unwrap_err().name(), "day");
+//! assert_eq!("2024-02-29".parse(), Ok(day));
+//! # Ok::<(), fotsevindre::error::ComponentRange>(())
+//! ```
+//!
+//! # Contracts
+//!
+//! The library is written in Rattle, which is Rust with contracts, and each contract is proved. The
+//! documentation of a function has its contract, folded. The terms that it uses are defined in
+//! [`definitions`]. The build script leaves the contracts out, and rustc compiles the rest.
+//!
+//! # Unsafe code
+//!
+//! Three blocks of the proved source call `from_utf8_unchecked`: two return the bytes of a
+//! [`ShortText`](text::ShortText) or a [`RecurrenceText`](recurrence::RecurrenceText), and one
+//! appends ASCII bytes to a `ShortText`. The proofs show that the bytes are UTF-8 if each argument
+//! has its invariant and each call fulfils its conditions. Rust checks neither, so other crates must
+//! not be able to break them:
+//!
+//! - A type with an invariant has private fields, and only the proved source sets them.
+//! - A public function with a condition checks it and panics. All others are visible in this crate
+//!   only, such as the functions that append to a `ShortText`. The build fails for a
+//!   function with a condition that isn't in the table of decisions.
+//! - Traits with laws are sealed.
+//! - The modules written by hand have no unsafe code. They check a condition before they call a
+//!   function that has one.
+#![no_std]
+#![deny(unsafe_code)]
+#![warn(missing_docs)]
+#[cfg(not(target_pointer_width = "64"))]
+compile_error!("fotsevindre supports only targets whose usize has 64 bits, because its proofs are about these");
+#[cfg(any(feature = "std", test))]
+extern crate std;
+
+// Source that was proved, without its contracts.
+include!(concat!(env!("OUT_DIR"), "/library.rs"));
+#[cfg(doc)]
+include!(concat!(env!("OUT_DIR"), "/definitions.rs"));
+
+pub mod columns;
+mod duration;
+mod errors;
+mod formats;
+mod from_text;
+#[cfg(any(feature = "chrono", feature = "serde", feature = "time"))]
+mod interop;
+mod iterators;
+mod months;
+#[cfg(feature = "std")]
+mod std_clock;
+#[cfg(feature = "std")]
+mod std_zones;
+mod values;
+mod zones;
+
+/// Traits with laws have a trait of this module above them. Other crates can't name it, so they
+/// can't implement them.
+///
+/// ```compile_fail,E0603
+/// struct Mine;
+/// impl fotsevindre::sealed::Sealed for Mine {}
+/// ```
+///
+/// Functions whose conditions nothing checks are private, too.
+///
+/// ```compile_fail,E0624
+/// fotsevindre::text::ShortText::new().push_digit(80);
+/// ```
+///
+/// ```compile_fail,E0624
+/// fotsevindre::recurrence::Values::none(0).push(1);
+/// ```
+mod sealed {
+    use crate::{ByDay, Date, Month, OffsetDateTime, PlainDateTime, SignedDuration, Time, UtcOffset, Weekday};
+
+    pub trait Sealed {}
+
+    macro_rules! seal {
+        ($($kind:ty)*) => { $(impl Sealed for $kind {})* };
+    }
+    seal! { ByDay Date Month OffsetDateTime PlainDateTime SignedDuration Time UtcOffset Weekday i8 i16 u8 }
+}
+
+pub use cal_clock::{Time, UtcOffset};
+pub use cal_date::Date;
+pub use cal_datetime::{OffsetDateTime, PlainDateTime};
+pub use cal_format::Format;
+pub use cal_span::SignedDuration;
+/// A duration, by its name in the crate `time`.
+pub use cal_span::SignedDuration as Duration;
+pub use cal_time::{add_to_pair, sub_from_pair};
+pub use cal_units::{Month, Weekday};
+pub use cal_zone::{Local, Zone};
+pub use formats::FormatText;
+pub use schedule::{ByDay, Convention, DayCount, Frequency, Period, Rule, RuleDays, Workdays, YearFraction};
+pub use zone::{Gap, LocalType};
+pub use zones::Policy;
+
+/// Returns the version of the crate. `(0, 1, 0)` is 0.1.0.
+pub const fn version() -> (u32, u32, u32) {
+    let [major, minor, patch] =
+        [number(env!("CARGO_PKG_VERSION_MAJOR")), number(env!("CARGO_PKG_VERSION_MINOR")), number(env!("CARGO_PKG_VERSION_PATCH"))];
+    (major, minor, patch)
+}
+
+/// Returns the number of decimal digits.
+const fn number(digits: &str) -> u32 {
+    match u32::from_str_radix(digits, 10) {
+        Ok(number) => number,
+        Err(_) => panic!("the version of a package is made of numbers"),
+    }
+}
+
+/// Errors.
+pub mod error {
+    pub use crate::cal_format::FormatError;
+    pub use crate::cal_recurrence::{ParseRuleError, ParseRuleErrorKind, ParseSetError, ParseSetErrorKind};
+    pub use crate::cal_text::ParseError;
+    pub use crate::cal_tzif::{ZoneError, ZoneErrorKind};
+    pub use crate::cal_units::error::{Component, ComponentRange, ConversionRange, InvalidVariant};
+    pub use crate::formats::UnsupportedItem;
+    #[cfg(feature = "std")]
+    pub use crate::std_zones::NamedZoneError;
+    pub use crate::values::TooManyValues;
+}
+
+/// Formats for printing and parsing, in the syntax of `strftime` or of the crate `time`.
+pub mod format {
+    pub use crate::cal_format::{
+        DateFormat, DateTimeFormat, Format, FormatError, OffsetDateTimeFormat, OffsetFormat, ParseError, TimeFormat,
+    };
+    pub use crate::formats::{FormatText, UnsupportedItem};
+}
+
+/// Iterators.
+pub mod iter {
+    pub use crate::cal_date::DateIter;
+    pub use crate::cal_units::iter::{MonthIter, Rev, WeekdayIter};
+}
+
+/// Recurrences of RFC 5545: rules of days and of times of day, sets, and their strings.
+pub mod recurrence {
+    pub use crate::cal_recurrence::{
+        CountedSet, CountedZonedSet, DateOrTime, DateTimeRule, DateTimeSet, DateTimeSetReadings, Occurrences, ParseRuleError,
+        ParseRuleErrorKind, ParseSetError, ParseSetErrorKind, Recurrence, RecurrenceSet, RecurrenceSetDays, RecurrenceText,
+        RuleEnd, RulePart, RuleReadings, SetDays, SetInstants, SetLine, SetParts, SetReadings, TimesOfDay, ZoneName, ZonedSet,
+        fold, parse, parse_set, unfold,
+    };
+    pub use crate::schedule::{ByDay, Frequency, Pattern, Rule, RuleDays, Values};
+}
+
+/// Rules of days, working days, periods and day counts. Functions on one date are methods of
+/// [`Date`].
+pub mod schedule {
+    pub use crate::cal_schedule::{
+        ByDay, Convention, DayCount, Frequency, Pattern, Period, PeriodUnit, Rule, RuleDays, Values, Workdays, YearFraction,
+    };
+}
+
+/// Strings of dates and date-times.
+pub mod text {
+    pub use crate::cal_text::{DateForm, DateOrMoment, MomentForm, ParseError, date, julian_day, parse_any, rfc3339, unix};
+    pub use crate::cal_units::ShortText;
+}
+
+/// Lengths of months and years, and functions on slices of values.
+pub mod util {
+    pub use crate::cal_units::util::{
+        DateAdjustment, days_in_month, days_in_year, days_in_year_month, is_leap_year, weeks_in_year,
+    };
+    pub use crate::cal_units::{Counted, extent, is_rising};
+}
+
+/// Time zones.
+pub mod zone {
+    pub use crate::cal_tzif::{ZoneError, ZoneErrorKind};
+    pub use crate::cal_zone::{Change, Gap, Local, LocalType, Yearly, Zone};
+    pub use crate::zones::Policy;
+}
+
+/// The pages for Rust, whose examples are tested.
+#[cfg(doctest)]
+#[doc = include_str!("../docs/RUST.md")]
+#[doc = include_str!("../docs/COLUMNS.md")]
+struct Pages;
+
+#[cfg(test)]
+mod tests {
+    use crate::{Date, Duration, Month, OffsetDateTime, PlainDateTime, Time, UtcOffset, Weekday};
+
+    /// A value of functions that are constant in the crate `time`.
+    const MOMENT: OffsetDateTime = {
+        let Ok(date) = Date::from_calendar_date(2024, Month::February, 29) else { panic!() };
+        let Ok(time) = Time::from_hms_nano(23, 59, 59, 250_000_000) else { panic!() };
+        let Ok(offset) = UtcOffset::from_hms(-5, -30, 0) else { panic!() };
+        PlainDateTime::new(date, time).assume_offset(offset)
+    };
+    const WEEKDAY: Weekday = MOMENT.date().weekday();
+    const DURATION: Duration = Duration::days(1);
+
+    #[test]
+    fn constants_are_the_values_of_calls() {
+        let moment: OffsetDateTime = std::hint::black_box("2024-02-29T23:59:59.25-05:30").parse().unwrap();
+        assert_eq!((MOMENT, WEEKDAY), (moment, std::hint::black_box(moment).weekday()));
+        assert_eq!(MOMENT + DURATION - moment, DURATION);
+    }
+}

@@ -1,0 +1,16 @@
+//! The tests of the crate.
+
+mod columns;
+mod conditions;
+mod drawn;
+mod errors;
+mod every_day;
+mod formats;
+mod moments;
+mod rows;
+mod rules;
+mod schedule;
+mod texts;
+mod walks;
+mod workdays;
+mod zones;

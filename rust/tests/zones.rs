@@ -1,0 +1,85 @@
+//! Time zones: rows of GNU date, the policies, and errors.
+
+use fotsevindre::columns::{RowError, row_error, zone_instants, zone_offsets};
+use fotsevindre::{Local, OffsetDateTime, PlainDateTime, Policy, Zone};
+
+const CET: &str = "CET-1CEST,M3.5.0,M10.5.0/3";
+
+fn reading(text: &str) -> PlainDateTime {
+    text.parse().unwrap()
+}
+
+fn at(instant: i64) -> OffsetDateTime {
+    OffsetDateTime::from_unix_timestamp(instant).unwrap()
+}
+
+#[test]
+fn instants() {
+    let berlin = Zone::parse_posix(CET).unwrap();
+    for (instant, offset, is_daylight, abbreviation) in [(1711846799, 3600, false, "CET"), (1711846800, 7200, true, "CEST")] {
+        let kind = berlin.kind_at(instant);
+        assert_eq!(
+            (kind.offset, kind.is_daylight, kind.abbreviation(CET.as_bytes())),
+            (offset, is_daylight, abbreviation.as_bytes())
+        );
+        assert_eq!((berlin.utc_offset_at(instant).whole_seconds(), berlin.abbreviation_at(instant)), (offset, abbreviation));
+    }
+    assert_eq!(berlin.next_change(1700000000).map(|change| change.at), Some(1711846800));
+    assert_eq!(berlin.previous_change(1711846800).map(|change| change.at), Some(1711846800));
+    assert_eq!(Zone::parse_posix("<-03>3").unwrap().next_change(0), None);
+    assert_eq!(at(1711846800).in_zone(&berlin).unwrap().to_string(), "2024-03-31 3:00:00.0 +02:00:00");
+}
+
+#[test]
+fn readings() {
+    let berlin = Zone::parse_posix(CET).unwrap();
+    let gap = berlin.resolve(reading("2024-03-31 2:30:00"));
+    assert!(
+        matches!(gap, Local::Gap(gap) if gap.offset_before().whole_seconds() == 3600 && gap.offset_after().whole_seconds() == 7200)
+    );
+    assert_eq!(
+        (gap.compatible(), gap.earlier(), gap.later(), gap.reject()),
+        (Some(at(1711848600)), Some(at(1711845000)), Some(at(1711848600)), None)
+    );
+    let fold = berlin.resolve(reading("2024-10-27 2:30:00"));
+    assert_eq!(fold, Local::Fold { earlier: at(1729989000), later: at(1729992600) });
+    assert_eq!(
+        (fold.compatible(), fold.earlier(), fold.later(), fold.reject()),
+        (Some(at(1729989000)), Some(at(1729989000)), Some(at(1729992600)), None)
+    );
+    let once = berlin.resolve(reading("2024-07-01 2:30:00"));
+    assert_eq!((once, once.reject()), (Local::Single(at(1719793800)), Some(at(1719793800))));
+}
+
+#[test]
+fn columns() {
+    let berlin = Zone::parse_posix(CET).unwrap();
+    let (mut offsets, mut statuses) = ([0; 2], [9; 2]);
+    assert_eq!(zone_offsets(&berlin, &[1711846799, 1711846800], &mut offsets, &mut statuses), 0);
+    assert_eq!((offsets, statuses), ([3600, 7200], [0, 0]));
+    let (mut seconds, mut statuses) = ([0; 3], [9; 3]);
+    for (policy, wanted, errors) in [
+        (Policy::Compatible, [1711848600, 1729989000, 1699996400], 0),
+        (Policy::Earlier, [1711845000, 1729989000, 1699996400], 0),
+        (Policy::Later, [1711848600, 1729992600, 1699996400], 0),
+        (Policy::Reject, [i64::MIN, i64::MIN, 1699996400], 2),
+    ] {
+        assert_eq!(zone_instants(&berlin, &[1711852200, 1729996200, 1700000000], policy, &mut seconds, &mut statuses), errors);
+        assert_eq!(seconds, wanted);
+    }
+    assert_eq!(statuses.map(row_error), [Some(RowError::SkippedTime), Some(RowError::RepeatedTime), None]);
+}
+
+#[test]
+fn errors() {
+    for (text, position, shown) in [
+        ("", 0, "invalid abbreviation at 0"),
+        ("CET", 3, "invalid POSIX offset at 3"),
+        ("CET-1CEST,J60,J300", 10, "invalid day of a rule at 10"),
+        ("CET-1CEST,M3.5.0,M10.5.0/3x", 26, "trailing bytes at 26"),
+    ] {
+        let error = Zone::parse_posix(text).unwrap_err();
+        assert_eq!((error.position, error.to_string().as_str()), (position, shown));
+    }
+    assert_eq!(Zone::parse(b"TZif").unwrap_err().reason(), "unexpected end");
+}
