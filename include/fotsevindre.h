@@ -25,7 +25,7 @@
  * No call allocates, keeps a pointer or has state, so any thread can make any call at any time,
  * unless one call writes an array that another call uses. Only calls with texts, formats, holidays,
  * working days, rules, zones or columns take pointers. None may be null, even for a length of 0.
- * The library runs on Linux, on processors with x86-64-v2. */
+ * The library runs on Linux, on processors with x86-64-v2 or ARM. */
 #ifndef FOTSEVINDRE_H
 #define FOTSEVINDRE_H
 

@@ -1,5 +1,6 @@
 # Builds and installs the library, and counts tests. The scripts in tests/ that read it are in the
-# folder of the repository, and end with `ended`.
+# folder of the repository, and end with `ended`. With the argument --cargo, or without the kit, the
+# library is Cargo's.
 
 work=$(mktemp -d)
 trap 'rm -rf -- "$work"' EXIT
@@ -42,7 +43,11 @@ for name in cc gcc clang; do
         compiler=$name
     fi
 done
-archive=crates/cal_c/out/libcal_c.a
+archive="$work/in stalled/lib/libfotsevindre.a"
+builder=()
+if [ "${1:-}" = --cargo ]; then
+    builder=(--cargo)
+fi
 warnings=(-Wall -Wextra -pedantic -Wconversion -Wsign-conversion -Werror)
 
 # Prefers a Python with numpy, pandas and mypy.
@@ -58,7 +63,7 @@ export PYTHON
 # moved into a folder with a space in its name.
 install_all() {
     if [ -n "$compiler" ]; then
-        CC="$compiler -pipe" DESTDIR=$work/staged clients/packaging/install '/usr/some where' && mv "$work/staged/usr/some where" "$work/in stalled"
+        CC="$compiler -pipe" DESTDIR=$work/staged clients/packaging/install "${builder[@]}" '/usr/some where' && mv "$work/staged/usr/some where" "$work/in stalled"
     else
         (cd crates/cal_c && rt lib)
     fi

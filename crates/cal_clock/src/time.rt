@@ -126,6 +126,12 @@ impl Time {
         ensures value { hour ≤ 23 → minute ≤ 59 → second ≤ 59 → nanosecond ≤ 999_999_999
             → result ≡ Ok (time_of hour minute second nanosecond) }
     {
-        Self::from_hms(hour, minute, second)?.replace_nanosecond(nanosecond)
+        let time = Self::from_hms(hour, minute, second)?;
+        if nanosecond > 999_999_999 {
+            return Err(ComponentRange::unconditional(Component::Nanosecond));
+        }
+        Ok(Self {
+            nanoseconds: time.nanoseconds + u64::from(nanosecond),
+        })
     }
 }

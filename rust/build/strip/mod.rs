@@ -17,5 +17,5 @@ pub use edits::Edits;
 pub use fault::Fault;
 pub use items::{Item, Kind};
 pub use lexer::TokenKind;
-pub use translate::{Options, Source, translated};
+pub use translate::{Change, Options, Source, translated};
 pub use tree::write_crates;

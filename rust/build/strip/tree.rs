@@ -17,7 +17,7 @@ pub fn write_crates(folder: &Path, out: &Path, options: &Options) -> Result<usiz
         let source = folder.join(krate).join("src");
         println!("cargo::rerun-if-changed={}", source.display());
         count += write_folder(krate, &source, &out.join(krate), options)?;
-        let root = out.join(krate).join("lib.rs");
+        let root = out.join(krate).join(if source.join("main.rt").exists() { "main.rs" } else { "lib.rs" });
         library.push_str(&format!(
             "#[path = {root:?}]\n#[allow(unused, unsafe_code, missing_docs, clippy::all)]\npub(crate) mod {krate};\n"
         ));

@@ -1,0 +1,333 @@
+/* Prints a hash of the results of each call with drawn arguments, and of each conversion of days.
+ * The first argument is the number of draws, the second the step between days, and the third a TZif
+ * file. tests/hashes writes calls.h: a function for each call of the header that draws the
+ * arguments, and adds the results to the hash. */
+#include <stdlib.h>
+#include <string.h>
+
+#include "fotsevindre.h"
+#include "testing.h"
+
+#define COUNT(values) (sizeof(values) / sizeof(values)[0])
+/* The rows of a column, its bytes, and how many of these are added to the hash. */
+#define ROWS 40
+#define BYTES (ROWS * FOTS_MAX_ITEMS * FOTS_MAX_ITEM_LENGTH)
+#define HASHED 1024
+
+static uint64_t state, hash;
+
+static uint64_t draw(void)
+{
+    state ^= state << 13;
+    state ^= state >> 7;
+    state ^= state << 17;
+    return state * 0x2545F4914F6CDD1DULL >> 1;
+}
+
+/* Returns whether the next draw is one of so many. */
+static int one_of(uint64_t number)
+{
+    return draw() % number == 0;
+}
+
+static void add(uint64_t number)
+{
+    hash = (hash ^ number) * 0x9E3779B97F4A7C15ULL;
+    hash ^= hash >> 29;
+}
+
+static void add_bytes(const char *bytes, size_t length)
+{
+    for (size_t k = 0; k < length; k++) {
+        add((uint8_t)bytes[k]);
+    }
+}
+
+/* Draws a number, one in 16 outside the range or at its ends. */
+static int64_t number(int64_t first, int64_t last)
+{
+    switch (draw() % 32) {
+    case 0: return (int64_t)draw() - INT64_MAX / 2;
+    case 1: return (int64_t)(one_of(2) ? (uint64_t)first - 1 : (uint64_t)last + 1);
+    case 2: return one_of(2) ? first : last;
+    default: return (int64_t)((uint64_t)first + draw() % ((uint64_t)last - (uint64_t)first + 1));
+    }
+}
+
+/* Draws a date, mostly of the years 1800 to 2200. */
+static fots_date any_fots_date(void)
+{
+    return date_at((int32_t)(one_of(4) ? number(FOTS_MIN_JULIAN_DAY, FOTS_MAX_JULIAN_DAY) : number(2378497, 2524594)));
+}
+
+static fots_time any_fots_time(void)
+{
+    return (fots_time)(one_of(4) ? 1800000000000 * (uint64_t)number(0, 47) : (uint64_t)number(0, FOTS_MAX_TIME));
+}
+
+static fots_offset any_fots_offset(void)
+{
+    return offset_at((int32_t)(one_of(2) ? 1800 * (number(-24, 28) % 100) : number(-FOTS_MAX_OFFSET_SECONDS, FOTS_MAX_OFFSET_SECONDS)));
+}
+
+/* In what follows each draw is a statement, since C doesn't order those of an expression. */
+static fots_duration any_fots_duration(void)
+{
+    fots_duration duration;
+    const int64_t most = INT64_MAX >> draw() % 64;
+    duration.seconds = number(-most, most);
+    duration.nanoseconds = (int32_t)number(0, 999999999);
+    duration.nanoseconds = duration.seconds < 0 ? -duration.nanoseconds : duration.nanoseconds;
+    return duration;
+}
+
+static fots_moment any_fots_moment(void)
+{
+    fots_moment moment;
+    moment.date = any_fots_date();
+    moment.offset = any_fots_offset();
+    moment.time = any_fots_time();
+    return moment;
+}
+
+/* ---- texts, and what is made from them */
+
+static const char *const texts[] = {"2024-02-29", "-004713-11-24", "2024-060", "2024-W09-4", "J2460370", "J-12", "@1709247599.25", "@-1",
+    "2024-02-29T23:59:59.25+01:00", "2024-02-29 12:00Z", "2016-12-31T23:59:60Z", "Thursday, 29 February 2024", "29.02.24 07:05:09 PM +0530"};
+static const char *const formats[] = {"%Y-%m-%d", "%A, %-d %B %Y", "%G-W%V-%u", "%Y-%j", "%H:%M:%S.%9f %z", "%d.%m.%y %I:%M:%S %p %z", "%s", "%Y-%m-%dT%H:%M:%S%:z", "%H:%M:%S", "%I:%M %p", "%:z", "%Y-%m-%d %H:%M"};
+static const char *const descriptions[] = {"[year]-[month]-[day]", "[weekday repr:short], [day padding:none] [month repr:long] [year]",
+    "[hour repr:12]:[minute]:[second].[subsecond digits:3] [period]", "[offset_hour sign:mandatory]:[offset_minute]", "[year][ordinal]"};
+static const char *const recurrences[] = {"FREQ=DAILY;COUNT=10", "FREQ=WEEKLY;INTERVAL=2;BYDAY=MO,WE,FR;WKST=SU;COUNT=40", "FREQ=MONTHLY;BYDAY=-1FR",
+    "FREQ=MONTHLY;BYMONTHDAY=31,-1;UNTIL=20301231", "FREQ=YEARLY;BYMONTH=2;BYMONTHDAY=29", "FREQ=YEARLY;BYWEEKNO=53;BYDAY=SU", "FREQ=YEARLY;BYYEARDAY=1,100,-1",
+    "FREQ=MONTHLY;BYDAY=MO,TU,WE,TH,FR;BYSETPOS=-2", "FREQ=DAILY;BYHOUR=9,17;BYMINUTE=0,30;COUNT=7", "FREQ=HOURLY"};
+static const char *const zones[] = {"CET-1CEST,M3.5.0,M10.5.0/3", "EST5EDT,M3.2.0,M11.1.0", "<+0530>-5:30", "IST-2IDT,M3.4.4/26,M10.5.0", "<-03>3<-02>,M3.5.0/-2,M10.5.0/-1", "UTC0"};
+
+static char drawn_text[256];
+
+/* Draws a text of a list into drawn_text, one in four with another byte or another end. */
+static size_t text_of(const char *const *list, size_t count)
+{
+    const char *text = list[draw() % count];
+    size_t length = strlen(text);
+    memcpy(drawn_text, text, length);
+    if (one_of(4)) {
+        drawn_text[draw() % length] = one_of(8) ? (char)(draw() % 256) : (char)(32 + draw() % 95);
+        length -= one_of(3) ? draw() % length : 0;
+    }
+    return length;
+}
+
+/* Draws a text of a date or a moment that the library prints, or one of the list. */
+static size_t any_text(void)
+{
+    const fots_moment moment = any_fots_moment();
+    fots_text_result text;
+    switch (draw() % 8) {
+    case 0: text = fots_date_calendar_text(moment.date); break;
+    case 1: text = fots_date_ordinal_text(moment.date); break;
+    case 2: text = fots_date_week_text(moment.date); break;
+    case 3: text = fots_date_julian_text(moment.date); break;
+    case 4: text = fots_moment_text(moment.date, moment.time, moment.offset); break;
+    case 5: text = fots_unix_text(moment.date, moment.time, moment.offset); break;
+    default: return text_of(texts, COUNT(texts));
+    }
+    memcpy(drawn_text, text.bytes, sizeof text.bytes);
+    return text.length;
+}
+
+static size_t any_format_text(void) { return text_of(formats, COUNT(formats)); }
+static size_t any_description(void) { return text_of(descriptions, COUNT(descriptions)); }
+static size_t any_recurrence_text(void) { return text_of(recurrences, COUNT(recurrences)); }
+static size_t any_zone_text(void) { return text_of(zones, COUNT(zones)); }
+
+static fots_format any_fots_format(void)
+{
+    const size_t length = one_of(3) ? any_description() : any_format_text();
+    return drawn_text[0] == '[' ? fots_format_from_description(drawn_text, length).format : fots_format_new(drawn_text, length).format;
+}
+
+/* Draws the text of a moment by a format, or another text. */
+static size_t any_text_by(const fots_format *format)
+{
+    fots_length_result text;
+    if (one_of(4)) {
+        return any_text();
+    }
+    text = fots_moment_format(any_fots_moment(), format, drawn_text, sizeof drawn_text);
+    return text.status == FOTS_OK ? text.length : 0;
+}
+
+static fots_recurrence any_fots_recurrence(void)
+{
+    const size_t length = any_recurrence_text();
+    return fots_recurrence_parse(drawn_text, length).recurrence;
+}
+
+static char file_bytes[4096];
+static size_t file_length;
+
+/* Draws the bytes of the file, one in eight with another byte. */
+static size_t any_file(uint8_t *bytes)
+{
+    memcpy(bytes, file_bytes, file_length);
+    if (one_of(8)) {
+        bytes[draw() % file_length] = (uint8_t)draw();
+    }
+    return file_length;
+}
+
+/* Draws a zone of the file or of a POSIX text. The bytes stay unchanged. */
+static fots_zone any_fots_zone(void)
+{
+    const char *text = zones[draw() % COUNT(zones)];
+    return one_of(2) ? fots_zone_from_file((const uint8_t *)file_bytes, file_length).zone : fots_zone_from_posix(text, strlen(text)).zone;
+}
+
+/* Draws a Unix time, mostly near a change of the zone. */
+static int64_t any_instant(const fots_zone *zone)
+{
+    const int64_t seconds = number(-3000000000, 8000000000);
+    const fots_int64_result change = fots_zone_next_change(zone, seconds);
+    if (change.status != FOTS_OK || one_of(3)) {
+        return seconds;
+    }
+    return change.number + (one_of(2) ? number(-1, 1) : number(-7200, 7200)) % 100000;
+}
+
+/* Draws the local date and time of such a Unix time, and returns the date. */
+static fots_moment reading;
+static fots_date any_reading(const fots_zone *zone)
+{
+    int64_t seconds = any_instant(zone);
+    seconds = seconds % 100000000000 + fots_zone_offset(zone, seconds).offset.seconds + (one_of(2) ? 0 : number(-7200, 7200) % 100000);
+    reading = fots_moment_from_unix_timestamp(seconds).moment;
+    return reading.date;
+}
+
+/* ---- lists */
+
+static fots_date drawn_days[(ROWS + 1)];
+static fots_moment drawn_moments[(ROWS + 1)];
+
+/* Draws dates in ascending order, one in 16 without an order. */
+static size_t any_holidays(void)
+{
+    const size_t length = draw() % 40;
+    int32_t day = (int32_t)number(2378497, 2524594);
+    for (size_t k = 0; k < length; k++) {
+        day += one_of(400) ? -1 : 1 + (int32_t)(draw() % 300);
+        drawn_days[k].julian_day = day;
+    }
+    return length;
+}
+
+static fots_workdays any_fots_workdays(void)
+{
+    const size_t length = any_holidays();
+    return fots_workdays_new((uint32_t)number(0, 127), drawn_days, length).workdays;
+}
+
+static fots_rule any_fots_rule(void)
+{
+    static fots_recurrence recurrence;
+    recurrence = any_fots_recurrence();
+    fots_rule rule = fots_recurrence_rule(&recurrence, any_fots_date());
+    rule.interval = one_of(4) ? (uint32_t)number(0, 1000) : rule.interval;
+    rule.week_start = one_of(4) ? (uint32_t)number(1, 7) : rule.week_start;
+    rule.dates_length = rule.exceptions_length = any_holidays() % 8;
+    rule.dates = drawn_days;
+    rule.exceptions = drawn_days + 5;
+    return rule;
+}
+
+static fots_recurrence_set any_fots_recurrence_set(void)
+{
+    const size_t length = any_recurrence_text();
+    fots_moment start = any_fots_moment();
+    start.date.julian_day = (int32_t)number(2378497, 2524594);
+    fots_recurrence_set set = fots_recurrence_set_new(drawn_text, length, start);
+    set.dates_length = set.exceptions_length = draw() % 4;
+    for (size_t k = 0; k < 8; k++) {
+        drawn_moments[k] = any_fots_moment();
+    }
+    set.dates = drawn_moments;
+    set.exceptions = drawn_moments + 2;
+    return set;
+}
+
+/* Draws a text for each row, by a format if it isn't null. The bounds are where they begin and end. */
+static size_t any_rows(char *bytes, int32_t *bounds, size_t rows, const fots_format *format)
+{
+    size_t at = 0;
+    for (size_t row = 0; row < rows; row++) {
+        bounds[row] = (int32_t)at;
+        const size_t length = format == NULL ? any_text() : any_text_by(format);
+        memcpy(bytes + at, drawn_text, length);
+        at += length;
+    }
+    bounds[rows] = (int32_t)at;
+    return at;
+}
+
+#include "calls.h"
+
+/* ---- days */
+
+static void add_day(int32_t julian_day)
+{
+    const fots_date date = date_at(julian_day);
+    const fots_calendar_date_result calendar = fots_date_to_calendar_date(date);
+    const fots_ordinal_date_result ordinal = fots_date_to_ordinal_date(date);
+    const fots_iso_week_date_result week = fots_date_to_iso_week_date(date);
+    add((uint64_t)calendar.year << 32 ^ (uint64_t)ordinal.year << 20 ^ calendar.month << 12 ^ calendar.day);
+    add((uint64_t)week.year << 32 ^ week.week << 12 ^ week.weekday << 20 ^ ordinal.ordinal);
+    add((uint64_t)fots_date_from_calendar_date(calendar.year, calendar.month, calendar.day).date.julian_day << 32
+        ^ (uint64_t)fots_date_from_ordinal_date(ordinal.year, ordinal.ordinal).date.julian_day);
+    add((uint64_t)fots_date_from_iso_week_date(week.year, week.week, week.weekday).date.julian_day << 32
+        ^ (uint64_t)fots_date_from_julian_day(julian_day).date.julian_day);
+}
+
+static void add_texts(int32_t julian_day)
+{
+    const fots_date date = date_at(julian_day);
+    const fots_text_result all[] = {fots_date_calendar_text(date), fots_date_ordinal_text(date), fots_date_week_text(date), fots_date_julian_text(date)};
+    for (size_t k = 0; k < COUNT(all); k++) {
+        add_bytes(all[k].bytes, all[k].length);
+        const fots_parse_date_result parsed = k < 3 ? fots_date_parse(all[k].bytes, all[k].length) : fots_julian_day_parse(all[k].bytes, all[k].length);
+        add((uint64_t)parsed.date.julian_day);
+    }
+}
+
+/* Adds the days from the first one on, each this number after the last, and the texts of one in 64. */
+static void add_days(int32_t step)
+{
+    hash = 1;
+    int32_t rows = 0;
+    for (int64_t day = FOTS_MIN_JULIAN_DAY; day <= FOTS_MAX_JULIAN_DAY; day += step, rows++) {
+        add_day((int32_t)day);
+        if (rows % 64 == 0) {
+            add_texts((int32_t)day);
+        }
+    }
+    printf("days %016llx\n", (unsigned long long)hash);
+}
+
+int main(int count, char **arguments)
+{
+    FILE *file = count == 4 ? fopen(arguments[3], "rb") : NULL;
+    if (file == NULL) {
+        return 2;
+    }
+    file_length = fread(file_bytes, 1, sizeof file_bytes, file);
+    fclose(file);
+    for (size_t k = 0; k < COUNT(calls); k++) {
+        state = 88172645463325252ULL;
+        hash = 1;
+        for (int draws = atoi(arguments[1]) / calls[k].cost; draws > 0; draws--) {
+            calls[k].run();
+        }
+        printf("%s %016llx\n", calls[k].name, (unsigned long long)hash);
+    }
+    add_days(atoi(arguments[2]));
+    return 0;
+}

@@ -1,0 +1,12 @@
+//! Writes the program and its libraries as Rust into the folder of the build.
+
+#[path = "../program.rs"]
+mod program;
+#[path = "../build/strip/mod.rs"]
+mod strip;
+
+use std::process::ExitCode;
+
+fn main() -> ExitCode {
+    program::write(&["cal_units", "cal_span", "cal_clock", "cal_date", "cal_time", "caltool"], None)
+}

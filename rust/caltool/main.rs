@@ -1,0 +1,9 @@
+//! The proved program `caltool`, as rustc compiles it.
+#![no_std]
+#![no_main]
+
+extern crate runtime as std;
+
+include!(concat!(env!("OUT_DIR"), "/library.rs"));
+
+std::main!(caltool::main);

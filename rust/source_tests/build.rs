@@ -1,0 +1,35 @@
+//! Writes the crates with their tests as Rust into the folder of the build.
+
+mod adapt;
+#[path = "../program.rs"]
+mod program;
+#[path = "../build/strip/mod.rs"]
+mod strip;
+
+use std::process::ExitCode;
+
+fn main() -> ExitCode {
+    program::write(
+        &[
+            "cal_units",
+            "cal_span",
+            "cal_clock",
+            "cal_date",
+            "cal_time",
+            "cal_datetime",
+            "cal_schedule",
+            "cal_text",
+            "cal_format",
+            "cal_zone",
+            "cal_tzif",
+            "cal_recurrence",
+            "caldate_run",
+            "cal_date_tests",
+            "cal_datetime_tests",
+            "cal_schedule_tests",
+            "caldate_tests",
+            "caltool",
+        ],
+        Some(&adapt::change),
+    )
+}
