@@ -1,7 +1,7 @@
 -- The components of `time`'s format descriptions: in brackets, a name and modifiers in any order,
 -- which white space separates.
 use Rattle.std.specs.Prelude.{ℕ, zero, suc, ◌+◌, ◌==◌, ◌&&◌, ◌||◌, Bool, List, [], ◌∷◌, length, map, drop, get_or, if◌then◌else◌}
-use Rattle.cal_format.specs.declared.description.TheConstants.{COMPONENTS}
+use Rattle.cal_format.specs.declared.description.TheConstants.{YEARS, DATE_COMPONENTS, TIME_COMPONENTS}
 use Rattle.cal_format.specs.declared.item.Item.{Item}
 use Rattle.cal_format.specs.declared.item.Item.TheVariants as item
 use Rattle.cal_format.specs.Directive.{Front, front_with, begins_with}
@@ -55,11 +55,30 @@ unfoldable pub component_front : List Row → List ℕ → Front
 component_front [] text = front_with [] 1
 component_front (row ∷ rows) text = (let n = component_length row.0 row.1 text in if n == 0 then component_front rows text else front_with row.2 (n + 1))
 
--- The components of format descriptions, as rows.
-abbrev pub components : List Row
-components = map (λ row. (row.0.now, map (λ word. word.now) row.1.now, row.2.now)) COMPONENTS
+-- The components of format descriptions, as rows: years, other components of dates, and the others.
+abbrev pub years : List Row
+years = map (λ row. (row.0.now, map (λ word. word.now) row.1.now, row.2.now)) YEARS
+
+abbrev pub date_components : List Row
+date_components = map (λ row. (row.0.now, map (λ word. word.now) row.1.now, row.2.now)) DATE_COMPONENTS
+
+abbrev pub time_components : List Row
+time_components = map (λ row. (row.0.now, map (λ word. word.now) row.1.now, row.2.now)) TIME_COMPONENTS
+
+-- The first of two fronts that has items, or the second one.
+abbrev pub front_or : Front → Front → Front
+front_or first second = record {
+  items = if length first.items == 0 then second.items else first.items;
+  used = if length first.items == 0 then second.used else first.used;
+}
+
+abbrev pub other_component_front : List ℕ → Front
+other_component_front text = front_or (component_front date_components text) (component_front time_components text)
+
+abbrev pub any_component_front : List ℕ → Front
+any_component_front text = front_or (component_front years text) (other_component_front text)
 
 -- The items of a text after an opening bracket: another opening bracket, which is a literal, or a
 -- component.
 abbrev pub description_front : List ℕ → Front
-description_front text = if get_or text 0 0 == 91 then front_with (item.Literal 91 ∷ []) 2 else component_front components text
+description_front text = if get_or text 0 0 == 91 then front_with (item.Literal 91 ∷ []) 2 else any_component_front text

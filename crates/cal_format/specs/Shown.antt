@@ -7,10 +7,10 @@ use Rattle.cal_format.specs.declared.item.Component.TheVariants.{Year, Century, 
 use Rattle.cal_format.specs.declared.shown.Shown.{Shown}
 use Rattle.cal_format.specs.Reading.{index, item_component, any_shows, mark_of, ends_before}
 
--- The index of an item's component, or 27, and the index after it, or 0. No range has an
+-- The index of an item's component, or 34, and the index after it, or 0. No range has an
 -- abbreviation, whose index is past all others.
 abbrev pub low_of : Option Component → ℕ
-low_of None = 27
+low_of None = 34
 low_of (Some c) = index c
 
 abbrev pub component_end : Option Component → ℕ
@@ -18,12 +18,12 @@ component_end None = 0
 component_end (Some c) = index c + 1
 
 abbrev pub end_of : Item → ℕ
-end_of item.Abbreviation = 28
+end_of item.Abbreviation = 35
 end_of i = component_end (item_component i)
 
 -- The minimum index of the items, and the end of the range of their indices.
 abbrev pub lowest : List Item → ℕ
-lowest [] = 27
+lowest [] = 34
 lowest (i ∷ items) = min (low_of (item_component i)) (lowest items)
 
 abbrev pub highest : List Item → ℕ
