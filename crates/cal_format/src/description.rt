@@ -1,5 +1,6 @@
 //! The components of `time`'s format descriptions.
 ghost use Rattle.std.specs.Prelude.{◌≡◌, ◌+◌, ◌≤◌, List, length, map, get_or};
+ghost use Rattle.cal_format.specs.Components.{years, date_components, time_components};
 ghost use Rattle.cal_format.specs.Description.{is_space, spaces, word_length, any_length, modifiers_length, component_length, component_front, other_component_front, any_component_front, description_front};
 
 use crate::directive::{Directive, begins_with};
@@ -162,7 +163,7 @@ fn any_component_front(text: &[u8]) -> Directive
     ensures used { result.used ≡ (any_component_front text.now).used }
     ensures min { 1 ≤ result.used }
 {
-    let year = component_front(&YEARS, text);
+    let year = year_front(text);
     if year.items.len() != 0 {
         return year;
     }
@@ -175,10 +176,37 @@ fn other_component_front(text: &[u8]) -> Directive
     ensures used { result.used ≡ (other_component_front text.now).used }
     ensures min { 1 ≤ result.used }
 {
-    let date = component_front(&DATE_COMPONENTS, text);
+    let date = date_front(text);
     if date.items.len() != 0 {
         return date;
     }
+    time_front(text)
+}
+
+/// Returns the items of a year at the front of a text.
+fn year_front(text: &[u8]) -> Directive
+    ensures items { result.items.now ≡ (component_front years text.now).items }
+    ensures used { result.used ≡ (component_front years text.now).used }
+    ensures min { 1 ≤ result.used }
+{
+    component_front(&YEARS, text)
+}
+
+/// Returns the items of another component of a date at the front of a text.
+fn date_front(text: &[u8]) -> Directive
+    ensures items { result.items.now ≡ (component_front date_components text.now).items }
+    ensures used { result.used ≡ (component_front date_components text.now).used }
+    ensures min { 1 ≤ result.used }
+{
+    component_front(&DATE_COMPONENTS, text)
+}
+
+/// Returns the items of a component of a time, an offset or a Unix time at the front of a text.
+fn time_front(text: &[u8]) -> Directive
+    ensures items { result.items.now ≡ (component_front time_components text.now).items }
+    ensures used { result.used ≡ (component_front time_components text.now).used }
+    ensures min { 1 ≤ result.used }
+{
     component_front(&TIME_COMPONENTS, text)
 }
 
