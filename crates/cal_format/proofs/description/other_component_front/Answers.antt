@@ -1,4 +1,4 @@
-use Rattle.std.proofs.Common.{◌≡◌, List, length, ap, ◌∙◌, arith}
+use Rattle.std.proofs.Common.{◌≡◌, length, ap, ◌∙◌, arith}
 use Rattle.std.specs.Prelude.{◌==◌}
 use borrow.Author.Tests.{eq-eqb}
 use Rattle.cal_format.specs.Components.{date_components}
