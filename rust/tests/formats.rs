@@ -56,6 +56,7 @@ fn descriptions() {
         ("[weekday], [day padding:none] [month repr:long]", "Thursday, 29 February"),
         ("[hour repr:12]:[minute] [period]", "09:05 AM"),
         ("[subsecond digits:3] [offset_hour sign:mandatory][offset_minute]", "250 +0530"),
+        ("[offset_hour]:[offset_minute padding:none]", "05:30"),
     ];
     for (format, text) in rows {
         assert_eq!(moment().format(&Format::from_description(format).unwrap()).unwrap().as_str(), text, "{format}");

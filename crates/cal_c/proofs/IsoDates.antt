@@ -34,6 +34,11 @@ byte-one b item.Fraction e = absurd (omega (arith, ap (λ p. p.kind) e))
 byte-one b item.Decimals e = absurd (omega (arith, ap (λ p. p.kind) e))
 byte-one b item.OffsetSign e = absurd (omega (arith, ap (λ p. p.kind) e))
 byte-one b item.TimestampSign e = absurd (omega (arith, ap (λ p. p.kind) e))
+byte-one b item.TimestampMinus e = absurd (omega (arith, ap (λ p. p.kind) e))
+byte-one b item.OffsetMinus e = absurd (omega (arith, ap (λ p. p.kind) e))
+byte-one b (item.Signed c padding.Zero) e = absurd (omega (arith, ap (λ p. p.kind) e))
+byte-one b (item.Signed c padding.Space) e = absurd (omega (arith, ap (λ p. p.kind) e))
+byte-one b (item.Signed c padding.None) e = absurd (omega (arith, ap (λ p. p.kind) e))
 byte-one b item.Abbreviation e = absurd (omega (arith, ap (λ p. p.kind) e))
 
 pub number-one : (c : Component) (i : Item) → parts 1 (index c) ≡ item_parts i → i ≡ item.Number c padding.Zero
@@ -46,6 +51,11 @@ number-one c item.Fraction e = absurd (omega (arith, ap (λ p. p.kind) e))
 number-one c item.Decimals e = absurd (omega (arith, ap (λ p. p.kind) e))
 number-one c item.OffsetSign e = absurd (omega (arith, ap (λ p. p.kind) e))
 number-one c item.TimestampSign e = absurd (omega (arith, ap (λ p. p.kind) e))
+number-one c item.TimestampMinus e = absurd (omega (arith, ap (λ p. p.kind) e))
+number-one c item.OffsetMinus e = absurd (omega (arith, ap (λ p. p.kind) e))
+number-one c (item.Signed d padding.Zero) e = absurd (omega (arith, ap (λ p. p.kind) e))
+number-one c (item.Signed d padding.Space) e = absurd (omega (arith, ap (λ p. p.kind) e))
+number-one c (item.Signed d padding.None) e = absurd (omega (arith, ap (λ p. p.kind) e))
 number-one c item.Abbreviation e = absurd (omega (arith, ap (λ p. p.kind) e))
 
 -- These numbers are only this item.
@@ -106,7 +116,7 @@ usual-text n y m d a b e f year few month low day less ea eb ee ef =
     ∙ (λ i. plain y few i ++ (four y few i ++ codes "-" ++ digits_at_least-two m low i ++ codes "-" ++ digits_at_least-two d less i)))
 
 -- The items print it to the front of a buffer.
-pub usual-printed : (n : ℕ) (old rest bytes : List ℕ) → length bytes ≡ 10 → bytes ≡ text n → PrintsItems 0 13 (moment_of_date n) old (bytes ++ rest) 0 10 iso_items
+pub usual-printed : (n : ℕ) (old rest bytes : List ℕ) → length bytes ≡ 10 → bytes ≡ text n → PrintsItems 0 14 (moment_of_date n) old (bytes ++ rest) 0 10 iso_items
 usual-printed n old rest bytes long is =
     let same = is ∙ sym (iso_items-text n) in
     record {

@@ -1,5 +1,5 @@
 -- Formats as numbers, and the results of making them.
-use Rattle.std.specs.Prelude.{◌≡◌, ℕ, ◌-◌, ◌≤◌, ℤ, List, [], ◌++◌, length, map, replicate, take}
+use Rattle.std.specs.Prelude.{◌≡◌, ℕ, ◌+◌, ◌-◌, ◌≤◌, ℤ, List, [], ◌++◌, length, map, replicate, take}
 use Rattle.std.specs.Str.{IsUtf8}
 use Rattle.std.specs.Str.Lossy.{utf8_valid_len}
 use Rattle.cal_format.specs.declared.format.FormatError.{FormatError}
@@ -32,6 +32,7 @@ name_number name.ShortMonth = 1
 name_number name.Weekday = 2
 name_number name.ShortWeekday = 3
 name_number name.Period = 4
+name_number name.LowerPeriod = 5
 
 -- The kind of an item, and the number of what it shows.
 abbrev pub parts : ℕ → ℕ → FormatItem
@@ -43,9 +44,12 @@ item_parts (item.Number c p) = parts (padding_kind p) (index c)
 item_parts (item.Name k) = parts 4 (name_number k)
 item_parts item.Fraction = parts 5 0
 item_parts item.OffsetSign = parts 6 0
-item_parts item.TimestampSign = parts 7 0
+item_parts item.TimestampMinus = parts 7 0
 item_parts item.Decimals = parts 8 0
 item_parts item.Abbreviation = parts 9 0
+item_parts (item.Signed c p) = parts (9 + padding_kind p) (index c)
+item_parts item.OffsetMinus = parts 13 0
+item_parts item.TimestampSign = parts 14 0
 
 -- The format has these items. The numbers after its length don't matter.
 pub record HasItems (f : FormatParts) (items : List Item) : Type 0 where

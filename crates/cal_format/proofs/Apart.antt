@@ -1,5 +1,5 @@
 -- What follows an item, and what an item shows.
-use Rattle.std.proofs.Common.{◌≡◌, ◌≢◌, ◌⊎◌, ℕ, ◌-◌, ◌<◌, ◌^◌, List, [], ◌∷◌, ◌++◌, length, take, drop, get_or, refl, sym, ◌∙◌, arith, rules, inl, inr, lit<}
+use Rattle.std.proofs.Common.{◌≡◌, ◌≢◌, ◌⊎◌, ℕ, zero, suc, ◌-◌, ◌<◌, ◌^◌, List, [], ◌∷◌, ◌++◌, length, take, drop, replicate, get_or, refl, sym, ◌∙◌, arith, rules, inl, inr, lit<}
 use Rattle.std.specs.Prelude.{Bool, true, false, ◌||◌, ◌&&◌, not, nat_lt, IsTrue, ◌==◌, if◌then◌else◌, codes, decimal}
 use Rattle.std.proofs.lemmas.Fmt.{decimal_nonempty}
 use borrow.Author.Tests.{ltb-true, eqb-true, eq-eqb}
@@ -8,13 +8,16 @@ use denote.Enum.Declared.{tag_of}
 use Rattle.cal_format.specs.contracts.item.Component.{the_type}
 use Rattle.cal_format.specs.declared.item.Item.{Item}
 use Rattle.cal_format.specs.declared.item.Item.TheVariants as item
+use Rattle.cal_format.specs.declared.item.Padding.{Padding}
 use Rattle.cal_format.specs.declared.item.Padding.TheVariants as padding
 use Rattle.cal_format.specs.declared.item.Component.{Component}
 use Rattle.cal_format.specs.declared.item.Component.TheVariants.{Year}
 use Rattle.cal_format.specs.Form.{numbered_item, numbered_text, AreNumbers}
 use Rattle.cal_time.specs.Digits.{decimals}
-use Rattle.cal_format.specs.Reading.{index, is_apart, is_fraction, begins_apart, is_past_point, begins_past_point, begins_with_decimal, ends_before}
-use Rattle.cal_format.proofs.Digits.{AreDigits-decimal, small-digits}
+use Rattle.cal_format.specs.Moment.{width}
+use Rattle.cal_format.specs.Text.{padded}
+use Rattle.cal_format.specs.Reading.{index, is_apart, is_fraction, begins_apart, is_past_point, begins_past_point, begins_with_number, ends_before}
+use Rattle.cal_format.proofs.Digits.{AreDigits-decimal, fits-most, small-digits}
 use Rattle.cal_format.proofs.Ends.{AreDigits, BeginsApart, BeginsPastPoint, BeginsPastMinus, IsEnded}
 use Rattle.cal_format.proofs.EnglishNames.{name-apart, name-past}
 
@@ -55,13 +58,17 @@ sign-past false rest = λ e. absurd (omega arith)
 item-apart : (i : Item) (n : ℕ) (rest : List ℕ) → IsTrue (is_apart i) → BeginsApart (numbered_item i n ++ rest)
 item-apart (item.Literal b) n rest h = byte-apart b rest h
 item-apart (item.Name k) n rest h = name-apart k n rest
+item-apart (item.Signed c p) n rest h = inl (lit< tt)
 item-apart item.OffsetSign n rest h = sign-apart (n == 1) rest
+item-apart item.TimestampSign n rest h = sign-apart (n == 1) rest
 item-apart _ n rest h = cc
 
 item-past : (i : Item) (n : ℕ) (rest : List ℕ) → IsTrue (is_apart i) → IsTrue (is_past_point i) → BeginsPastPoint (numbered_item i n ++ rest)
 item-past (item.Literal b) n rest h p = other_test b 46 p
 item-past (item.Name k) n rest h p = name-past k n rest
+item-past (item.Signed c q) n rest h p = λ e. absurd (omega arith)
 item-past item.OffsetSign n rest h p = sign-past (n == 1) rest
+item-past item.TimestampSign n rest h p = sign-past (n == 1) rest
 item-past _ n rest h p = cc
 
 -- A fraction begins with a point, or is empty.
@@ -91,7 +98,9 @@ first-apart (item.Literal b) items h p = elim (either_test (nat_lt b 48 || nat_l
 ]
 first-apart item.Fraction items h p = cc
 first-apart (item.Name k) items h p = refl
+first-apart (item.Signed c q) items h p = refl
 first-apart item.OffsetSign items h p = refl
+first-apart item.TimestampSign items h p = refl
 first-apart _ items h p = h
 
 text-past : (items : List Item) (numbers : List ℕ) → IsTrue (begins_apart items) → IsTrue (begins_past_point items) → AreNumbers items numbers → BeginsPastPoint (numbered_text items numbers)
@@ -103,21 +112,31 @@ decimal-past : (ds rest : List ℕ) → 0 < length ds → AreDigits ds → Begin
 decimal-past [] rest some h = absurd (omega (arith, some))
 decimal-past (x ∷ xs) rest some h = λ e. absurd (omega (arith, h.0, e))
 
-text-decimal : (items : List Item) (numbers : List ℕ) → IsTrue (begins_with_decimal items) → AreNumbers items numbers → BeginsPastMinus (numbered_text items numbers)
-text-decimal [] numbers h fit = cc
-text-decimal (i ∷ items) [] h fit = absurd fit
-text-decimal (item.Number c padding.None ∷ items) (n ∷ numbers) h fit =
-    let small : n < 2 ^ 64 = omega (arith, fit.0, small-digits c) in
-    decimal-past (decimal n) (numbered_text items numbers) (decimal_nonempty n small) (AreDigits-decimal n small)
-text-decimal (_ ∷ items) (n ∷ numbers) h fit = cc
+filled-past : (k b : ℕ) (ds rest : List ℕ) → b ≢ 45 → 0 < length ds → AreDigits ds → BeginsPastMinus ((replicate k b ++ ds) ++ rest)
+filled-past zero b ds rest other some h = decimal-past ds rest some h
+filled-past (suc k) b ds rest other some h = other
+
+padded-past : (p : Padding) (w n : ℕ) (rest : List ℕ) → n < 2 ^ 64 → BeginsPastMinus (padded p w n ++ rest)
+padded-past padding.Zero w n rest small = filled-past (w - length (decimal n)) 48 (decimal n) rest (λ e. absurd (omega (arith, e))) (decimal_nonempty n small) (AreDigits-decimal n small)
+padded-past padding.Space w n rest small = filled-past (w - length (decimal n)) 32 (decimal n) rest (λ e. absurd (omega (arith, e))) (decimal_nonempty n small) (AreDigits-decimal n small)
+padded-past padding.None w n rest small = decimal-past (decimal n) rest (decimal_nonempty n small) (AreDigits-decimal n small)
+
+text-number : (items : List Item) (numbers : List ℕ) → IsTrue (begins_with_number items) → AreNumbers items numbers → BeginsPastMinus (numbered_text items numbers)
+text-number [] numbers h fit = cc
+text-number (i ∷ items) [] h fit = absurd fit
+text-number (item.Number c p ∷ items) (n ∷ numbers) h fit =
+    padded-past p (width c) n (numbered_text items numbers) (omega (arith, fits-most p c n fit.0, small-digits c))
+text-number (_ ∷ items) (n ∷ numbers) h fit = cc
 
 pub numbers-ended : (i : Item) (items : List Item) (numbers : List ℕ) → IsTrue (ends_before i items) → AreNumbers items numbers → IsEnded i (numbered_text items numbers)
 numbers-ended (item.Number c padding.None) items numbers h fit = text-apart items numbers h fit
+numbers-ended (item.Signed c padding.None) items numbers h fit = text-apart items numbers h fit
 numbers-ended item.Fraction items numbers h fit =
     let both = both_tests (begins_apart items) (begins_past_point items) h in
     (text-apart items numbers both.0 fit, text-past items numbers both.0 both.1 fit)
 numbers-ended item.Decimals items numbers h fit = text-apart items numbers h fit
-numbers-ended item.TimestampSign items numbers h fit = text-decimal items numbers h fit
+numbers-ended item.OffsetMinus items numbers h fit = text-number items numbers h fit
+numbers-ended item.TimestampMinus items numbers h fit = text-number items numbers h fit
 numbers-ended _ items numbers h fit = tt
 
 -- ---- the first item of some, and the others

@@ -1,5 +1,5 @@
 -- The numbers that items show of a moment that they hold determine it.
-use Rattle.std.proofs.Common.{◌≡◌, ◌⊎◌, ℕ, ◌+◌, ◌*◌, ◌/◌, ◌%◌, List, [], refl, sym, ap, ◌∙◌, arith, inl, inr}
+use Rattle.std.proofs.Common.{◌≡◌, ◌⊎◌, ℕ, ◌+◌, ◌*◌, ◌/◌, ◌%◌, List, [], ◌∷◌, refl, sym, ap, ◌∙◌, arith, inl, inr}
 use Rattle.std.specs.Prelude.{Bool, true, false, ◌==◌, ◌||◌, ◌&&◌, not, IsTrue, if◌then◌else◌, pos, unsigned_abs}
 use Rattle.cal_time.specs.Date.{year_at, month_at, day_of_month_at, weekday_at, HasCalendarDate}
 use Rattle.cal_time.specs.DateText.{sign_text}
@@ -8,15 +8,15 @@ use Rattle.cal_time.specs.Laws.{weekday_at-is}
 use Rattle.cal_time.specs.Time.{IsTime, hour_of, minute_of, second_of, nanosecond_of, time_of}
 use Rattle.cal_format.specs.declared.item.Item.{Item}
 use Rattle.cal_format.specs.declared.item.Component.{Component}
-use Rattle.cal_format.specs.declared.item.Component.TheVariants.{Year, Century, YearOfCentury, IsoYear, Month, Day, Ordinal, IsoWeek, Weekday, DaysFromSunday, SundayWeekday, Hour, Hour12, Minute, Second, Period, Millisecond, Microsecond, Nanosecond, OffsetHour, OffsetMinute, OffsetSecond, OffsetSign, Timestamp, TimestampSign}
+use Rattle.cal_format.specs.declared.item.Component.TheVariants.{Year, Century, YearOfCentury, IsoYear, Month, Day, Ordinal, IsoWeek, Weekday, DaysFromMonday, DaysFromSunday, SundayWeekday, Hour, Hour12, Minute, Second, Period, Subsecond1, Subsecond2, Millisecond, Subsecond4, Subsecond5, Microsecond, Subsecond7, Subsecond8, Nanosecond, OffsetHour, OffsetMinute, OffsetSecond, OffsetSign, Timestamp, TimestampSign}
 use Rattle.cal_format.specs.declared.moment.Moment.{Moment}
 use Rattle.cal_format.specs.Moment.{number, timestamp_of}
-use Rattle.cal_format.specs.Reading.{any_shows, shows_year, shows_weekday, shows_date, shows_hour, shows_time, shows_offset, shows_timestamp, holds_subsecond, holds_parts}
+use Rattle.cal_format.specs.Reading.{subseconds, unit_of, is_within, holds_parts_of_second, any_shows, shows_year, shows_weekday, shows_date, shows_hour, shows_time, shows_offset, shows_timestamp, holds_subsecond, holds_parts}
 use Rattle.cal_format.specs.Scanning.{AreHeld}
-use Rattle.cal_format.specs.Values.{Holds, IsDateOf, IsMomentOf, year_in, weekday_in, hour_in, nanosecond_in, time_in, offset_in}
+use Rattle.cal_format.specs.Values.{Holds, IsDateOf, IsMomentOf, year_in, weekday_in, hour_in, nanoseconds_of, nanosecond_in, time_in, offset_in}
 use Rattle.cal_format.proofs.Apart.{either_test, both_tests, not_test, same_test, agrees-shown, agrees-whole}
 use Rattle.cal_format.proofs.Choices.{is-not}
-use Rattle.cal_format.proofs.Contradictions.{then-holds, else-holds}
+use Rattle.cal_format.proofs.Contradictions.{AreParts, all-parts, then-holds, else-holds}
 use Rattle.cal_format.proofs.Holding.{plain-shown, plain-year}
 use Rattle.cal_format.proofs.Offsets.{offset-size, signed-is, offset-shown, no-offset}
 use Rattle.cal_format.proofs.Times.{time-parts, time-shown}
@@ -37,10 +37,9 @@ either_shown : (a b c : Bool) → IsTrue (a || (b && c)) → a ≡ false → IsT
 either_shown true b c h e = cc
 either_shown false b c h e = both_tests b c h
 
-pub third_shown : (a b c : Bool) → IsTrue (a || (b || c)) → a ≡ false → b ≡ false → IsTrue c
-third_shown true b c h e f = cc
-third_shown false true c h e f = cc
-third_shown false false c h e f = h
+other_shown : (a b : Bool) → IsTrue (a || b) → a ≡ false → IsTrue b
+other_shown true b h e = cc
+other_shown false b h e = h
 
 not-shown : (b : Bool) (n : ℕ) → IsTrue b ⊎ (n ≡ 0) → IsTrue (not b) → n ≡ 0
 not-shown b n (inl h) k = absurd (not_test b k h)
@@ -64,12 +63,12 @@ year-is items v at held are h = ap (λ k. pos k) (year-size items v at are h) �
 
 weekday-is : (items : List Item) (v : Moment) (at : Component → ℕ) → AreOf items v at → IsTrue (shows_weekday items) → weekday_in items at ≡ weekday_at v.date
 weekday-is items v at are h =
-    choice (any_shows Weekday items) ((at Weekday + 6) % 7) (if any_shows DaysFromSunday items then (at DaysFromSunday + 6) % 7 else (at SundayWeekday + 5) % 7) (weekday_at v.date)
-    (λ s. omega (arith, own items v at Weekday are s, weekday_at-is v.date)) (λ no.
-    choice (any_shows DaysFromSunday items) ((at DaysFromSunday + 6) % 7) ((at SundayWeekday + 5) % 7) (weekday_at v.date)
-    (λ s. omega (arith, own items v at DaysFromSunday are s, weekday_at-is v.date)) (λ none.
-    let last = third_shown (any_shows Weekday items) (any_shows DaysFromSunday items) (any_shows SundayWeekday items) h no none in
-    omega (arith, own items v at SundayWeekday are last, weekday_at-is v.date)))
+    choice (any_shows Weekday items) ((at Weekday + 6) % 7) _ (weekday_at v.date) (λ s. omega (arith, own items v at Weekday are s, weekday_at-is v.date)) (λ no.
+    choice (any_shows DaysFromSunday items) ((at DaysFromSunday + 6) % 7) _ (weekday_at v.date) (λ s. omega (arith, own items v at DaysFromSunday are s, weekday_at-is v.date)) (λ no_second.
+    choice (any_shows SundayWeekday items) ((at SundayWeekday + 5) % 7) (at DaysFromMonday) (weekday_at v.date) (λ s. omega (arith, own items v at SundayWeekday are s, weekday_at-is v.date)) (λ no_third.
+    let second = other_shown (any_shows Weekday items) _ h no in
+    let third = other_shown (any_shows DaysFromSunday items) _ second no_second in
+    own items v at DaysFromMonday are (other_shown (any_shows SundayWeekday items) (any_shows DaysFromMonday items) third no_third))))
 
 calendar_date-is : (n y m d : ℕ) → pos y ≡ year_at n → m ≡ month_at n → d ≡ day_of_month_at n → HasCalendarDate (pos y) m d n
 calendar_date-is n y m d e f g = λ i. record { year = sym e i; month = sym f i; day = sym g i }
@@ -103,17 +102,31 @@ hour-is items v at are h =
     let period : at Period ≡ hour_of v.time / 12 = own items v at Period are both.1 in
     (λ i. hour i % 12 + period i * 12) ∙ twelve_hours (hour_of v.time))
 
-subsecond : (a b c : Bool) (x y z n : ℕ) → IsTrue (if a then true else (if b then n % 1_000 == 0 else (if c then n % 1_000_000 == 0 else n == 0)))
-    → (IsTrue a → x ≡ n) → (IsTrue b → y ≡ n / 1_000) → (IsTrue c → z ≡ n / 1_000_000) → (if a then x else (if b then y * 1_000 else (if c then z * 1_000_000 else 0))) ≡ n
-subsecond true b c x y z n h f g k = f refl
-subsecond false true c x y z n h f g k = omega (arith, g refl, same_test (n % 1_000) 0 h)
-subsecond false false true x y z n h f g k = omega (arith, k refl, same_test (n % 1_000_000) 0 h)
-subsecond false false false x y z n h f g k = sym (same_test n 0 h)
+part-number : (c : Component) (v : Moment) (x : ℕ) → IsTrue (is_within 19 28 c) → x ≡ number c v → nanosecond_of v.time % unit_of c ≡ 0 → x * unit_of c ≡ nanosecond_of v.time
+part-number Subsecond1 v x part e h = omega (arith, e, h)
+part-number Subsecond2 v x part e h = omega (arith, e, h)
+part-number Millisecond v x part e h = omega (arith, e, h)
+part-number Subsecond4 v x part e h = omega (arith, e, h)
+part-number Subsecond5 v x part e h = omega (arith, e, h)
+part-number Microsecond v x part e h = omega (arith, e, h)
+part-number Subsecond7 v x part e h = omega (arith, e, h)
+part-number Subsecond8 v x part e h = omega (arith, e, h)
+part-number Nanosecond v x part e h = omega (arith, e, h)
+part-number _ v x part e h = cc
+
+part-or : (b : Bool) (x y n u : ℕ) (rest : Bool) → IsTrue (if b then n % u == 0 else rest) → (IsTrue b → n % u ≡ 0 → x ≡ n) → (IsTrue rest → y ≡ n) → (if b then x else y) ≡ n
+part-or true x y n u rest h f g = f refl (same_test (n % u) 0 h)
+part-or false x y n u rest h f g = g h
+
+parts-are : (components : List Component) (items : List Item) (v : Moment) (at : Component → ℕ) → AreOf items v at → AreParts components → IsTrue (holds_parts_of_second components items (nanosecond_of v.time))
+    → nanoseconds_of components items at ≡ nanosecond_of v.time
+parts-are [] items v at are parts h = sym (same_test (nanosecond_of v.time) 0 h)
+parts-are (c ∷ components) items v at are parts h =
+    part-or (any_shows c items) (at c * unit_of c) (nanoseconds_of components items at) (nanosecond_of v.time) (unit_of c) _ h
+    (λ s whole. part-number c v (at c) parts.0 (own items v at c are s) whole) (parts-are components items v at are parts.1)
 
 nanosecond-is : (items : List Item) (v : Moment) (at : Component → ℕ) → AreOf items v at → IsTrue (holds_subsecond items (nanosecond_of v.time)) → nanosecond_in items at ≡ nanosecond_of v.time
-nanosecond-is items v at are h =
-    subsecond (any_shows Nanosecond items) (any_shows Microsecond items) (any_shows Millisecond items) (at Nanosecond) (at Microsecond) (at Millisecond) (nanosecond_of v.time) h
-    (λ s. own items v at Nanosecond are s) (λ s. own items v at Microsecond are s) (λ s. own items v at Millisecond are s)
+nanosecond-is items v at are h = parts-are subseconds items v at are all-parts h
 
 time-is : (items : List Item) (v : Moment) (at : Component → ℕ) → IsTime v.time → AreOf items v at → IsTrue (shows_time items) → IsTrue (holds_parts items v.time) → time_in items at ≡ v.time
 time-is items v at range are h holds =

@@ -22,9 +22,11 @@ BeginsPastMinus (x ∷ xs) = x ≢ 45
 -- What comes after the item can't continue it.
 abbrev pub IsEnded : Item → List ℕ → Type 0
 IsEnded (item.Number c padding.None) after = BeginsApart after
+IsEnded (item.Signed c padding.None) after = BeginsApart after
 IsEnded item.Fraction after = BeginsApart after × BeginsPastPoint after
 IsEnded item.Decimals after = BeginsApart after
-IsEnded item.TimestampSign after = BeginsPastMinus after
+IsEnded item.OffsetMinus after = BeginsPastMinus after
+IsEnded item.TimestampMinus after = BeginsPastMinus after
 IsEnded _ after = Unit {0}
 
 abbrev pub AreDigits : List ℕ → Type 0

@@ -57,12 +57,15 @@ weekday-short : (w : Weekday) → length (weekday.name w) ≤ 9
 weekday-short Monday = lit≤ tt
 weekday-short _ = lit≤ tt
 
-period-length : (b : Bool) → length (if b then codes "AM" else codes "PM") ≡ 2
-period-length true = refl
-period-length false = refl
+period-length : (b : Bool) (am pm : List ℕ) → length am ≡ 2 → length pm ≡ 2 → length (if b then am else pm) ≡ 2
+period-length true am pm e f = e
+period-length false am pm e f = f
 
 pub length-period : (v : Moment) → length (name_text name.Period v) ≡ 2
-length-period v = period-length (nat_lt (hour_of v.time) 12)
+length-period v = period-length (nat_lt (hour_of v.time) 12) (codes "AM") (codes "PM") refl refl
+
+length-lower_period : (v : Moment) → length (name_text name.LowerPeriod v) ≡ 2
+length-lower_period v = period-length (nat_lt (hour_of v.time) 12) (codes "am") (codes "pm") refl refl
 
 pub name-short : (k : Name) (v : Moment) → length (name_text k v) ≤ 9
 name-short name.Month v = month-short (month_of v)
@@ -70,6 +73,7 @@ name-short name.ShortMonth v = omega (arith, length-short_month (month_of v))
 name-short name.Weekday v = weekday-short (weekday_of v)
 name-short name.ShortWeekday v = omega (arith, length-short_weekday (weekday_of v))
 name-short name.Period v = omega (arith, length-period v)
+name-short name.LowerPeriod v = omega (arith, length-lower_period v)
 
 -- ---- no name begins with a digit or a point
 record BeginsWithLetter (text : List ℕ) : Type 0 where
@@ -99,12 +103,17 @@ period-letter : (b : Bool) (rest : List ℕ) → BeginsWithLetter ((if b then co
 period-letter true rest = letter _ _ (lit< tt)
 period-letter false rest = letter _ _ (lit< tt)
 
+lower_period-letter : (b : Bool) (rest : List ℕ) → BeginsWithLetter ((if b then codes "am" else codes "pm") ++ rest)
+lower_period-letter true rest = letter _ _ (lit< tt)
+lower_period-letter false rest = letter _ _ (lit< tt)
+
 name-letter : (k : Name) (n : ℕ) (rest : List ℕ) → BeginsWithLetter (numbered_name k n ++ rest)
 name-letter name.Month n rest = month-letter (month.month_of_index (n - 1)) rest
 name-letter name.ShortMonth n rest = short_month-letter (month.month_of_index (n - 1)) rest
 name-letter name.Weekday n rest = weekday-letter (weekday.weekday_of_index (n - 1)) rest
 name-letter name.ShortWeekday n rest = short_weekday-letter (weekday.weekday_of_index (n - 1)) rest
 name-letter name.Period n rest = period-letter (n == 0) rest
+name-letter name.LowerPeriod n rest = lower_period-letter (n == 0) rest
 
 pub name-apart : (k : Name) (n : ℕ) (rest : List ℕ) → BeginsApart (numbered_name k n ++ rest)
 name-apart k n rest = (name-letter k n rest).apart

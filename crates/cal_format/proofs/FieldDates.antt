@@ -60,7 +60,7 @@ calendar-items items f n are is =
     let low : highest items ≤ 6 = omega (arith, are.end, leb-true f.shown.end 6 end.0) in
     record {
       within = all-within 0 6 items (omega arith) (omega arith) ∙ range-of (lowest items) 6 (highest items) low;
-      date_items = all-within 0 13 items (omega arith) (omega arith) ∙ range-of (lowest items) 13 (highest items) (omega (arith, low));
+      date_items = all-within 0 14 items (omega arith) (omega arith) ∙ range-of (lowest items) 14 (highest items) (omega (arith, low));
       year = sym (are.marks Year) ∙ year.0;
       month = sym (are.marks Month) ∙ month.0;
       day = sym (are.marks Day) ∙ day.0;
@@ -90,11 +90,14 @@ component-agrees _ f n items is calendar shown h = cc
 within-option : (low high : ℕ) (i : Item) → IsTrue (shows_within low high i) → IsTrue (lies_within low high (item_component i))
 within-option low high (item.Literal b) h = h
 within-option low high (item.Number c p) h = h
+within-option low high (item.Signed c p) h = h
 within-option low high (item.Name k) h = h
 within-option low high item.Fraction h = h
 within-option low high item.Decimals h = h
 within-option low high item.OffsetSign h = h
+within-option low high item.OffsetMinus h = h
 within-option low high item.TimestampSign h = h
+within-option low high item.TimestampMinus h = h
 within-option low high item.Abbreviation h = cc
 
 option-agrees : (o : Option Component) (f : Fields) (n : ℕ) (items : List Item) → IsDateOfFields f n → IsCalendar items → ((c : Component) → IsTrue (is_component c o) → IsTrue (any_shows c items)) → IsTrue (lies_within 0 6 o)

@@ -6,7 +6,7 @@ use Rattle.cal_time.specs.Time.{IsTime}
 use Rattle.cal_format.specs.declared.item.Item.{Item}
 use Rattle.cal_format.specs.declared.item.Item.TheVariants as item
 use Rattle.cal_format.specs.declared.item.Component.{Component}
-use Rattle.cal_format.specs.declared.item.Component.TheVariants.{Hour, Hour12, Minute, Second, Period, Millisecond, Microsecond, Nanosecond, OffsetSign, TimestampSign}
+use Rattle.cal_format.specs.declared.item.Component.TheVariants.{Hour, Hour12, Minute, Second, Period, Subsecond1, Subsecond2, Millisecond, Subsecond4, Subsecond5, Microsecond, Subsecond7, Subsecond8, Nanosecond, OffsetSign, TimestampSign}
 use Rattle.cal_format.specs.declared.item.Name.{Name}
 use Rattle.cal_format.specs.declared.item.Name.TheVariants as name
 use Rattle.cal_format.specs.declared.moment.Moment.{Moment}
@@ -28,12 +28,15 @@ same-plain d c v h plain = subst (λ k. sign k v ≡ []) (index-one d c (same_te
 item-plain : (c : Component) (v : Moment) (i : Item) → IsTrue (shows c i) → IsHeld v i → sign c v ≡ []
 item-plain c v (item.Literal b) h held = cc
 item-plain c v (item.Number d p) h held = same-plain d c v h held.1
+item-plain c v (item.Signed d p) h held = same-plain d c v h held.1
 item-plain c v (item.Name k) h held = same-plain (name_component k) c v h (name-plain k v)
 item-plain c v item.Abbreviation h held = cc
 item-plain c v item.Fraction h held = same-plain Nanosecond c v h refl
 item-plain c v item.Decimals h held = same-plain Nanosecond c v h refl
 item-plain c v item.OffsetSign h held = same-plain OffsetSign c v h refl
+item-plain c v item.OffsetMinus h held = same-plain OffsetSign c v h refl
 item-plain c v item.TimestampSign h held = same-plain TimestampSign c v h refl
+item-plain c v item.TimestampMinus h held = same-plain TimestampSign c v h refl
 
 pub plain-shown : (c : Component) (v : Moment) (items : List Item) → AreHeld v items → IsTrue (any_shows c items) → sign c v ≡ []
 plain-shown c v [] held h = cc
@@ -54,6 +57,7 @@ IsNarrow c v = (number c v < 10 ^ width c) × (sign c v ≡ [])
 
 item-held : (low high : ℕ) (i : Item) (v : Moment) → ((c : Component) → IsTrue (is_within low high c) → IsNarrow c v) → IsTrue (shows_within low high i) → IsHeld v i
 item-held low high (item.Number c p) v each u = let is = each c u in (fits-width p c (number c v) is.0, is.1)
+item-held low high (item.Signed c p) v each u = let is = each c u in (fits-width p c (number c v) is.0, is.1)
 item-held low high _ v each u = tt
 
 pub all-held : (low high : ℕ) (items : List Item) (v : Moment) → ((c : Component) → IsTrue (is_within low high c) → IsNarrow c v) → IsTrue (show_within low high items) → AreHeld v items
@@ -62,16 +66,22 @@ all-held low high (i ∷ items) v each u =
     let both = both_tests (shows_within low high i) (show_within low high items) u in
     (item-held low high i v each both.0, all-held low high items v each both.1)
 
-time-number : (c : Component) (t : ℕ) → IsTime t → IsTrue (is_within 13 21 c) → IsNarrow c (moment_of_time t)
+time-number : (c : Component) (t : ℕ) → IsTime t → IsTrue (is_within 14 28 c) → IsNarrow c (moment_of_time t)
 time-number Hour t h u = let below = h.below_day in (omega arith, refl)
 time-number Hour12 t h u = (omega arith, refl)
 time-number Minute t h u = (omega arith, refl)
 time-number Second t h u = (omega arith, refl)
 time-number Period t h u = let below = h.below_day in (omega arith, refl)
+time-number Subsecond1 t h u = (omega arith, refl)
+time-number Subsecond2 t h u = (omega arith, refl)
 time-number Millisecond t h u = (omega arith, refl)
+time-number Subsecond4 t h u = (omega arith, refl)
+time-number Subsecond5 t h u = (omega arith, refl)
 time-number Microsecond t h u = (omega arith, refl)
+time-number Subsecond7 t h u = (omega arith, refl)
+time-number Subsecond8 t h u = (omega arith, refl)
 time-number Nanosecond t h u = (omega arith, refl)
 time-number _ t h u = cc
 
 pub time-held : (items : List Item) (t : ℕ) → IsTime t → IsTrue (are_time_items items) → AreHeld (moment_of_time t) items
-time-held items t h u = all-held 13 21 items (moment_of_time t) (λ c w. time-number c t h w) u
+time-held items t h u = all-held 14 28 items (moment_of_time t) (λ c w. time-number c t h w) u

@@ -17,14 +17,14 @@ use Rattle.cal_time.proofs.IsoWeeks.{week_of_thursday, IsYear-iso_year_at}
 use Rattle.cal_time.proofs.Dates.{ordinal-most, stands}
 use Rattle.cal_time.proofs.Weekdays.{weekday_count-ordinal}
 use Rattle.cal_format.specs.declared.item.Component.{Component}
-use Rattle.cal_format.specs.declared.item.Component.TheVariants.{Year, Century, IsoYear, Month, Day, Ordinal, IsoWeek, Weekday, SundayWeek, MondayWeek, Hour, Period, OffsetHour, OffsetSign, Timestamp, TimestampSign}
+use Rattle.cal_format.specs.declared.item.Component.TheVariants.{Year, Century, IsoYear, Month, Day, Ordinal, IsoWeek, Weekday, DaysFromMonday, SundayWeek, MondayWeek, Hour, Period, OffsetHour, OffsetSign, Timestamp, TimestampSign}
 use Rattle.cal_format.specs.declared.item.Item.{Item}
 use Rattle.cal_format.specs.declared.item.Item.TheVariants as item
 use Rattle.cal_format.specs.declared.item.Padding.{Padding}
 use Rattle.cal_format.specs.declared.item.Padding.TheVariants as padding
 use Rattle.cal_format.specs.declared.moment.Moment.{Moment}
 use Rattle.cal_format.specs.Moment.{IsMoment, timestamp_of, number, width}
-use Rattle.cal_format.specs.Text.{sign, padded, item_text, text_in_zone, text_of}
+use Rattle.cal_format.specs.Text.{sign, or_plus, padded, item_text, text_in_zone, text_of}
 use Rattle.cal_format.proofs.Digits.{width-most}
 use Rattle.cal_format.proofs.EnglishNames.{name-short}
 use Rattle.cal_format.proofs.Fractions.{length-fraction}
@@ -66,6 +66,7 @@ number-most Day v h = omega (arith, (day_of_month_at-range v.date).1, days_in_mo
 number-most Ordinal v h = omega (arith, ordinal-most v.date)
 number-most IsoWeek v h = omega (arith, (week-range v.date).1)
 number-most Weekday v h = omega (arith, weekday_at-is v.date)
+number-most DaysFromMonday v h = omega (arith, weekday_at-is v.date)
 number-most SundayWeek v h = omega (arith, count-most 6 v.date (omega arith))
 number-most MondayWeek v h = omega (arith, count-most 0 v.date (omega arith))
 number-most Hour v h = omega (arith, h.time)
@@ -94,18 +95,26 @@ offset-sign-short : (o : ℤ) → length (offset_sign o) ≤ 15
 offset-sign-short (pos n) = lit≤ tt
 offset-sign-short (negsuc n) = lit≤ tt
 
-minus-short : (b : Bool) → length (if b then codes "-" else []) ≤ 15
-minus-short true = lit≤ tt
-minus-short false = lit≤ tt
+sign-or-short : (b : Bool) (other : List ℕ) → length other ≤ 1 → length (if b then codes "-" else other) ≤ 15
+sign-or-short true other few = lit≤ tt
+sign-or-short false other few = omega (arith, few)
+
+plus-short : (bytes : List ℕ) → length bytes ≤ 1 → length (or_plus bytes) ≤ 1
+plus-short [] few = lit≤ tt
+plus-short (b ∷ bytes) few = few
 
 item-short : (a : List ℕ) (i : Item) (v : Moment) → length a ≤ 15 → IsMoment v → length (item_text a v i) ≤ 15
 item-short a (item.Literal b) v short h = lit≤ tt
 item-short a (item.Number c p) v short h =
     omega (arith, length-append (sign c v) (padded p (width c) (number c v)), sign-short c v, padded-short p (width c) (number c v) (width-most c) (number-most c v h))
+item-short a (item.Signed c p) v short h =
+    omega (arith, length-append (or_plus (sign c v)) (padded p (width c) (number c v)), plus-short (sign c v) (sign-short c v), padded-short p (width c) (number c v) (width-most c) (number-most c v h))
 item-short a (item.Name k) v short h = omega (arith, name-short k v)
 item-short a item.Fraction v short h = omega (arith, length-fraction (nanosecond_of v.time))
 item-short a item.Decimals v short h = omega (arith, length-decimals (nanosecond_of v.time))
-item-short a item.TimestampSign v short h = minus-short (int_lt (timestamp_of v) (pos 0))
+item-short a item.OffsetMinus v short h = sign-or-short (int_lt v.offset (pos 0)) [] (lit≤ tt)
+item-short a item.TimestampSign v short h = sign-or-short (int_lt (timestamp_of v) (pos 0)) (codes "+") (lit≤ tt)
+item-short a item.TimestampMinus v short h = sign-or-short (int_lt (timestamp_of v) (pos 0)) [] (lit≤ tt)
 item-short a item.OffsetSign v short h = offset-sign-short v.offset
 item-short a item.Abbreviation v short h = short
 

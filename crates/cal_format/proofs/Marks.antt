@@ -45,9 +45,13 @@ fixed-end : (i : Item) (others : List Item) → IsTrue (is_fixed i) → IsTrue (
 fixed-end (item.Number c padding.None) others h = cc
 fixed-end (item.Number c padding.Zero) others h = refl
 fixed-end (item.Number c padding.Space) others h = refl
+fixed-end (item.Signed c padding.None) others h = cc
+fixed-end (item.Signed c padding.Zero) others h = refl
+fixed-end (item.Signed c padding.Space) others h = refl
 fixed-end (item.Literal b) others h = refl
 fixed-end (item.Name k) others h = refl
 fixed-end item.OffsetSign others h = refl
+fixed-end item.TimestampSign others h = refl
 fixed-end item.Abbreviation others h = refl
 fixed-end _ others h = cc
 
@@ -84,27 +88,30 @@ marked-some c d i m some = or-mark (index d == index c) m ∙ ap (λ o. m || is_
 between : (low high a b c d : ℕ) → ((nat_le low a && nat_le b high) && (nat_le low c && nat_le d high)) ≡ (nat_le low (min a c) && nat_le (max b d) high)
 between low high a b c d = grind (arith, nat_tests)
 
-component-within : (low high : ℕ) (o : Option Component) → low ≤ 27 → lies_within low high o ≡ (nat_le low (low_of o) && nat_le (component_end o) high)
+component-within : (low high : ℕ) (o : Option Component) → low ≤ 34 → lies_within low high o ≡ (nat_le low (low_of o) && nat_le (component_end o) high)
 component-within low high None l = grind (arith, nat_tests)
 component-within low high (Some c) l = grind (arith, nat_tests)
 
-item-within : (low high : ℕ) (i : Item) → low ≤ 27 → high ≤ 27 → shows_within low high i ≡ (nat_le low (low_of (item_component i)) && nat_le (end_of i) high)
+item-within : (low high : ℕ) (i : Item) → low ≤ 34 → high ≤ 34 → shows_within low high i ≡ (nat_le low (low_of (item_component i)) && nat_le (end_of i) high)
 item-within low high item.Abbreviation l h = grind (arith, nat_tests)
 item-within low high (item.Literal b) l h = component-within low high None l
 item-within low high (item.Number c p) l h = component-within low high (Some c) l
+item-within low high (item.Signed c p) l h = component-within low high (Some c) l
 item-within low high (item.Name k) l h = component-within low high (item_component (item.Name k)) l
 item-within low high item.Fraction l h = component-within low high (item_component item.Fraction) l
 item-within low high item.Decimals l h = component-within low high (item_component item.Decimals) l
 item-within low high item.OffsetSign l h = component-within low high (item_component item.OffsetSign) l
+item-within low high item.OffsetMinus l h = component-within low high (item_component item.OffsetMinus) l
 item-within low high item.TimestampSign l h = component-within low high (item_component item.TimestampSign) l
+item-within low high item.TimestampMinus l h = component-within low high (item_component item.TimestampMinus) l
 
-pub all-within : (low high : ℕ) (items : List Item) → low ≤ 27 → high ≤ 27 → show_within low high items ≡ (nat_le low (lowest items) && nat_le (highest items) high)
+pub all-within : (low high : ℕ) (items : List Item) → low ≤ 34 → high ≤ 34 → show_within low high items ≡ (nat_le low (lowest items) && nat_le (highest items) high)
 all-within low high [] l h = grind (arith, nat_tests)
 all-within low high (i ∷ items) l h =
     (λ j. item-within low high i l h j && all-within low high items l h j) ∙ between low high (low_of (item_component i)) (end_of i) (lowest items) (highest items)
 
 -- A byte shows no component.
-lowest-most : (items : List Item) → lowest items ≤ 27
+lowest-most : (items : List Item) → lowest items ≤ 34
 lowest-most [] = omega arith
 lowest-most (i ∷ items) = omega (arith, lowest-most items)
 

@@ -42,7 +42,7 @@ sign-low : (b : Bool) (x : ℕ) → x ≡ (if b then 1 else 0) → x < 10
 sign-low true x e = omega arith
 sign-low false x e = omega arith
 
-offset-number : (c : Component) (o : ℤ) → IsOffset o → IsTrue (is_within 21 25 c) → IsNarrow c (moment_of_offset o)
+offset-number : (c : Component) (o : ℤ) → IsOffset o → IsTrue (is_within 28 32 c) → IsNarrow c (moment_of_offset o)
 offset-number OffsetHour o h u = let most = h.magnitude in (omega arith, refl)
 offset-number OffsetMinute o h u = (omega arith, refl)
 offset-number OffsetSecond o h u = (omega arith, refl)
@@ -50,7 +50,7 @@ offset-number OffsetSign o h u = (sign-low (int_lt o (pos 0)) (number OffsetSign
 offset-number _ o h u = cc
 
 pub offset-held : (items : List Item) (o : ℤ) → IsOffset o → IsTrue (are_offset_items items) → AreHeld (moment_of_offset o) items
-offset-held items o h u = all-held 21 25 items (moment_of_offset o) (λ c w. offset-number c o h w) u
+offset-held items o h u = all-held 28 32 items (moment_of_offset o) (λ c w. offset-number c o h w) u
 
 pub no-offset : (o : ℤ) → IsTrue (unsigned_abs o == 0) → o ≡ pos 0
 no-offset (pos n) h = ap (λ k. pos k) (same_test n 0 h)

@@ -34,11 +34,14 @@ item-field : (i : Item) (n : ℕ) (f : Fields) → IsNumber i n → ((c : Compon
 item-field (item.Literal b) n f fit set = sym fit
 item-field item.Abbreviation n f fit set = sym fit
 item-field (item.Number c p) n f fit set = set c (own-index c)
+item-field (item.Signed c p) n f fit set = set c (own-index c)
 item-field (item.Name k) n f fit set = set (name_component k) (own-index (name_component k))
 item-field item.Fraction n f fit set = set Nanosecond (own-index Nanosecond)
 item-field item.Decimals n f fit set = set Nanosecond (own-index Nanosecond)
 item-field item.OffsetSign n f fit set = set OffsetSign (own-index OffsetSign)
+item-field item.OffsetMinus n f fit set = set OffsetSign (own-index OffsetSign)
 item-field item.TimestampSign n f fit set = set TimestampSign (own-index TimestampSign)
+item-field item.TimestampMinus n f fit set = set TimestampSign (own-index TimestampSign)
 
 chosen : (b : Bool) (x y : ℕ) → IsTrue b → (if b then x else y) ≡ x
 chosen true x y h = refl

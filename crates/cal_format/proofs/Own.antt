@@ -14,14 +14,14 @@ use Rattle.cal_format.specs.declared.item.Item.TheVariants as item
 use Rattle.cal_format.specs.declared.item.Name.{Name}
 use Rattle.cal_format.specs.declared.item.Name.TheVariants as name
 use Rattle.cal_format.specs.declared.item.Component.{Component}
-use Rattle.cal_format.specs.declared.item.Component.TheVariants.{Month, Day, Ordinal, IsoWeek, Weekday, SundayWeek, MondayWeek, Hour, Period, Nanosecond, OffsetHour, OffsetSign, TimestampSign}
+use Rattle.cal_format.specs.declared.item.Component.TheVariants.{Month, Day, Ordinal, IsoWeek, Weekday, DaysFromMonday, SundayWeek, MondayWeek, Hour, Period, Nanosecond, OffsetHour, OffsetSign, TimestampSign}
 use Rattle.cal_format.specs.declared.moment.Moment.{Moment}
 use Rattle.cal_format.specs.Form.{component_number, item_number, numbers_of, numbered_item, numbered_text, IsNameNumber, IsNumber, AreNumbers, HasNumbers}
 use Rattle.cal_format.specs.Moment.{IsMoment, timestamp_of, number, width, most_digits}
 use Rattle.cal_format.specs.Ranges.{minimum, maximum, range_error, either, item_error, first_range_error}
 use Rattle.cal_format.specs.Reading.{index, name_component, item_component, is_component, shows, any_shows}
 use Rattle.cal_format.specs.Scanning.{IsHeld, AreHeld, number_at}
-use Rattle.cal_format.specs.Text.{sign, padded, item_text, text_of}
+use Rattle.cal_format.specs.Text.{sign, or_plus, padded, item_text, text_of}
 use Rattle.cal_format.specs.Values.{Holds, IsMomentOf, number_in, differing, is_empty, contradiction, item_contradiction, first_contradiction}
 use Rattle.cal_format.proofs.Apart.{same_test, index-one}
 use Rattle.cal_format.proofs.Contradictions.{name-same, sign-same}
@@ -41,18 +41,22 @@ name-fits name.ShortMonth v h = let range = month_at-range v.date in (range.0, r
 name-fits name.Weekday v h = let is = weekday_at-is v.date in (omega arith, omega arith)
 name-fits name.ShortWeekday v h = let is = weekday_at-is v.date in (omega arith, omega arith)
 name-fits name.Period v h = let below = h.time.below_day in omega arith
+name-fits name.LowerPeriod v h = let below = h.time.below_day in omega arith
 
-minus-own : (b : Bool) → (if b then codes "-" else []) ≡ (if (if b then 1 else 0) == 1 then codes "-" else [])
-minus-own true = refl
-minus-own false = refl
+sign-own : (b : Bool) (other : List ℕ) → (if b then codes "-" else other) ≡ (if (if b then 1 else 0) == 1 then codes "-" else other)
+sign-own true other = refl
+sign-own false other = refl
 
 item-own : (i : Item) (v : Moment) → IsMoment v → IsHeld v i → IsNumber i (item_number v i) × (item_text [] v i ≡ numbered_item i (item_number v i))
 item-own (item.Literal b) v h held = (refl, refl)
 item-own (item.Number c p) v h held = (held.0, ap (λ l. l ++ padded p (width c) (number c v)) held.1)
+item-own (item.Signed c p) v h held = (held.0, ap (λ l. or_plus l ++ padded p (width c) (number c v)) held.1)
 item-own (item.Name k) v h held = (name-fits k v h, sym (name-same k (number (name_component k) v) v refl))
 item-own item.Fraction v h held = (omega arith, refl)
 item-own item.Decimals v h held = (omega arith, refl)
-item-own item.TimestampSign v h held = (bit-low (int_lt (timestamp_of v) (pos 0)), minus-own (int_lt (timestamp_of v) (pos 0)))
+item-own item.OffsetMinus v h held = (bit-low (int_lt v.offset (pos 0)), sign-own (int_lt v.offset (pos 0)) [])
+item-own item.TimestampSign v h held = (bit-low (int_lt (timestamp_of v) (pos 0)), sign-own (int_lt (timestamp_of v) (pos 0)) (codes "+"))
+item-own item.TimestampMinus v h held = (bit-low (int_lt (timestamp_of v) (pos 0)), sign-own (int_lt (timestamp_of v) (pos 0)) [])
 item-own item.Abbreviation v h held = (refl, refl)
 item-own item.OffsetSign v h held = (bit-low (int_lt v.offset (pos 0)), sym (sign-same v.offset (number OffsetSign v) refl))
 
@@ -94,6 +98,7 @@ number-in Day v h low = (omega (arith, (day_of_month_at-range v.date).0), omega 
 number-in Ordinal v h low = (ordinal-least v.date, ordinal-most v.date)
 number-in IsoWeek v h low = week-range v.date
 number-in Weekday v h low = let is = weekday_at-is v.date in (omega arith, omega arith)
+number-in DaysFromMonday v h low = let is = weekday_at-is v.date in (omega arith, omega arith)
 number-in SundayWeek v h low = (omega arith, count-most 6 v.date (omega arith))
 number-in MondayWeek v h low = (omega arith, count-most 0 v.date (omega arith))
 number-in Hour v h low = let below = h.time.below_day in (omega arith, omega arith)
@@ -108,6 +113,7 @@ no-error least most n e low high = grind (arith, nat_tests)
 
 item-in : (i : Item) (v : Moment) → IsMoment v → IsHeld v i → item_error i (item_number v i) ≡ None
 item-in (item.Number c p) v h held = let is = number-in c v h (fits-most p c (number c v) held.0) in no-error (minimum c) (maximum c) (number c v) (range_error c) is.0 is.1
+item-in (item.Signed c p) v h held = let is = number-in c v h (fits-most p c (number c v) held.0) in no-error (minimum c) (maximum c) (number c v) (range_error c) is.0 is.1
 item-in _ v h held = refl
 
 pub own-range : (items : List Item) (v : Moment) → IsMoment v → AreHeld v items → first_range_error items (numbers_of items v) ≡ None
@@ -125,12 +131,15 @@ agrees c v plain = no-difference c (number c v == number c v) (is_empty (sign c 
 item-agrees : (i : Item) (v : Moment) → IsHeld v i → item_contradiction i (item_number v i) v ≡ None
 item-agrees (item.Literal b) v held = refl
 item-agrees (item.Number c p) v held = agrees c v held.1
+item-agrees (item.Signed c p) v held = agrees c v held.1
 item-agrees (item.Name k) v held = agrees (name_component k) v (name-plain k v)
 item-agrees item.Abbreviation v held = refl
 item-agrees item.Fraction v held = agrees Nanosecond v refl
 item-agrees item.Decimals v held = agrees Nanosecond v refl
 item-agrees item.OffsetSign v held = agrees OffsetSign v refl
+item-agrees item.OffsetMinus v held = agrees OffsetSign v refl
 item-agrees item.TimestampSign v held = agrees TimestampSign v refl
+item-agrees item.TimestampMinus v held = agrees TimestampSign v refl
 
 pub own-contradiction : (items : List Item) (v : Moment) → AreHeld v items → first_contradiction items (numbers_of items v) v ≡ None
 own-contradiction [] v held = refl

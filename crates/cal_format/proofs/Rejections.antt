@@ -60,6 +60,7 @@ named-most name.ShortMonth n h = h.1
 named-most name.Weekday n h = h.1
 named-most name.ShortWeekday n h = h.1
 named-most name.Period n h = omega (arith, h)
+named-most name.LowerPeriod n h = omega (arith, h)
 
 tested : (b : Bool) (e : ComponentRange) → (if b then None else Some e) ≡ None → IsTrue b
 tested true e h = refl
@@ -77,11 +78,16 @@ item-most (item.Literal b) n c fit e h = cc
 item-most (item.Number d p) n c fit e h =
     let both = both_tests (nat_le (minimum d) n) (nat_le n (maximum d)) (tested _ _ e) in
     most-of d c n (leb-true n (maximum d) both.1) h
+item-most (item.Signed d p) n c fit e h =
+    let both = both_tests (nat_le (minimum d) n) (nat_le n (maximum d)) (tested _ _ e) in
+    most-of d c n (leb-true n (maximum d) both.1) h
 item-most (item.Name k) n c fit e h = most-of (name_component k) c n (named-most k n fit) h
 item-most item.Abbreviation n c fit e h = cc
 item-most item.Fraction n c fit e h = most-of Nanosecond c n (omega (arith, fit)) h
 item-most item.Decimals n c fit e h = most-of Nanosecond c n (omega (arith, fit)) h
+item-most item.OffsetMinus n c fit e h = most-of OffsetSign c n (omega (arith, fit)) h
 item-most item.TimestampSign n c fit e h = most-of TimestampSign c n (omega (arith, fit)) h
+item-most item.TimestampMinus n c fit e h = most-of TimestampSign c n (omega (arith, fit)) h
 item-most item.OffsetSign n c fit e h = most-of OffsetSign c n (omega (arith, fit)) h
 
 either-most : (b : Bool) (x y m : ℕ) → (IsTrue b → x ≤ m) → y ≤ m → (if b then x else y) ≤ m

@@ -16,12 +16,13 @@ use Rattle.cal_time.specs.Weekday as weekday
 use Rattle.cal_time.specs.Weekday.{weekday_of_index}
 use Rattle.cal_format.specs.declared.item.Item.{Item}
 use Rattle.cal_format.specs.declared.item.Item.TheVariants as item
+use Rattle.cal_format.specs.declared.item.Component.{Component}
 use Rattle.cal_format.specs.declared.item.Name.{Name}
 use Rattle.cal_format.specs.declared.item.Name.TheVariants as name
 use Rattle.cal_format.specs.declared.item.Padding.{Padding}
 use Rattle.cal_format.specs.declared.item.Padding.TheVariants as padding
 use Rattle.cal_format.specs.Form.{AfterSpaces, Decimal, Padded, Decimals, MonthName, WeekdayName, PeriodName, NameShape, ItemShape, shape_of, numbered_name, numbered_item, numbered_text, IsNumber, AreNumbers, HasNumbers}
-use Rattle.cal_format.specs.Moment.{width, most_digits}
+use Rattle.cal_format.specs.Moment.{width, most_digits, width_of}
 use Rattle.cal_format.specs.Names.{short_month, short_weekday}
 use Rattle.cal_format.specs.Reading.{ends_before, are_apart}
 use Rattle.cal_format.specs.Text.{padded, fraction_text}
@@ -173,10 +174,15 @@ unfolding unmatched_bytes WeekdayName
 short_weekday-each Monday f rest = refl
 short_weekday-each _ f rest = refl
 
-period-each : (b : Bool) (f : Shape) (rest : List ℕ) → unmatched_bytes (PeriodName f) ((if b then codes "AM" else codes "PM") ++ rest) ≡ unmatched_bytes f rest
+period-each : (b : Bool) (f : Shape) (rest : List ℕ) → unmatched_bytes (PeriodName true f) ((if b then codes "AM" else codes "PM") ++ rest) ≡ unmatched_bytes f rest
 unfolding unmatched_bytes PeriodName
 period-each true f rest = refl
 period-each false f rest = refl
+
+lower_period-each : (b : Bool) (f : Shape) (rest : List ℕ) → unmatched_bytes (PeriodName false f) ((if b then codes "am" else codes "pm") ++ rest) ≡ unmatched_bytes f rest
+unfolding unmatched_bytes PeriodName
+lower_period-each true f rest = refl
+lower_period-each false f rest = refl
 
 sign-each : (b : Bool) (f : Shape) (rest : List ℕ) → unmatched_bytes (Sign f) ((if b then codes "-" else codes "+") ++ rest) ≡ unmatched_bytes f rest
 unfolding unmatched_bytes
@@ -194,19 +200,30 @@ name-each name.ShortMonth n f rest = short_month-each (month_of_index (n - 1)) f
 name-each name.Weekday n f rest = weekday-each (weekday_of_index (n - 1)) f rest
 name-each name.ShortWeekday n f rest = short_weekday-each (weekday_of_index (n - 1)) f rest
 name-each name.Period n f rest = period-each (n == 0) f rest
+name-each name.LowerPeriod n f rest = lower_period-each (n == 0) f rest
 
 -- ---- items
+number-each : (c : Component) (p : Padding) (n : ℕ) (f : Shape) (rest : List ℕ) → n < 10 ^ width_of p c → IsEnded (item.Number c p) rest → unmatched_bytes (Padded p (width_of p c) f) (padded p (width c) n ++ rest) ≡ unmatched_bytes f rest
+number-each c padding.Zero n f rest h ended = padded-each padding.Zero (width c) n f rest (width-some c) h (omega (arith, h, small-width c)) (λ e. cc)
+number-each c padding.Space n f rest h ended = padded-each padding.Space (width c) n f rest (width-some c) h (omega (arith, h, small-width c)) (λ e. cc)
+number-each c padding.None n f rest h ended = padded-each padding.None (most_digits c) n f rest (digits-some c) h (omega (arith, h, small-digits c)) (λ e. ended)
+
+signed-ended : (c : Component) (p : Padding) (rest : List ℕ) → IsEnded (item.Signed c p) rest → IsEnded (item.Number c p) rest
+signed-ended c padding.None rest ended = ended
+signed-ended c _ rest ended = tt
+
 pub item-each : (i : Item) (n : ℕ) (f : Shape) (rest : List ℕ) → IsNumber i n → IsEnded i rest → unmatched_bytes (ItemShape i f) (numbered_item i n ++ rest) ≡ unmatched_bytes f rest
 item-each (item.Literal b) n f rest h ended = unmatched_bytes-in b 0 f b rest (omega arith, omega arith)
-item-each (item.Number c padding.Zero) n f rest h ended = padded-each padding.Zero (width c) n f rest (width-some c) h (omega (arith, h, small-width c)) (λ e. cc)
-item-each (item.Number c padding.Space) n f rest h ended = padded-each padding.Space (width c) n f rest (width-some c) h (omega (arith, h, small-width c)) (λ e. cc)
-item-each (item.Number c padding.None) n f rest h ended = padded-each padding.None (most_digits c) n f rest (digits-some c) h (omega (arith, h, small-digits c)) (λ e. ended)
+item-each (item.Number c p) n f rest h ended = number-each c p n f rest h ended
+item-each (item.Signed c p) n f rest h ended = unmatched_bytes-in 43 0 (Padded p (width_of p c) f) 43 (padded p (width c) n ++ rest) (omega arith, omega arith) ∙ number-each c p n f rest h (signed-ended c p rest ended)
 item-each (item.Name k) n f rest h ended = name-each k n f rest
 item-each item.Fraction n f rest h ended = fraction-each n f rest h ended.0 ended.1
 item-each item.Decimals n f rest h ended = some_decimals-each n f rest h ended
 item-each item.Abbreviation n f rest h ended = refl
 item-each item.OffsetSign n f rest h ended = sign-each (n == 1) f rest
-item-each item.TimestampSign n f rest h ended = minus-each (n == 1) f rest ended
+item-each item.OffsetMinus n f rest h ended = minus-each (n == 1) f rest ended
+item-each item.TimestampSign n f rest h ended = sign-each (n == 1) f rest
+item-each item.TimestampMinus n f rest h ended = minus-each (n == 1) f rest ended
 
 items-each : (items : List Item) (numbers : List ℕ) → AreNumbers items numbers → IsTrue (are_apart items) → unmatched_bytes (shape_of items) (numbered_text items numbers) ≡ 0
 items-each [] numbers fit apart = unmatched_bytes-done

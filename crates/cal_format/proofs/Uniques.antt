@@ -109,6 +109,7 @@ name-number name.ShortMonth n m h k e = month-of short_month n m short_month-by 
 name-number name.Weekday n m h k e = weekday-of weekday.name n m weekday-by h k e
 name-number name.ShortWeekday n m h k e = weekday-of short_weekday n m short_weekday-by h k e
 name-number name.Period n m h k e = one-of-two (numbered_name name.Period) n m h k (omega arith) e
+name-number name.LowerPeriod n m h k e = one-of-two (numbered_name name.LowerPeriod) n m h k (omega arith) e
 
 value-item : (c : Component) (p : Padding) (n : ℕ) → n < 10 ^ width_of p c → fold step 0 (padded p (width c) n) ≡ n
 value-item c p n h = value-padded p (width c) n (omega (arith, fits-most p c n h, small-digits c))
@@ -122,11 +123,14 @@ fraction-value n low = elim (cases_lt 0 n) as (λ _. fraction_number (drop 1 (fr
 item-number : (i : Item) (n m : ℕ) → IsNumber i n → IsNumber i m → numbered_item i n ≡ numbered_item i m → n ≡ m
 item-number (item.Literal b) n m h k e = h ∙ sym k
 item-number (item.Number c p) n m h k e = sym (value-item c p n h) ∙ ap (fold step 0) e ∙ value-item c p m k
+item-number (item.Signed c p) n m h k e = sym (value-item c p n h) ∙ ap (λ l. fold step 0 (drop 1 l)) e ∙ value-item c p m k
 item-number (item.Name t) n m h k e = name-number t n m h k e
 item-number item.Fraction n m h k e = sym (fraction-value n h) ∙ ap (λ l. fraction_number (drop 1 l)) e ∙ fraction-value m k
 item-number item.Decimals n m h k e = sym (value-some n h) ∙ ap fraction_number e ∙ value-some m k
 item-number item.OffsetSign n m h k e = one-of-two (numbered_item item.OffsetSign) n m h k (omega arith) e
+item-number item.OffsetMinus n m h k e = one-of-two (numbered_item item.OffsetMinus) n m h k (omega arith) e
 item-number item.TimestampSign n m h k e = one-of-two (numbered_item item.TimestampSign) n m h k (omega arith) e
+item-number item.TimestampMinus n m h k e = one-of-two (numbered_item item.TimestampMinus) n m h k (omega arith) e
 item-number item.Abbreviation n m h k e = h ∙ sym k
 
 items-one : (items : List Item) (ns ms : List ℕ) → IsTrue (are_apart items) → AreNumbers items ns → AreNumbers items ms → numbered_text items ns ≡ numbered_text items ms → ns ≡ ms

@@ -2,7 +2,7 @@
 -- which white space separates.
 use Rattle.std.specs.Prelude.{ℕ, zero, suc, ◌+◌, ◌==◌, ◌&&◌, ◌||◌, Bool, List, [], ◌∷◌, length, drop, get_or, if◌then◌else◌}
 use Rattle.cal_format.specs.declared.item.Item.TheVariants as item
-use Rattle.cal_format.specs.Components.{Row, components}
+use Rattle.cal_format.specs.Components.{Row, years, date_components, time_components}
 use Rattle.cal_format.specs.Directive.{Front, front_with, begins_with}
 
 -- ASCII white space.
@@ -50,7 +50,20 @@ unfoldable pub component_front : List Row → List ℕ → Front
 component_front [] text = front_with [] 1
 component_front (row ∷ rows) text = (let n = component_length row.0 row.1 text in if n == 0 then component_front rows text else front_with row.2 (n + 1))
 
+-- The first of two fronts that has items, or the second one.
+abbrev pub front_or : Front → Front → Front
+front_or first second = record {
+  items = if length first.items == 0 then second.items else first.items;
+  used = if length first.items == 0 then second.used else first.used;
+}
+
+abbrev pub other_component_front : List ℕ → Front
+other_component_front text = front_or (component_front date_components text) (component_front time_components text)
+
+abbrev pub any_component_front : List ℕ → Front
+any_component_front text = front_or (component_front years text) (other_component_front text)
+
 -- The items of a text after an opening bracket: another opening bracket, which is a literal, or a
 -- component.
 abbrev pub description_front : List ℕ → Front
-description_front text = if get_or text 0 0 == 91 then front_with (item.Literal 91 ∷ []) 2 else component_front components text
+description_front text = if get_or text 0 0 == 91 then front_with (item.Literal 91 ∷ []) 2 else any_component_front text

@@ -111,7 +111,7 @@ directives =
     (codes "z", offset) ∷
     (codes ":z", offset_with_colon) ∷
     (codes "::z", offset_with_seconds) ∷
-    (codes "s", item.TimestampSign ∷ bare Timestamp ∷ []) ∷
+    (codes "s", item.TimestampMinus ∷ bare Timestamp ∷ []) ∷
     (codes "Z", item.Abbreviation ∷ []) ∷
     (codes "n", byte 10 ∷ []) ∷
     (codes "t", byte 9 ∷ []) ∷

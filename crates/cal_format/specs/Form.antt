@@ -86,9 +86,10 @@ WeekdayName long f =
     (Branch 70 0 (Letters (codes "ri") (codes "day") long f)
     (Byte 83 (Branch 97 0 (Letters (codes "t") (codes "urday") long f) (Letters (codes "un") (codes "day") long f))))))
 
--- AM or PM.
-unfoldable pub PeriodName : Shape → Shape
-PeriodName f = Branch 65 0 (Byte 77 f) (Byte 80 (Byte 77 f))
+-- AM or PM, in upper or lower case.
+unfoldable pub PeriodName : Bool → Shape → Shape
+PeriodName true f = Branch 65 0 (Byte 77 f) (Byte 80 (Byte 77 f))
+PeriodName false f = Branch 97 0 (Byte 109 f) (Byte 112 (Byte 109 f))
 
 -- A name of this kind.
 abbrev pub NameShape : Name → Shape → Shape
@@ -96,18 +97,22 @@ NameShape name.Month f = MonthName true f
 NameShape name.ShortMonth f = MonthName false f
 NameShape name.Weekday f = WeekdayName true f
 NameShape name.ShortWeekday f = WeekdayName false f
-NameShape name.Period f = PeriodName f
+NameShape name.Period f = PeriodName true f
+NameShape name.LowerPeriod f = PeriodName false f
 
 -- ---- items
 -- The bytes that an item can print.
 abbrev pub ItemShape : Item → Shape → Shape
 ItemShape (item.Literal b) f = Byte b f
 ItemShape (item.Number c p) f = Padded p (width_of p c) f
+ItemShape (item.Signed c p) f = Byte 43 (Padded p (width_of p c) f)
 ItemShape (item.Name k) f = NameShape k f
 ItemShape item.Fraction f = Branch 46 0 (Decimals false 8 f) f
 ItemShape item.Decimals f = ByteRange 48 9 (Decimals true 7 f)
 ItemShape item.OffsetSign f = Sign f
-ItemShape item.TimestampSign f = Branch 45 0 f f
+ItemShape item.OffsetMinus f = Branch 45 0 f f
+ItemShape item.TimestampSign f = Sign f
+ItemShape item.TimestampMinus f = Branch 45 0 f f
 ItemShape item.Abbreviation f = f
 
 -- The shape of the items, one after the other. A text has the form of the items if it has this
@@ -127,25 +132,30 @@ month_text long n = if long then month.name (month_of_index (n - 1)) else short_
 abbrev pub weekday_text : Bool → ℕ → List ℕ
 weekday_text long n = if long then weekday.name (weekday_of_index (n - 1)) else short_weekday (weekday_of_index (n - 1))
 
-abbrev pub period_text : ℕ → List ℕ
-period_text n = if n == 0 then codes "AM" else codes "PM"
+abbrev pub period_text : Bool → ℕ → List ℕ
+period_text true n = if n == 0 then codes "AM" else codes "PM"
+period_text false n = if n == 0 then codes "am" else codes "pm"
 
 abbrev pub numbered_name : Name → ℕ → List ℕ
 numbered_name name.Month n = month_text true n
 numbered_name name.ShortMonth n = month_text false n
 numbered_name name.Weekday n = weekday_text true n
 numbered_name name.ShortWeekday n = weekday_text false n
-numbered_name name.Period n = period_text n
+numbered_name name.Period n = period_text true n
+numbered_name name.LowerPeriod n = period_text false n
 
 -- The text of an item with the number n.
 abbrev pub numbered_item : Item → ℕ → List ℕ
 numbered_item (item.Literal b) n = b ∷ []
 numbered_item (item.Number c p) n = padded p (width c) n
+numbered_item (item.Signed c p) n = 43 ∷ padded p (width c) n
 numbered_item (item.Name k) n = numbered_name k n
 numbered_item item.Fraction n = fraction_text n
 numbered_item item.Decimals n = decimals n
 numbered_item item.OffsetSign n = if n == 1 then codes "-" else codes "+"
-numbered_item item.TimestampSign n = if n == 1 then codes "-" else []
+numbered_item item.OffsetMinus n = if n == 1 then codes "-" else []
+numbered_item item.TimestampSign n = if n == 1 then codes "-" else codes "+"
+numbered_item item.TimestampMinus n = if n == 1 then codes "-" else []
 numbered_item item.Abbreviation n = []
 
 -- The text of items with these numbers, one for each item.
@@ -161,17 +171,21 @@ IsNameNumber name.ShortMonth n = (1 ≤ n) × (n ≤ 12)
 IsNameNumber name.Weekday n = (1 ≤ n) × (n ≤ 7)
 IsNameNumber name.ShortWeekday n = (1 ≤ n) × (n ≤ 7)
 IsNameNumber name.Period n = n < 2
+IsNameNumber name.LowerPeriod n = n < 2
 
 -- A number that an item can have: of at most its digits, of a name, 0 or 1 for a sign, or 0 for an
 -- item that shows no component. In a list, each item has one number.
 abbrev pub IsNumber : Item → ℕ → Type 0
 IsNumber (item.Literal b) n = n ≡ 0
 IsNumber (item.Number c p) n = n < 10 ^ width_of p c
+IsNumber (item.Signed c p) n = n < 10 ^ width_of p c
 IsNumber (item.Name k) n = IsNameNumber k n
 IsNumber item.Fraction n = n < 1_000_000_000
 IsNumber item.Decimals n = n < 1_000_000_000
 IsNumber item.OffsetSign n = n < 2
+IsNumber item.OffsetMinus n = n < 2
 IsNumber item.TimestampSign n = n < 2
+IsNumber item.TimestampMinus n = n < 2
 IsNumber item.Abbreviation n = n ≡ 0
 
 abbrev pub AreNumbers : List Item → List ℕ → Type 0

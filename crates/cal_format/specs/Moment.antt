@@ -10,7 +10,7 @@ use Rattle.cal_time.specs.UtcOffset.{IsOffset}
 use Rattle.cal_datetime.specs.DateTime.{date_at, time_at}
 use Rattle.cal_datetime.specs.OffsetDateTime.{LocalAndOffset, epoch_day}
 use Rattle.cal_format.specs.declared.item.Component.{Component}
-use Rattle.cal_format.specs.declared.item.Component.TheVariants.{Year, Century, YearOfCentury, IsoYear, Month, Day, Ordinal, IsoWeek, Weekday, DaysFromSunday, SundayWeekday, SundayWeek, MondayWeek, Hour, Hour12, Minute, Second, Period, Millisecond, Microsecond, Nanosecond, OffsetHour, OffsetMinute, OffsetSecond, OffsetSign, Timestamp, TimestampSign}
+use Rattle.cal_format.specs.declared.item.Component.TheVariants.{Year, Century, YearOfCentury, IsoYear, Month, Day, Ordinal, IsoWeek, Weekday, DaysFromMonday, DaysFromSunday, SundayWeekday, SundayWeek, MondayWeek, Hour, Hour12, Minute, Second, Period, Subsecond1, Subsecond2, Millisecond, Subsecond4, Subsecond5, Microsecond, Subsecond7, Subsecond8, Nanosecond, OffsetHour, OffsetMinute, OffsetSecond, OffsetSign, Timestamp, TimestampSign}
 use Rattle.cal_format.specs.declared.item.Padding.{Padding}
 use Rattle.cal_format.specs.declared.item.Padding.TheVariants as padding
 use Rattle.cal_format.specs.declared.moment.Moment.{Moment}
@@ -54,6 +54,7 @@ number Day v = day_of_month_at v.date
 number Ordinal v = ordinal_at v.date
 number IsoWeek v = iso_week_at v.date
 number Weekday v = weekday_at v.date + 1
+number DaysFromMonday v = weekday_at v.date
 number DaysFromSunday v = (weekday_at v.date + 1) % 7
 number SundayWeekday v = (weekday_at v.date + 1) % 7 + 1
 number SundayWeek v = weekday_count 6 v.date
@@ -63,8 +64,14 @@ number Hour12 v = (hour_of v.time + 11) % 12 + 1
 number Minute v = minute_of v.time
 number Second v = second_of v.time
 number Period v = hour_of v.time / 12
+number Subsecond1 v = nanosecond_of v.time / 100_000_000
+number Subsecond2 v = nanosecond_of v.time / 10_000_000
 number Millisecond v = nanosecond_of v.time / 1_000_000
+number Subsecond4 v = nanosecond_of v.time / 100_000
+number Subsecond5 v = nanosecond_of v.time / 10_000
 number Microsecond v = nanosecond_of v.time / 1_000
+number Subsecond7 v = nanosecond_of v.time / 100
+number Subsecond8 v = nanosecond_of v.time / 10
 number Nanosecond v = nanosecond_of v.time
 number OffsetHour v = unsigned_abs v.offset / 3_600
 number OffsetMinute v = unsigned_abs v.offset / 60 % 60
@@ -93,6 +100,7 @@ facts_of Day = facts 2 1 31 error.Day
 facts_of Ordinal = facts 3 1 366 error.Ordinal
 facts_of IsoWeek = facts 2 1 53 error.Week
 facts_of Weekday = facts 1 1 7 error.Weekday
+facts_of DaysFromMonday = facts 1 0 6 error.Weekday
 facts_of DaysFromSunday = facts 1 0 6 error.Weekday
 facts_of SundayWeekday = facts 1 1 7 error.Weekday
 facts_of SundayWeek = facts 2 0 53 error.Week
@@ -102,8 +110,14 @@ facts_of Hour12 = facts 2 1 12 error.Hour
 facts_of Minute = facts 2 0 59 error.Minute
 facts_of Second = facts 2 0 59 error.Second
 facts_of Period = facts 1 0 1 error.Hour
+facts_of Subsecond1 = facts 1 0 9 error.Nanosecond
+facts_of Subsecond2 = facts 2 0 99 error.Nanosecond
 facts_of Millisecond = facts 3 0 999 error.Millisecond
+facts_of Subsecond4 = facts 4 0 9_999 error.Nanosecond
+facts_of Subsecond5 = facts 5 0 99_999 error.Nanosecond
 facts_of Microsecond = facts 6 0 999_999 error.Microsecond
+facts_of Subsecond7 = facts 7 0 9_999_999 error.Nanosecond
+facts_of Subsecond8 = facts 8 0 99_999_999 error.Nanosecond
 facts_of Nanosecond = facts 9 0 999_999_999 error.Nanosecond
 facts_of OffsetHour = facts 2 0 25 error.OffsetHour
 facts_of OffsetMinute = facts 2 0 59 error.OffsetMinute

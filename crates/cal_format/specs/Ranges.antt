@@ -38,6 +38,7 @@ either None other = other
 -- The error of the first number out of range. Names, fractions and signs are in range.
 abbrev pub item_error : Item → ℕ → Option ComponentRange
 item_error (item.Number c p) n = if nat_le (minimum c) n && nat_le n (maximum c) then None else Some (range_error c)
+item_error (item.Signed c p) n = if nat_le (minimum c) n && nat_le n (maximum c) then None else Some (range_error c)
 item_error _ n = None
 
 abbrev pub first_range_error : List Item → List ℕ → Option ComponentRange

@@ -75,6 +75,7 @@ signed_seconds s m = if s == 1 then neg_ℤ (pos m) else pos m
 -- An item holds a moment if its number has at most the digits of the item, and no sign.
 abbrev pub IsHeld : Moment → Item → Type 0
 IsHeld v (item.Number c p) = (number c v < 10 ^ width_of p c) × (sign c v ≡ [])
+IsHeld v (item.Signed c p) = (number c v < 10 ^ width_of p c) × (sign c v ≡ [])
 IsHeld v _ = Unit {0}
 
 abbrev pub AreHeld : Moment → List Item → Type 0

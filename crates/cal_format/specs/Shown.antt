@@ -8,10 +8,10 @@ use Rattle.cal_format.specs.declared.item.Padding.TheVariants as padding
 use Rattle.cal_format.specs.declared.shown.Shown.{Shown}
 use Rattle.cal_format.specs.Reading.{index, item_component, any_shows, mark_of}
 
--- The index of an item's component, or 27, and the index after it, or 0. No range has an
+-- The index of an item's component, or 34, and the index after it, or 0. No range has an
 -- abbreviation, whose index is past all others.
 abbrev pub low_of : Option Component → ℕ
-low_of None = 27
+low_of None = 34
 low_of (Some c) = index c
 
 abbrev pub component_end : Option Component → ℕ
@@ -19,12 +19,12 @@ component_end None = 0
 component_end (Some c) = index c + 1
 
 abbrev pub end_of : Item → ℕ
-end_of item.Abbreviation = 28
+end_of item.Abbreviation = 35
 end_of i = component_end (item_component i)
 
 -- The minimum index of the items, and the end of the range of their indices.
 abbrev pub lowest : List Item → ℕ
-lowest [] = 27
+lowest [] = 34
 lowest (i ∷ items) = min (low_of (item_component i)) (lowest items)
 
 abbrev pub highest : List Item → ℕ
@@ -32,12 +32,14 @@ highest [] = 0
 highest (i ∷ items) = max (end_of i) (highest items)
 
 -- An item ends before any item that follows it, and so does each item. The width of a number
--- without padding varies, as do the widths of a fraction and of the sign of a Unix time.
+-- without padding varies, as do the widths of a fraction and of a minus sign that may be missing.
 abbrev pub is_fixed : Item → Bool
 is_fixed (item.Number c padding.None) = false
+is_fixed (item.Signed c padding.None) = false
 is_fixed item.Fraction = false
 is_fixed item.Decimals = false
-is_fixed item.TimestampSign = false
+is_fixed item.OffsetMinus = false
+is_fixed item.TimestampMinus = false
 is_fixed _ = true
 
 abbrev pub are_fixed : List Item → Bool

@@ -24,6 +24,11 @@ sign Century v = sign_text (year_at v.date)
 sign IsoYear v = sign_text (iso_year_at v.date)
 sign _ v = []
 
+-- A sign, or a plus sign if there is none.
+abbrev pub or_plus : List ℕ → List ℕ
+or_plus [] = codes "+"
+or_plus (b ∷ bytes) = b ∷ bytes
+
 -- A number with fewer digits than its width has zeros before it, or spaces, or nothing.
 abbrev pub padded : Padding → ℕ → ℕ → List ℕ
 padded padding.Zero w n = digits_at_least w n
@@ -39,11 +44,14 @@ fraction_text n = if n == 0 then [] else 46 ∷ decimals n
 abbrev pub item_text : List ℕ → Moment → Item → List ℕ
 item_text a v (item.Literal b) = b ∷ []
 item_text a v (item.Number c p) = sign c v ++ padded p (width c) (number c v)
+item_text a v (item.Signed c p) = or_plus (sign c v) ++ padded p (width c) (number c v)
 item_text a v (item.Name k) = name_text k v
 item_text a v item.Fraction = fraction_text (nanosecond_of v.time)
 item_text a v item.Decimals = decimals (nanosecond_of v.time)
 item_text a v item.OffsetSign = offset.sign v.offset
-item_text a v item.TimestampSign = if int_lt (timestamp_of v) (pos 0) then codes "-" else []
+item_text a v item.OffsetMinus = if int_lt v.offset (pos 0) then codes "-" else []
+item_text a v item.TimestampSign = if int_lt (timestamp_of v) (pos 0) then codes "-" else codes "+"
+item_text a v item.TimestampMinus = if int_lt (timestamp_of v) (pos 0) then codes "-" else []
 item_text a v item.Abbreviation = a
 
 -- Items print one after the other, with this abbreviation or without one.

@@ -9,11 +9,11 @@ use Rattle.cal_time.specs.IsoWeekDate.{HasIsoWeekDate}
 use Rattle.cal_time.specs.Time.{nanosecond_of, time_of}
 use Rattle.cal_format.specs.declared.item.Item.{Item}
 use Rattle.cal_format.specs.declared.item.Component.{Component}
-use Rattle.cal_format.specs.declared.item.Component.TheVariants.{Year, Century, YearOfCentury, IsoYear, Month, Day, Ordinal, IsoWeek, Weekday, DaysFromSunday, SundayWeekday, Hour, Hour12, Minute, Second, Period, Millisecond, Microsecond, Nanosecond, OffsetHour, OffsetMinute, OffsetSecond, OffsetSign, Timestamp, TimestampSign}
+use Rattle.cal_format.specs.declared.item.Component.TheVariants.{Year, Century, YearOfCentury, IsoYear, Month, Day, Ordinal, IsoWeek, Weekday, DaysFromMonday, DaysFromSunday, SundayWeekday, Hour, Hour12, Minute, Second, Period, OffsetHour, OffsetMinute, OffsetSecond, OffsetSign, Timestamp, TimestampSign}
 use Rattle.cal_format.specs.declared.moment.Moment.{Moment}
 use Rattle.cal_format.specs.Moment.{IsMoment, timestamp_of, number}
 use Rattle.cal_format.specs.Ranges.{named, either}
-use Rattle.cal_format.specs.Reading.{shows, any_shows, item_component, shows_calendar_date, shows_ordinal_date, shows_iso_week_date, shows_date, shows_time, shows_offset, shows_timestamp, holds_time, holds_offset}
+use Rattle.cal_format.specs.Reading.{shows, any_shows, item_component, shows_calendar_date, shows_ordinal_date, shows_iso_week_date, shows_date, shows_time, shows_offset, shows_timestamp, holds_time, holds_offset, subseconds, unit_of}
 use Rattle.cal_format.specs.Scanning.{AreHeld, signed_seconds}
 use Rattle.cal_format.specs.Text.{sign, text_of}
 
@@ -32,17 +32,19 @@ abbrev pub weekday_in : List Item → (Component → ℕ) → ℕ
 weekday_in items at =
     if any_shows Weekday items then (at Weekday + 6) % 7
     else (if any_shows DaysFromSunday items then (at DaysFromSunday + 6) % 7
-    else (at SundayWeekday + 5) % 7)
+    else (if any_shows SundayWeekday items then (at SundayWeekday + 5) % 7
+    else at DaysFromMonday))
 
 abbrev pub hour_in : List Item → (Component → ℕ) → ℕ
 hour_in items at = if any_shows Hour items then at Hour else at Hour12 % 12 + at Period * 12
 
+-- The nanoseconds of the first of these parts of a second that is shown.
+abbrev pub nanoseconds_of : List Component → List Item → (Component → ℕ) → ℕ
+nanoseconds_of [] items at = 0
+nanoseconds_of (c ∷ components) items at = if any_shows c items then at c * unit_of c else nanoseconds_of components items at
+
 abbrev pub nanosecond_in : List Item → (Component → ℕ) → ℕ
-nanosecond_in items at =
-    if any_shows Nanosecond items then at Nanosecond
-    else (if any_shows Microsecond items then at Microsecond * 1_000
-    else (if any_shows Millisecond items then at Millisecond * 1_000_000
-    else 0))
+nanosecond_in items at = nanoseconds_of subseconds items at
 
 abbrev pub time_in : List Item → (Component → ℕ) → ℕ
 time_in items at = time_of (hour_in items at) (at Minute) (at Second) (nanosecond_in items at)

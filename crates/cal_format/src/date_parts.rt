@@ -83,8 +83,11 @@ fn weekday_of(items: &Format, fields: &Fields) -> u8
         let number = fields.get(Component::DaysFromSunday);
         return ((number % 7 + 6) % 7) as u8;
     }
-    let number = fields.get(Component::SundayWeekday);
-    ((number % 8 + 5) % 7) as u8
+    if any_shows(items, Component::SundayWeekday) {
+        let number = fields.get(Component::SundayWeekday);
+        return ((number % 8 + 5) % 7) as u8;
+    }
+    (fields.get(Component::DaysFromMonday) % 7) as u8
 }
 
 /// Returns the date of a year, a month and a day.

@@ -1,6 +1,6 @@
 //! The values that a format determines.
 ghost use Rattle.std.specs.Prelude.{◌≡◌};
-ghost use Rattle.cal_format.specs.Reading.{any_shows, is_apart, begins_apart, begins_past_point, begins_with_decimal, ends_before, are_apart, shows_year, shows_calendar_date, shows_ordinal_date, shows_iso_week_date, shows_date, shows_time, shows_offset, shows_timestamp, shows_moment};
+ghost use Rattle.cal_format.specs.Reading.{any_shows, is_apart, begins_apart, begins_past_point, begins_with_number, ends_before, are_apart, shows_year, shows_calendar_date, shows_ordinal_date, shows_iso_week_date, shows_date, shows_subsecond, shows_time, shows_offset, shows_timestamp, shows_moment};
 
 use crate::format::Format;
 use crate::item::{Component, Item, Padding};
@@ -29,9 +29,10 @@ impl Item {
         ensures { result ≡ ends_before self others.now }
     {
         match self {
-            Item::Number(_, Padding::None) | Item::Decimals => begins_apart(others),
+            Item::Number(_, Padding::None) | Item::Signed(_, Padding::None) | Item::Decimals =>
+                begins_apart(others),
             Item::Fraction => begins_apart(others) && begins_past_point(others),
-            Item::TimestampSign => begins_with_decimal(others),
+            Item::OffsetMinus | Item::TimestampMinus => begins_with_number(others),
             _ => true,
         }
     }
@@ -42,7 +43,8 @@ impl Item {
     {
         match self {
             Item::Literal(byte) => byte < 48 || byte > 57,
-            Item::Name(_) | Item::OffsetSign => true,
+            Item::Name(_) | Item::Signed(_, _) => true,
+            Item::OffsetSign | Item::TimestampSign => true,
             _ => false,
         }
     }
@@ -66,11 +68,11 @@ fn begins_past_point(items: &[Item]) -> bool
     !matches!(items, [Item::Literal(b'.') | Item::Fraction, ..])
 }
 
-/// Returns `true` if these items begin with a number without padding.
-fn begins_with_decimal(items: &[Item]) -> bool
-    ensures { result ≡ begins_with_decimal items.now }
+/// Returns `true` if these items begin with a number.
+fn begins_with_number(items: &[Item]) -> bool
+    ensures { result ≡ begins_with_number items.now }
 {
-    matches!(items, [Item::Number(_, Padding::None), ..])
+    matches!(items, [Item::Number(_, _), ..])
 }
 
 /// Returns `true` if the items determine a year.
@@ -98,7 +100,8 @@ fn shows_iso_week_date(items: &Format) -> bool
 {
     let weekday = any_shows(items, Component::Weekday)
         || any_shows(items, Component::DaysFromSunday)
-        || any_shows(items, Component::SundayWeekday);
+        || any_shows(items, Component::SundayWeekday)
+        || any_shows(items, Component::DaysFromMonday);
     any_shows(items, Component::IsoYear) && any_shows(items, Component::IsoWeek) && weekday
 }
 
@@ -109,6 +112,21 @@ pub(crate) fn shows_date(items: &Format) -> bool
     shows_calendar_date(items) || shows_ordinal_date(items) || shows_iso_week_date(items)
 }
 
+/// Returns `true` if the items show a part of a second.
+fn shows_subsecond(items: &Format) -> bool
+    ensures { result ≡ shows_subsecond items.now }
+{
+    any_shows(items, Component::Nanosecond)
+        || any_shows(items, Component::Subsecond8)
+        || any_shows(items, Component::Subsecond7)
+        || any_shows(items, Component::Microsecond)
+        || any_shows(items, Component::Subsecond5)
+        || any_shows(items, Component::Subsecond4)
+        || any_shows(items, Component::Millisecond)
+        || any_shows(items, Component::Subsecond2)
+        || any_shows(items, Component::Subsecond1)
+}
+
 /// Returns `true` if the items determine a time of day by its coarsest parts.
 pub(crate) fn shows_time(items: &Format) -> bool
     ensures { result ≡ shows_time items.now }
@@ -117,9 +135,7 @@ pub(crate) fn shows_time(items: &Format) -> bool
         || (any_shows(items, Component::Hour12) && any_shows(items, Component::Period));
     let minute = any_shows(items, Component::Minute);
     let second = any_shows(items, Component::Second);
-    let subsecond = any_shows(items, Component::Nanosecond)
-        || any_shows(items, Component::Microsecond)
-        || any_shows(items, Component::Millisecond);
+    let subsecond = shows_subsecond(items);
     hour && (minute || !second) && (second || !subsecond)
 }
 

@@ -7,7 +7,9 @@ use crate::item::Component::{
     MondayWeek, Month, Nanosecond, OffsetHour, OffsetMinute, OffsetSecond, Ordinal, Second,
     SundayWeek, Timestamp, Weekday, Year, YearOfCentury,
 };
-use crate::item::Item::{self, Abbreviation, Fraction, Literal, Number, OffsetSign, TimestampSign};
+use crate::item::Item::{
+    self, Abbreviation, Fraction, Literal, Number, OffsetSign, TimestampMinus,
+};
 use crate::item::Name::{self, ShortMonth, ShortWeekday};
 use crate::item::Padding::{self, Space, Zero};
 
@@ -68,7 +70,7 @@ pub(crate) const DIRECTIVES: [(&str, &[Item]); 45] = spellings! {
     ":z" => OffsetSign, Number(OffsetHour, Zero), Literal(b':'), Number(OffsetMinute, Zero);
     "::z" => OffsetSign, Number(OffsetHour, Zero), Literal(b':'), Number(OffsetMinute, Zero),
         Literal(b':'), Number(OffsetSecond, Zero);
-    "s" => TimestampSign, Number(Timestamp, Padding::None);
+    "s" => TimestampMinus, Number(Timestamp, Padding::None);
     "Z" => Abbreviation;
     "n" => Literal(b'\n');
     "t" => Literal(b'\t');

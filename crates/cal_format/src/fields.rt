@@ -16,7 +16,7 @@ use cal_time::Date;
 /// The numbers that a text has for components, and 0 for each component without a number.
 #[derive(Debug, Drop)]
 pub struct Fields {
-    numbers: [u64; 27],
+    numbers: [u64; 34],
     shown: Shown,
 }
 
@@ -27,7 +27,7 @@ impl Fields {
         ensures shown { AreShown [] result.shown }
     {
         Fields {
-            numbers: [0; 27],
+            numbers: [0; 34],
             shown: Shown::new(),
         }
     }

@@ -63,14 +63,18 @@ pub(crate) fn scan_item(scanner: &mut Scanner, item: Item) -> Option<u64>
             Some(0)
         }
         Item::Number(component, pad) => scan_number(scanner, pad, component),
+        Item::Signed(component, pad) => {
+            scanner.byte(b'+')?;
+            scan_number(scanner, pad, component)
+        }
         Item::Name(name) => scan_name(scanner, name),
         Item::Fraction => scan_fraction(scanner),
         Item::Decimals => scan_some_decimals(scanner),
-        Item::OffsetSign => {
+        Item::OffsetSign | Item::TimestampSign => {
             let is_minus = scanner.sign()?;
             Some(u64::from(is_minus))
         }
-        Item::TimestampSign => match scanner.byte(b'-') {
+        Item::OffsetMinus | Item::TimestampMinus => match scanner.byte(b'-') {
             Some(()) => Some(1),
             None => Some(0),
         },

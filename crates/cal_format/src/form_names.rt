@@ -1,5 +1,5 @@
 //! The form of names.
-ghost use Rattle.std.specs.Prelude.{◌≡◌, ◌<◌, ◌≤◌, ◌∷◌, ◌++◌, IfSome, if◌then◌else◌, false};
+ghost use Rattle.std.specs.Prelude.{◌≡◌, ◌<◌, ◌≤◌, ◌∷◌, ◌++◌, IfSome, if◌then◌else◌, false, true};
 ghost use Rattle.cal_text.specs.Shape.{Scans};
 ghost use Rattle.cal_format.specs.Form.{Word, Letters, MonthName, WeekdayName, PeriodName, NameShape, month_text, weekday_text, period_text, numbered_name, IsNameNumber};
 
@@ -16,7 +16,8 @@ macro_rules! after_byte {
     };
 }
 
-/// Parses a name. Returns the number of its month or weekday, from 1, or 0 for `AM` and 1 for `PM`.
+/// Parses a name. Returns the number of its month or weekday, from 1, or 0 before noon and
+/// 1 from noon on.
 pub(crate) fn scan_name(scanner: &mut Scanner, name: Name) -> Option<u64>
     ensures scans { Scans (NameShape name) scanner.old.rest.now scanner.new.rest.now result }
     ensures value { IfSome result (λ n.
@@ -29,6 +30,7 @@ pub(crate) fn scan_name(scanner: &mut Scanner, name: Name) -> Option<u64>
         Name::Weekday => scan_weekday(scanner, true),
         Name::ShortWeekday => scan_weekday(scanner, false),
         Name::Period => scan_period(scanner),
+        Name::LowerPeriod => scan_lower_period(scanner),
     }
 }
 
@@ -108,9 +110,9 @@ fn scan_weekday(scanner: &mut Scanner, is_long: bool) -> Option<u64>
 
 #[tactic(auto, unfolding(crate::specs::Form::PeriodName))]
 fn scan_period(scanner: &mut Scanner) -> Option<u64>
-    ensures scans { Scans PeriodName scanner.old.rest.now scanner.new.rest.now result }
+    ensures scans { Scans (PeriodName true) scanner.old.rest.now scanner.new.rest.now result }
     ensures value { IfSome result (λ n.
-        scanner.old.rest.now ≡ period_text n ++ scanner.new.rest.now) }
+        scanner.old.rest.now ≡ period_text true n ++ scanner.new.rest.now) }
     ensures range { IfSome result (λ n. n < 2) }
 {
     if let Some(()) = scanner.byte(b'A') {
@@ -119,6 +121,22 @@ fn scan_period(scanner: &mut Scanner) -> Option<u64>
     }
     scanner.byte(b'P')?;
     scanner.byte(b'M')?;
+    Some(1)
+}
+
+#[tactic(auto, unfolding(crate::specs::Form::PeriodName))]
+fn scan_lower_period(scanner: &mut Scanner) -> Option<u64>
+    ensures scans { Scans (PeriodName false) scanner.old.rest.now scanner.new.rest.now result }
+    ensures value { IfSome result (λ n.
+        scanner.old.rest.now ≡ period_text false n ++ scanner.new.rest.now) }
+    ensures range { IfSome result (λ n. n < 2) }
+{
+    if let Some(()) = scanner.byte(b'a') {
+        scanner.byte(b'm')?;
+        return Some(0);
+    }
+    scanner.byte(b'p')?;
+    scanner.byte(b'm')?;
     Some(1)
 }
 

@@ -200,7 +200,7 @@ impl Format {
     /// Returns `true` if the items show only components with an index from `low` to below `high`.
     #[inline(always)]
     pub(crate) fn is_within(&self, low: usize, high: usize) -> bool
-        requires { (low ≤ 27) × (high ≤ 27) }
+        requires { (low ≤ 34) × (high ≤ 34) }
         ensures { result ≡ show_within low high self.now }
     {
         self.shown.is_within(low, high)

@@ -25,6 +25,8 @@ pub enum Component {
     IsoWeek,
     /// The weekday, from 1, Monday, to 7, Sunday.
     Weekday,
+    /// The weekday, from 0, Monday, to 6, Sunday.
+    DaysFromMonday,
     /// The weekday, from 0, Sunday, to 6, Saturday.
     DaysFromSunday,
     /// The weekday, from 1, Sunday, to 7, Saturday.
@@ -43,10 +45,22 @@ pub enum Component {
     Second,
     /// The half of the day: 0 before noon, 1 from noon on. Errors name it as the hour.
     Period,
+    /// The tenths of the second, from 0 to 9.
+    Subsecond1,
+    /// The hundredths of the second, from 0 to 99.
+    Subsecond2,
     /// The milliseconds of the second, from 0 to 999.
     Millisecond,
+    /// The first four digits of the second's fraction, from 0 to 9999.
+    Subsecond4,
+    /// The first five digits of the second's fraction, from 0 to 99999.
+    Subsecond5,
     /// The microseconds of the second, from 0 to 999999.
     Microsecond,
+    /// The first seven digits of the second's fraction, from 0 to 9999999.
+    Subsecond7,
+    /// The first eight digits of the second's fraction, from 0 to 99999999.
+    Subsecond8,
     /// The nanoseconds of the second, from 0 to 999999999.
     Nanosecond,
     /// The hours of the offset without its sign, from 0 to 25.
@@ -88,6 +102,8 @@ pub enum Name {
     ShortWeekday,
     /// `AM` before noon, `PM` from noon on.
     Period,
+    /// `am` before noon, `pm` from noon on.
+    LowerPeriod,
 }
 
 /// An item of a format.
@@ -97,6 +113,8 @@ pub enum Item {
     Literal(u8),
     /// The number of a component, padded to its width.
     Number(Component, Padding),
+    /// The same with a plus sign, if it has no sign: `+2024` for the year 2024, and `-0044`.
+    Signed(Component, Padding),
     /// A name.
     Name(Name),
     /// A point and the digits of the second's fraction without trailing zeros, such as `.25`, or
@@ -107,8 +125,12 @@ pub enum Item {
     Decimals,
     /// The sign of the offset: `-` if it is negative, else `+`.
     OffsetSign,
-    /// The minus sign of a negative Unix time, or nothing.
+    /// The minus sign of a negative offset, or nothing.
+    OffsetMinus,
+    /// The sign of the Unix time: `-` if it is negative, else `+`.
     TimestampSign,
+    /// The minus sign of a negative Unix time, or nothing.
+    TimestampMinus,
     /// The abbreviation of the zone, such as `CET`.
     Abbreviation,
 }
@@ -141,14 +163,19 @@ impl Component {
         ensures range { (1 ≤ result) × (result ≤ 9) }
     {
         match self {
-            Component::Year | Component::IsoYear => 4,
+            Component::Year | Component::IsoYear | Component::Subsecond4 => 4,
             Component::Ordinal | Component::Millisecond => 3,
+            Component::Subsecond5 => 5,
             Component::Microsecond => 6,
+            Component::Subsecond7 => 7,
+            Component::Subsecond8 => 8,
             Component::Nanosecond | Component::Timestamp => 9,
             Component::Weekday
+            | Component::DaysFromMonday
             | Component::DaysFromSunday
             | Component::SundayWeekday
             | Component::Period
+            | Component::Subsecond1
             | Component::OffsetSign
             | Component::TimestampSign => 1,
             _ => 2,
@@ -166,11 +193,11 @@ impl Component {
         }
     }
 
-    /// Returns the index of the component, from 0 for `Year` to 26 for `TimestampSign`.
+    /// Returns the index of the component, from 0 for `Year` to 33 for `TimestampSign`.
     #[inline(always)]
     pub fn index(self) -> usize
         ensures value { result ≡ index self }
-        ensures range { result < 27 }
+        ensures range { result < 34 }
     {
         self as usize
     }
@@ -187,6 +214,7 @@ impl Name {
             Name::Weekday => Component::Weekday,
             Name::ShortWeekday => Component::Weekday,
             Name::Period => Component::Period,
+            Name::LowerPeriod => Component::Period,
         }
     }
 }
@@ -199,11 +227,11 @@ impl Item {
     {
         match self {
             Item::Literal(_) | Item::Abbreviation => None,
-            Item::Number(component, _) => Some(component),
+            Item::Number(component, _) | Item::Signed(component, _) => Some(component),
             Item::Name(name) => Some(name.component()),
             Item::Fraction | Item::Decimals => Some(Component::Nanosecond),
-            Item::OffsetSign => Some(Component::OffsetSign),
-            Item::TimestampSign => Some(Component::TimestampSign),
+            Item::OffsetSign | Item::OffsetMinus => Some(Component::OffsetSign),
+            Item::TimestampSign | Item::TimestampMinus => Some(Component::TimestampSign),
         }
     }
 }

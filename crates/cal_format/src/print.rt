@@ -1,5 +1,5 @@
 //! The texts that a format prints.
-ghost use Rattle.std.specs.Prelude.{◌≡◌, ℕ, ◌+◌, ◌-◌, ◌<◌, ◌≤◌, ◌/◌, ◌%◌, ◌^◌, ◌++◌, ◌∷◌, [], ◌↔◌, IsSome, IfSome, IfNone, length, take, drop, decimal, replicate, unsigned_abs};
+ghost use Rattle.std.specs.Prelude.{◌≡◌, ℕ, ◌+◌, ◌-◌, ◌<◌, ◌≤◌, ◌/◌, ◌%◌, ◌^◌, ◌++◌, ◌∷◌, [], ◌↔◌, IsSome, IfSome, IfNone, codes, if◌then◌else◌, int_lt, length, pos, take, drop, decimal, replicate, unsigned_abs};
 ghost use Rattle.cal_time.specs.Time.{nanosecond_of};
 ghost use Rattle.cal_time.specs.UtcOffset.{sign as offset_sign};
 ghost use Rattle.cal_time.specs.Digits.{decimals};
@@ -7,8 +7,8 @@ ghost use Rattle.cal_time.specs.DateText.{digits_at_least, sign_text};
 ghost use Rattle.cal_format.specs.declared.item.Item.TheVariants as items;
 ghost use Rattle.cal_format.specs.Names.{name_text};
 ghost use Rattle.cal_format.specs.Printing.{Writes};
-ghost use Rattle.cal_format.specs.Moment.{number, width};
-ghost use Rattle.cal_format.specs.Text.{sign, padded, fraction_text, item_text, text_in_zone};
+ghost use Rattle.cal_format.specs.Moment.{number, timestamp_of, width};
+ghost use Rattle.cal_format.specs.Text.{sign, or_plus, padded, fraction_text, item_text, text_in_zone};
 
 use crate::item::{Component, Item, Name, Padding};
 use crate::moment::{Moment, iso_year};
@@ -65,11 +65,14 @@ fn print_item(
     match item {
         Item::Literal(byte) => put(buffer, at, &[byte]),
         Item::Number(component, pad) => print_number(component, pad, moment, buffer, at),
+        Item::Signed(component, pad) => print_signed(component, pad, moment, buffer, at),
         Item::Name(name) => print_name(name, moment, buffer, at),
         Item::Fraction => print_fraction(moment.time.nanosecond(), buffer, at),
         Item::Decimals => print_decimals(moment.time.nanosecond(), buffer, at),
         Item::OffsetSign => put(buffer, at, offset_sign(moment)),
-        Item::TimestampSign => put(buffer, at, timestamp_sign(moment)),
+        Item::OffsetMinus => put(buffer, at, offset_minus(moment)),
+        Item::TimestampSign => put(buffer, at, timestamp_sign(moment, b"+")),
+        Item::TimestampMinus => put(buffer, at, timestamp_sign(moment, b"")),
         Item::Abbreviation => put(buffer, at, abbreviation),
     }
 }
@@ -84,14 +87,14 @@ fn print_number(
     requires { at ≤ length buffer.old }
     ensures { Writes (sign component moment.now ++ padded pad (width component) (number component moment.now)) at buffer.old buffer.new result }
 {
-    if !sign_of(component, moment).is_empty() {
-        return print_signed(component, pad, moment, buffer, at);
+    let sign = sign_of(component, moment);
+    if !sign.is_empty() {
+        return print_after_sign(sign, component, pad, moment, buffer, at);
     }
     put_padded(moment.number(component), component.width(), pad, buffer, at)
 }
 
-/// Writes a number with its sign.
-#[cold]
+/// Writes a number with its sign, or with a plus sign if it has none.
 #[inline(never)]
 fn print_signed(
     component: Component,
@@ -101,9 +104,27 @@ fn print_signed(
     at: usize,
 ) -> Option<usize>
     requires { at ≤ length buffer.old }
-    ensures { Writes (sign component moment.now ++ padded pad (width component) (number component moment.now)) at buffer.old buffer.new result }
+    ensures { Writes (or_plus (sign component moment.now) ++ padded pad (width component) (number component moment.now)) at buffer.old buffer.new result }
 {
     let sign = sign_of(component, moment);
+    let sign = if sign.is_empty() { b"+" } else { sign };
+    print_after_sign(sign, component, pad, moment, buffer, at)
+}
+
+/// Writes a number after this sign.
+#[cold]
+#[inline(never)]
+fn print_after_sign(
+    sign: &[u8],
+    component: Component,
+    pad: Padding,
+    moment: &Moment,
+    buffer: &mut [u8],
+    at: usize,
+) -> Option<usize>
+    requires { at ≤ length buffer.old }
+    ensures { Writes (sign.now ++ padded pad (width component) (number component moment.now)) at buffer.old buffer.new result }
+{
     let next = put(buffer, at, sign)?;
     put_padded(
         moment.number(component),
@@ -214,6 +235,13 @@ fn print_name(name: Name, moment: &Moment, buffer: &mut [u8], at: usize) -> Opti
                 put(buffer, at, b"PM")
             }
         }
+        Name::LowerPeriod => {
+            if moment.time.hour() < 12 {
+                put(buffer, at, b"am")
+            } else {
+                put(buffer, at, b"pm")
+            }
+        }
     }
 }
 
@@ -242,12 +270,24 @@ fn print_decimals(nanosecond: u32, buffer: &mut [u8], at: usize) -> Option<usize
     put(buffer, at, digits.as_bytes())
 }
 
-/// Returns the sign of a negative Unix time.
+/// Returns the minus sign of a negative Unix time, or else this sign.
 #[inline(never)]
-fn timestamp_sign(moment: &Moment) -> &'static [u8]
-    ensures { result.now ≡ item_text [] moment.now items.TimestampSign }
+fn timestamp_sign(moment: &Moment, sign: &'static [u8]) -> &'static [u8]
+    ensures { result.now
+        ≡ (if int_lt (timestamp_of moment.now) (pos 0) then codes "-" else sign.now) }
 {
-    if moment.timestamp() < 0 { b"-" } else { b"" }
+    if moment.timestamp() < 0 { b"-" } else { sign }
+}
+
+/// Returns the minus sign of a negative offset.
+fn offset_minus(moment: &Moment) -> &'static [u8]
+    ensures { result.now ≡ item_text [] moment.now items.OffsetMinus }
+{
+    if moment.offset.whole_seconds() < 0 {
+        b"-"
+    } else {
+        b""
+    }
 }
 
 /// Returns the sign of the offset.

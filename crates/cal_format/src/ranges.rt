@@ -28,7 +28,7 @@ impl Item {
         ensures { result ≡ item_error self number }
     {
         match self {
-            Item::Number(component, _) => {
+            Item::Number(component, _) | Item::Signed(component, _) => {
                 if component.minimum() <= number && number <= component.maximum() {
                     None
                 } else {
@@ -67,15 +67,21 @@ impl Component {
             Component::Ordinal => 366,
             Component::IsoWeek | Component::SundayWeek | Component::MondayWeek => 53,
             Component::Weekday | Component::SundayWeekday => 7,
-            Component::DaysFromSunday => 6,
+            Component::DaysFromMonday | Component::DaysFromSunday => 6,
             Component::Hour => 23,
             Component::Minute
             | Component::Second
             | Component::OffsetMinute
             | Component::OffsetSecond => 59,
             Component::Period | Component::OffsetSign | Component::TimestampSign => 1,
+            Component::Subsecond1 => 9,
+            Component::Subsecond2 => 99,
             Component::Millisecond => 999,
+            Component::Subsecond4 => 9_999,
+            Component::Subsecond5 => 99_999,
             Component::Microsecond => 999_999,
+            Component::Subsecond7 => 9_999_999,
+            Component::Subsecond8 => 99_999_999,
             Component::Nanosecond => 999_999_999,
             Component::OffsetHour => 25,
             Component::Timestamp => 99_999_999_999_999,
@@ -93,15 +99,22 @@ impl Component {
             Component::Day => Named::Day,
             Component::Ordinal => Named::Ordinal,
             Component::IsoWeek | Component::SundayWeek | Component::MondayWeek => Named::Week,
-            Component::Weekday | Component::DaysFromSunday | Component::SundayWeekday => {
-                Named::Weekday
-            }
+            Component::Weekday
+            | Component::DaysFromMonday
+            | Component::DaysFromSunday
+            | Component::SundayWeekday => Named::Weekday,
             Component::Hour | Component::Hour12 | Component::Period => Named::Hour,
             Component::Minute => Named::Minute,
             Component::Second => Named::Second,
             Component::Millisecond => Named::Millisecond,
             Component::Microsecond => Named::Microsecond,
-            Component::Nanosecond => Named::Nanosecond,
+            Component::Nanosecond
+            | Component::Subsecond1
+            | Component::Subsecond2
+            | Component::Subsecond4
+            | Component::Subsecond5
+            | Component::Subsecond7
+            | Component::Subsecond8 => Named::Nanosecond,
             Component::OffsetHour | Component::OffsetSign => Named::OffsetHour,
             Component::OffsetMinute => Named::OffsetMinute,
             Component::OffsetSecond => Named::OffsetSecond,

@@ -10,10 +10,10 @@ use crate::item::{Component, Item, Padding};
 /// A mark for each component that items show, and the range of the indices of these components.
 #[derive(Debug, Drop)]
 pub(crate) struct Shown {
-    marks: [bool; 27],
-    /// The minimum index, or 27 for no component.
+    marks: [bool; 34],
+    /// The minimum index, or 34 for no component.
     low: usize,
-    /// The maximum index plus 1, or 0 for no component, or 28 for an abbreviation.
+    /// The maximum index plus 1, or 0 for no component, or 35 for an abbreviation.
     end: usize,
     /// `true` if each item has a fixed end.
     is_fixed: bool,
@@ -25,8 +25,8 @@ impl Shown {
         ensures { AreShown [] result }
     {
         Shown {
-            marks: [false; 27],
-            low: 27,
+            marks: [false; 34],
+            low: 34,
             end: 0,
             is_fixed: true,
         }
@@ -88,18 +88,18 @@ impl Shown {
     }
 }
 
-/// Returns the index of a component, or 27.
+/// Returns the index of a component, or 34.
 #[inline(always)]
 fn low_of(component: Option<Component>) -> usize
     ensures { result ≡ low_of component }
 {
     match component {
         Some(component) => component.index(),
-        None => 27,
+        None => 34,
     }
 }
 
-/// Returns the index after the component of an item, or 0, or 28 for an abbreviation.
+/// Returns the index after the component of an item, or 0, or 35 for an abbreviation.
 #[inline(always)]
 fn end_of(item: Item, component: Option<Component>) -> usize
     requires { component ≡ item_component item }
@@ -107,7 +107,7 @@ fn end_of(item: Item, component: Option<Component>) -> usize
 {
     match item {
         Item::Literal(_) => 0,
-        Item::Abbreviation => 28,
+        Item::Abbreviation => 35,
         _ => low_of(component) + 1,
     }
 }
@@ -118,15 +118,16 @@ fn is_fixed(item: Item) -> bool
     ensures { result ≡ is_fixed item }
 {
     match item {
-        Item::Number(_, Padding::None) => false,
-        Item::Fraction | Item::Decimals | Item::TimestampSign => false,
+        Item::Number(_, Padding::None) | Item::Signed(_, Padding::None) => false,
+        Item::Fraction | Item::Decimals => false,
+        Item::OffsetMinus | Item::TimestampMinus => false,
         _ => true,
     }
 }
 
 /// Sets the mark of a component.
 #[inline(always)]
-fn set(marks: &mut [bool; 27], component: Component)
+fn set(marks: &mut [bool; 34], component: Component)
     ensures { (c : Component) → mark_of c marks.new
         ≡ (if index component == index c then true else mark_of c marks.old) }
 {

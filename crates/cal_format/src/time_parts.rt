@@ -62,11 +62,29 @@ pub(crate) fn nanosecond_of(items: &Format, fields: &Fields) -> u32
     if any_shows(items, Component::Nanosecond) {
         return fields.get(Component::Nanosecond) as u32;
     }
+    if any_shows(items, Component::Subsecond8) {
+        return fields.get(Component::Subsecond8) as u32 * 10;
+    }
+    if any_shows(items, Component::Subsecond7) {
+        return fields.get(Component::Subsecond7) as u32 * 100;
+    }
     if any_shows(items, Component::Microsecond) {
         return fields.get(Component::Microsecond) as u32 * 1_000;
     }
+    if any_shows(items, Component::Subsecond5) {
+        return fields.get(Component::Subsecond5) as u32 * 10_000;
+    }
+    if any_shows(items, Component::Subsecond4) {
+        return fields.get(Component::Subsecond4) as u32 * 100_000;
+    }
     if any_shows(items, Component::Millisecond) {
         return fields.get(Component::Millisecond) as u32 * 1_000_000;
+    }
+    if any_shows(items, Component::Subsecond2) {
+        return fields.get(Component::Subsecond2) as u32 * 10_000_000;
+    }
+    if any_shows(items, Component::Subsecond1) {
+        return fields.get(Component::Subsecond1) as u32 * 100_000_000;
     }
     0
 }

@@ -14,16 +14,16 @@ use cal_datetime::{OffsetDateTime, PlainDateTime};
 use cal_time::{Date, Time, UtcOffset};
 
 /// The index at which the components of a date end.
-pub(crate) const DATE_END: usize = 13;
+pub(crate) const DATE_END: usize = 14;
 
 /// The index at which the components of a time of day end, which come next.
-pub(crate) const TIME_END: usize = 21;
+pub(crate) const TIME_END: usize = 28;
 
 /// The index at which the components of an offset end, which come next.
-pub(crate) const OFFSET_END: usize = 25;
+pub(crate) const OFFSET_END: usize = 32;
 
 /// The index at which all components end.
-pub(crate) const MOMENT_END: usize = 27;
+pub(crate) const MOMENT_END: usize = 34;
 
 /// The maximum length of an abbreviation.
 const MAX_ABBREVIATION: usize = 15;

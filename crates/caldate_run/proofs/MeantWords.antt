@@ -113,5 +113,5 @@ format_meant items f is =
 pub shown_after : (items more : List Item) → IsTrue (are_moment_items items) → IsTrue (are_moment_items more) → IsTrue (are_moment_items (items ++ more))
 shown_after [] more h k = k
 shown_after (i ∷ items) more h k =
-    let both = and_parts (shows_within 0 27 i) (are_moment_items items) h in
-    and_from (shows_within 0 27 i) (are_moment_items (items ++ more)) both.0 (shown_after items more both.1 k)
+    let both = and_parts (shows_within 0 34 i) (are_moment_items items) h in
+    and_from (shows_within 0 34 i) (are_moment_items (items ++ more)) both.0 (shown_after items more both.1 k)

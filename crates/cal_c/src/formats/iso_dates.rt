@@ -64,7 +64,7 @@ pub(crate) fn print_date_at_once(
     buffer: &mut [u8],
 ) -> Option<usize>
     ensures value { IfSome result (λ end. IsFormatOf format.now
-        (PrintsItems 0 13 (moment_of_date date) buffer.old buffer.new 0 end)) }
+        (PrintsItems 0 14 (moment_of_date date) buffer.old buffer.new 0 end)) }
     ensures fits { IfSome result (λ end. end ≤ length buffer.old) }
     ensures few { IfSome result (λ _. format.now.length ≤ 64) }
     ensures max_length { IfSome result (λ end. end ≤ format.now.length * 15) }
@@ -77,7 +77,7 @@ pub(crate) fn print_date_at_once(
     }
     // This call states that the date is in its range. It costs nothing.
     let _ = date.to_julian_day();
-    print_at_once(&Moment::of_date(date), 0, 13, format, buffer)
+    print_at_once(&Moment::of_date(date), 0, 14, format, buffer)
 }
 
 /// Parses a date by `%Y-%m-%d`. Returns `None` for a text that isn't the text of a date of the

@@ -29,9 +29,12 @@ pub(super) fn item_parts(item: Item) -> FormatItem
         Item::Name(name) => (4, name_number(name)),
         Item::Fraction => (5, 0),
         Item::OffsetSign => (6, 0),
-        Item::TimestampSign => (7, 0),
+        Item::TimestampMinus => (7, 0),
         Item::Decimals => (8, 0),
         Item::Abbreviation => (9, 0),
+        Item::Signed(component, padding) => (9 + padding_kind(padding), component.index() as u8),
+        Item::OffsetMinus => (13, 0),
+        Item::TimestampSign => (14, 0),
     };
     FormatItem { kind, value }
 }
@@ -49,9 +52,14 @@ pub(super) fn item_with(part: FormatItem) -> Option<Item>
         4 => Some(Item::Name(name_with(part.value)?)),
         5 => single_item(part.value, Item::Fraction),
         6 => single_item(part.value, Item::OffsetSign),
-        7 => single_item(part.value, Item::TimestampSign),
+        7 => single_item(part.value, Item::TimestampMinus),
         8 => single_item(part.value, Item::Decimals),
         9 => single_item(part.value, Item::Abbreviation),
+        10 => Some(Item::Signed(component_with(part.value)?, Padding::Zero)),
+        11 => Some(Item::Signed(component_with(part.value)?, Padding::Space)),
+        12 => Some(Item::Signed(component_with(part.value)?, Padding::None)),
+        13 => single_item(part.value, Item::OffsetMinus),
+        14 => single_item(part.value, Item::TimestampSign),
         _ => None,
     }
 }

@@ -14,6 +14,7 @@ pub(super) fn name_number(name: Name) -> u8
         Name::Weekday => 2,
         Name::ShortWeekday => 3,
         Name::Period => 4,
+        Name::LowerPeriod => 5,
     }
 }
 
@@ -28,6 +29,7 @@ pub(super) fn name_with(number: u8) -> Option<Name>
         2 => Some(Name::Weekday),
         3 => Some(Name::ShortWeekday),
         4 => Some(Name::Period),
+        5 => Some(Name::LowerPeriod),
         _ => None,
     }
 }

@@ -76,7 +76,7 @@ fn print_date(date: Date, format: &FormatParts, bytes: &mut [u8]) -> LengthResul
     let mut text = [0; 64];
     match print_date_at_once(date, format, &mut text) {
         Some(end) => write(&text, Some(end), bytes),
-        None => print_in_steps(&Moment::of_date(date), 0, 13, format, bytes),
+        None => print_in_steps(&Moment::of_date(date), 0, 14, format, bytes),
     }
 }
 
@@ -95,7 +95,7 @@ pub extern "C" fn fots_time_format(
         → IsPrinted (are_time_items items) (text_of items (moment_of_time time)) bytes.old bytes.new result }
 {
     let time = or_error!(LengthResult, valid_time(time), INVALID_TIME);
-    print_moment(&Moment::of_time(time), 13, 21, format, bytes)
+    print_moment(&Moment::of_time(time), 14, 28, format, bytes)
 }
 
 /// Prints an offset, such as `+05:30` by `%:z`.
@@ -113,7 +113,7 @@ pub extern "C" fn fots_offset_format(
         → IsPrinted (are_offset_items items) (text_of items (moment_of_offset offset)) bytes.old bytes.new result }
 {
     let offset = or_error!(LengthResult, valid_offset(offset), INVALID_OFFSET);
-    print_moment(&Moment::of_offset(offset), 21, 25, format, bytes)
+    print_moment(&Moment::of_offset(offset), 28, 32, format, bytes)
 }
 
 /// Prints a date, a time of day and an offset, such as `2024-02-29 23:59 +0100` by `%F %R %z`.
@@ -133,7 +133,7 @@ pub extern "C" fn fots_moment_format(
 {
     let moment = or_error!(LengthResult, valid_moment(moment), INVALID_MOMENT);
     let moment = Moment::of_offset_date_time(moment);
-    print_moment(&moment, 0, 27, format, bytes)
+    print_moment(&moment, 0, 34, format, bytes)
 }
 
 /// Prints a date and a time of day, such as `2024-02-29 23:59` by `%F %R`.
@@ -157,5 +157,5 @@ pub extern "C" fn fots_pair_format(
     let date = or_error!(LengthResult, valid_date(date), INVALID_DATE);
     let time = or_error!(LengthResult, valid_time(time), INVALID_TIME);
     let moment = Moment::of_date_time(PlainDateTime::new(date, time));
-    print_moment(&moment, 0, 21, format, bytes)
+    print_moment(&moment, 0, 28, format, bytes)
 }

@@ -7,6 +7,7 @@ use std::process::Abort;
 mod abbreviations;
 mod errors;
 mod items;
+mod modifiers;
 mod offsets;
 mod one_answer;
 mod rows;

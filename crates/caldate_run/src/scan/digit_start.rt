@@ -112,9 +112,11 @@ fn is_wide(component: Component) -> bool
 {
     match component {
         Component::Weekday
+        | Component::DaysFromMonday
         | Component::DaysFromSunday
         | Component::SundayWeekday
         | Component::Period
+        | Component::Subsecond1
         | Component::OffsetSign
         | Component::TimestampSign => false,
         _ => true,

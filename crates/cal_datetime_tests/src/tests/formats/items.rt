@@ -24,5 +24,5 @@ fn pushed_items(rt: HostRuntime) {
     }
     holds(rt, "pushed items", !format.try_push(Item::Literal(b'.')));
     holds(rt, "pushed items", format.items().len() == 64);
-    holds(rt, "pushed items", Component::OffsetSign.index() == 24);
+    holds(rt, "pushed items", Component::OffsetSign.index() == 31);
 }

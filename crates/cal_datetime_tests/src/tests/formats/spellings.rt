@@ -114,6 +114,12 @@ fn unknown_items(rt: HostRuntime) {
             ("[hour repr:1", 0),
             ("[]", 0),
             ("[day repr:12]", 0),
+            ("[Year]", 0),
+            ("[year Padding:none]", 0),
+            ("[year repr:last_two base:iso_week]", 0),
+            ("[month repr:long case_sensitive:false]", 0),
+            ("[subsecond digits:10]", 0),
+            ("[unix_timestamp precision:millisecond]", 0),
         ],
         rt,
     );

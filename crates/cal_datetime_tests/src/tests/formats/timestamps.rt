@@ -101,6 +101,26 @@ fn other_texts(rt: HostRuntime) {
     holds(rt, "%s%.f%H", has_no_moment("%s%.f%H", rt));
 }
 
+/// A plus sign before a Unix time from 0 on.
+#[test]
+fn mandatory_signs(rt: HostRuntime) {
+    let rt = &rt;
+    let format = described("[unix_timestamp sign:mandatory]", rt);
+    let last = date_time(rt, 1969, time_of(rt, 23, 59, 59, 0), UtcOffset::UTC);
+    let epoch = OffsetDateTime::unix_epoch();
+    holds(rt, "-1", prints(&format, last, "-1"));
+    holds(rt, "+0", prints(&format, epoch, "+0"));
+    let parser = format.for_offset_date_times();
+    let parser = parser.expect(rt, "no date-time at an offset");
+    holds(rt, "-1", parser.parse(b"-1") == Ok(last));
+    holds(rt, "+0", parser.parse(b"+0") == Ok(epoch));
+    holds(
+        rt,
+        "0",
+        parser.parse(b"0") == Err(ParseError::UnexpectedByte(0)),
+    );
+}
+
 #[test]
 fn descriptions(rt: HostRuntime) {
     let rt = &rt;

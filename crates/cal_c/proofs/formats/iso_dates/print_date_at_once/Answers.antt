@@ -10,6 +10,6 @@ returns-clause-value c =
     let n = c.args.date in
     let old = c.args.buffer.now in
     let bytes = c.copy_from_slice.new.self in
-    printed-format c.args.format.now (PrintsItems 0 13 (moment_of_date n) old (bytes ++ drop 10 old) 0 10) (c.is_iso.ensures c.if-is_iso.true)
+    printed-format c.args.format.now (PrintsItems 0 14 (moment_of_date n) old (bytes ++ drop 10 old) 0 10) (c.is_iso.ensures c.if-is_iso.true)
     (usual-printed n old (drop 10 old) bytes
     (omega (arith, c.copy_from_slice.ensures.len, length-take-le 10 old (omega (arith, c.if-buffer-ge-LENGTH.true)))) (c.copy_from_slice.ensures.after ∙ c.in-Some.ensures.value))

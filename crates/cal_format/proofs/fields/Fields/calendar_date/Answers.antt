@@ -1,6 +1,6 @@
-use Rattle.std.proofs.Common.{◌≡◌, ◌⊎◌, ℕ, ◌<◌, ◌≤◌, sym, ap, ◌∙◌, arith}
+use Rattle.std.proofs.Common.{ℕ, ◌≤◌, sym, ap, ◌∙◌, arith}
 use Rattle.std.specs.Prelude.{pos}
-use Rattle.cal_time.specs.Date.{year_at, month_at, day_of_month_at, HasCalendarDate}
+use Rattle.cal_time.specs.Date.{year_at, month_at, HasCalendarDate}
 use Rattle.cal_time.specs.Days.{month_at-range, day_of_month_at-range}
 use Rattle.cal_format.proofs.Lengths.{days_in_month-most}
 use Rattle.cal_format.proofs.Outcomes.{same-value}

@@ -1,9 +1,7 @@
 use Rattle.std.proofs.Common.{◌≡◌, ◌∷◌, refl, sym, subst, ◌∙◌}
-use Rattle.std.specs.Prelude.{false, IsTrue}
-use Rattle.cal_format.specs.Form.{ItemShape}
+use Rattle.std.specs.Prelude.{IsTrue}
 use Rattle.cal_format.specs.Reading.{is_component}
-use Rattle.cal_format.specs.Scanning.{IsNoField}
-use Rattle.cal_format.specs.Scanning.IsNoField.{marked, mismatch, out_of_range}
+use Rattle.cal_format.specs.Scanning.IsNoField.{marked, out_of_range}
 use Rattle.cal_format.proofs.OnePass.{byte-field, byte-form, byte-mismatch, some-holds, some-error}
 use Rattle.cal_format.proofs.fields.Fields.scan.Goals as goal
 
