@@ -15,7 +15,9 @@ pub mod DigitParts
 pub mod Decimals
 pub mod NumberShapes
 pub mod UnixShapes
+pub mod OffsetShapes
 pub mod MomentShapes
+pub mod TimeShapes
 pub mod YearParts
 pub mod FormReads
 pub mod FormShapes

@@ -102,6 +102,9 @@ renamed Valid text part Valid' text' p into there here = record {
 plus_none : (b d : ℕ) → d ≤ 0 → (b + d) ∷ [] ≡ b ∷ []
 plus_none b d h = let same : b + d ≡ b = omega arith in ap (λ x. x ∷ []) same
 
+pub one_byte : (b d : ℕ) (bytes rest : List ℕ) → d ≤ 0 → bytes ≡ (b + d) ∷ rest → bytes ≡ b ∷ rest
+one_byte b d bytes rest none e = let same : b + d ≡ b = omega arith in e ∙ ap (λ x. x ∷ rest) same
+
 pub byte_part : (b : ℕ) → IsPart {V = Unit {0}} (λ _. Unit {0}) (λ _. b ∷ []) (Byte b)
 byte_part b = renamed (λ d. d ≤ 0) (λ d. (b + d) ∷ []) (ByteRange b 0) (λ _. Unit {0}) (λ _. b ∷ []) (from_part b 0) (λ (d : ℕ). tt)
     (λ d h. (tt, plus_none b d h)) (λ (u : Unit {0}) h. record { value = 0; valid = lit≤ tt; text_is = sym (plus_none b 0 (lit≤ tt)); same = refl })

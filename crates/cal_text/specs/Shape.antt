@@ -209,3 +209,33 @@ moment more = ToSeconds (Fraction more time_offset)
 -- the length of the text.
 abbrev pub ScansLarge : {V : Type 0} → (ℕ → Shape) → List ℕ → List ℕ → Option V → Type 0
 ScansLarge f old new r = (more : ℕ) → length old ≤ more → ScansWhole (f more) old new r
+
+-- ---- a time of day
+-- Nothing, or a colon and a second.
+abbrev pub OrSecond : Shape → Shape
+OrSecond second = Branch 58 0 second End
+
+-- The bytes after the hour and the minute: none, or a second and a fraction.
+abbrev pub after_minute : Shape
+after_minute = OrSecond (Digits 2 (Fraction 8 End))
+
+-- One or two digits of the hour.
+abbrev pub Hour : Shape → Shape
+Hour f = Digits 1 (UpTo 1 f)
+
+-- An hour, a minute, and optionally a second with a fraction of at most nine digits.
+abbrev pub time : Shape
+time = Hour (Byte 58 (Digits 2 after_minute))
+
+-- ---- an offset
+-- The bytes after the hours and the minutes: none, or a second.
+abbrev pub after_minutes : Shape
+after_minutes = OrSecond (Digits 2 End)
+
+-- A sign, hours and minutes, and optionally seconds.
+abbrev pub signed_numbers : Shape
+signed_numbers = Sign (Digits 2 (Byte 58 (Digits 2 after_minutes)))
+
+-- Z, z, or a sign and numbers.
+abbrev pub offset : Shape
+offset = Branch 90 0 End (Branch 122 0 End signed_numbers)
