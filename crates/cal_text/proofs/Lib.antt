@@ -21,10 +21,12 @@ pub mod TimeShapes
 pub mod YearParts
 pub mod FormReads
 pub mod FormShapes
+pub mod PlainShapes
 pub mod Stops
 pub mod Positions
 pub mod Parts
 mod Faults
+mod PlainReads
 mod AnyForms
 mod AnyPositions
 mod UnixPrinted

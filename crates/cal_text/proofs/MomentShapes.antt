@@ -66,7 +66,7 @@ separator-only f (x ∷ xs) e =
 separator_one : (s t : ℕ) (r q : List ℕ) → s ∷ r ≡ t ∷ q → (s ≡ t) × (r ≡ q)
 separator_one s t r q e = (cc, cc)
 
-separator_part : IsPart IsSeparator (λ s. s ∷ []) Separator
+pub separator_part : IsPart IsSeparator (λ s. s ∷ []) Separator
 separator_part = record { each = separator-each; only = separator-only; one = λ s t r q _ _ e. separator_one s t r q e }
 
 -- ---- the offset

@@ -168,10 +168,10 @@ fraction_above_0 = retold _ _ IsFractionAbove0 (after (λ (u : Unit {0}). Unit {
     ]
 
 -- ---- seconds and a fraction
-abbrev pub IsTail : List ℕ → ℕ × Unit {0} → Type 0
+abbrev IsTail : List ℕ → ℕ × Unit {0} → Type 0
 IsTail = HasFraction 8 IsEnd
 
-pub tail_shape : IsShapeOf IsTail (Fraction 8 End)
+tail_shape : IsShapeOf IsTail (Fraction 8 End)
 tail_shape = fraction_then 8 IsEnd End end_shape (λ x xs u here. not_end x xs u)
 
 tail-first : (x : ℕ) (xs : List ℕ) (v : ℕ × Unit {0}) → IsIn 48 9 x → ¬ IsTail (x ∷ xs) v
@@ -180,7 +180,7 @@ tail-first x xs v here h = elim h.is_fraction [
   | inr some ↦ absurd (omega (arith, here.0, ap (λ all. get_or all 0 0) (h.bytes_are ∙ ap (λ ds. ds ++ h.rest) some.1.bytes_are)))
 ]
 
-pub tail-is : (bytes : List ℕ) (v : ℕ × Unit {0}) (h : IsTail bytes v) → bytes ≡ h.fraction
+tail-is : (bytes : List ℕ) (v : ℕ × Unit {0}) (h : IsTail bytes v) → bytes ≡ h.fraction
 tail-is bytes v h = at_end bytes h.fraction h.rest h.bytes_are h.has
 
 abbrev IsFromOne : List ℕ → ℕ × (ℕ × Unit {0}) → Type 0

@@ -8,5 +8,6 @@ pub mod Rfc3339
 pub mod Rfc3339Form
 pub mod TimeForm
 pub mod OffsetForm
+pub mod PlainForm
 pub mod UnixText
 pub mod AnyForm

@@ -1,6 +1,6 @@
 -- The form of an offset from UTC in text (a time shift of ISO 8601). Its numbers need not be in
 -- range.
-use Rattle.std.specs.Prelude.{◌≡◌, ◌⊎◌, ℕ, ◌+◌, ◌*◌, ◌<◌, ◌≤◌, ◌∷◌, ℤ, pos, neg_ℤ, true, false, if◌then◌else◌, List, [], ◌++◌, codes}
+use Rattle.std.specs.Prelude.{◌≡◌, ◌⊎◌, ℕ, ◌+◌, ◌*◌, ◌<◌, ◌≤◌, ◌∷◌, ℤ, pos, neg_ℤ, false, if◌then◌else◌, List, [], ◌++◌, codes}
 use Rattle.cal_time.specs.DateText.{digits_at_least}
 use Rattle.cal_time.specs.UtcOffset.{offset_hour_out_of_range, offset_minute_out_of_range, offset_second_out_of_range}
 use Rattle.cal_time.specs.declared.error.ComponentRange.{ComponentRange}

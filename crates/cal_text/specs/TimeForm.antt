@@ -16,12 +16,6 @@ pub record IsHour (digits : List ℕ) (h : ℕ) : Type 0 where
   pub few : length digits ≤ 2
   pub value : h ≡ digits_value 10 digits
 
--- The bytes begin with the hour h, and then come the others.
-pub record HasHourBefore (others bytes : List ℕ) (h : ℕ) : Type 0 where
-  pub digits : List ℕ
-  pub is_hour : IsHour digits h
-  pub bytes_are : bytes ≡ digits ++ others
-
 -- A colon, two digits of the second s, and a fraction of at most nine digits.
 pub record IsSecond (bytes : List ℕ) (s n : ℕ) : Type 0 where
   pub second : s < 100

@@ -8,13 +8,13 @@ ghost use Rattle.cal_text.specs.TimeForm.{HasTimeForm, IsTimeError, IsTimeText};
 
 use crate::error::ParseError;
 use crate::scanner::Scanner;
-use crate::time::form::scan_time;
+use crate::time::form::scan_whole_time;
 use crate::time::from_numbers::time_from_numbers;
 use cal_time::Time;
 
-mod form;
-mod from_numbers;
-mod numbers;
+pub(crate) mod form;
+pub(crate) mod from_numbers;
+pub(crate) mod numbers;
 
 /// Parses a time of day, such as `9:05` or `23:59:59.25`.
 ///
@@ -33,7 +33,7 @@ pub fn parse(text: &[u8]) -> Result<Time, ParseError>
         → FailsWithComponent why result ↔ HasError HasTimeForm IsTimeError text.now why }
 {
     let mut scanner = Scanner { rest: text };
-    match scan_time(&mut scanner) {
+    match scan_whole_time(&mut scanner) {
         Some(numbers) => match time_from_numbers(numbers) {
             Ok(time) => Ok(time),
             Err(error) => Err(ParseError::OutOfRange(error)),

@@ -1,16 +1,27 @@
 //! Parsing the numbers of a time of day.
 ghost use Rattle.std.specs.Prelude.{◌<◌, IfSome};
-ghost use Rattle.cal_text.specs.Shape.{Scans, ScansWhole, Hour, after_minute, time};
-ghost use Rattle.cal_text.specs.TimeForm.{HasHourBefore, IsAfterMinute, HasTimeForm};
+ghost use Rattle.cal_text.specs.Shape.{Scans, ScansWhole, GoesPast, Hour, AfterMinute, Time, time};
+ghost use Rattle.cal_text.specs.TimeForm.{IsHour, IsAfterMinute, HasTimeForm};
 
 use crate::fraction::scan_fraction;
 use crate::scanner::Scanner;
 use crate::time::numbers::TimeNumbers;
 
 /// Parses the numbers of a time of day up to the end of the text.
-pub(super) fn scan_time(scanner: &mut Scanner) -> Option<TimeNumbers>
+pub(crate) fn scan_whole_time(scanner: &mut Scanner) -> Option<TimeNumbers>
     ensures scans { ScansWhole time scanner.old.rest.now scanner.new.rest.now result }
     ensures value { IfSome result (HasTimeForm scanner.old.rest.now) }
+{
+    let numbers = scan_time(scanner)?;
+    scanner.end()?;
+    Some(numbers)
+}
+
+/// Parses the numbers of a time of day.
+pub(crate) fn scan_time(scanner: &mut Scanner) -> Option<TimeNumbers>
+    ensures scans { Scans Time scanner.old.rest.now scanner.new.rest.now result }
+    ensures value { IfSome result (λ t.
+        GoesPast (λ bytes. HasTimeForm bytes t) scanner.old.rest.now scanner.new.rest.now) }
 {
     let hour = scan_hour(scanner)?;
     scanner.byte(b':')?;
@@ -27,7 +38,8 @@ pub(super) fn scan_time(scanner: &mut Scanner) -> Option<TimeNumbers>
 /// Parses one or two digits.
 fn scan_hour(scanner: &mut Scanner) -> Option<u32>
     ensures scans { Scans Hour scanner.old.rest.now scanner.new.rest.now result }
-    ensures value { IfSome result (HasHourBefore scanner.new.rest.now scanner.old.rest.now) }
+    ensures value { IfSome result (λ hour.
+        GoesPast (λ bytes. IsHour bytes hour) scanner.old.rest.now scanner.new.rest.now) }
     ensures range { IfSome result (λ hour. hour < 100) }
 {
     let first = scanner.digit()?;
@@ -37,22 +49,20 @@ fn scan_hour(scanner: &mut Scanner) -> Option<u32>
     }
 }
 
-/// Parses the second and its nanoseconds up to the end of the text. Both are 0 at the end.
+/// Parses the second and its nanoseconds. Both are 0 if no colon comes next.
 fn scan_after_minute(scanner: &mut Scanner) -> Option<(u32, u32)>
-    ensures scans { ScansWhole after_minute scanner.old.rest.now scanner.new.rest.now result }
-    ensures value { IfSome result (λ found. IsAfterMinute scanner.old.rest.now found.0 found.1) }
+    ensures scans { Scans AfterMinute scanner.old.rest.now scanner.new.rest.now result }
+    ensures value { IfSome result (λ found.
+        GoesPast (λ bytes. IsAfterMinute bytes found.0 found.1)
+        scanner.old.rest.now scanner.new.rest.now) }
     ensures range { IfSome result (λ found. found.0 < 100) }
 {
     match scanner.byte(b':') {
         Some(()) => {
             let second = scanner.two_digits()?;
             let nanosecond = scan_fraction(scanner, 8)?;
-            scanner.end()?;
             Some((second, nanosecond))
         }
-        None => {
-            scanner.end()?;
-            Some((0, 0))
-        }
+        None => Some((0, 0)),
     }
 }

@@ -1,10 +1,10 @@
 use Rattle.std.proofs.Common.{ℕ, Result, Ok, Err}
-use Rattle.cal_time.specs.Time.{hour_out_of_range, minute_out_of_range, second_out_of_range}
 use Rattle.cal_time.specs.declared.error.ComponentRange.{ComponentRange}
 use Rattle.cal_text.specs.Position.{HasSome}
 use Rattle.cal_text.specs.Shape.{time}
 use Rattle.cal_text.specs.TimeForm.{HasTimeForm, IsTimeError, IsTimeOf}
-use Rattle.cal_text.proofs.Faults.{one_only, of_only, all, last, more, not_refused, refused_for, no_form}
+use Rattle.cal_text.proofs.Faults.{one_only, of_only, not_refused, refused_for, no_form}
+use Rattle.cal_text.proofs.PlainReads.{time_errors}
 use Rattle.cal_text.proofs.Positions.{named, stopped}
 use Rattle.cal_text.proofs.Results.{not_ok}
 use Rattle.cal_text.proofs.TimeShapes.{time_shape, nanosecond-below}
@@ -28,14 +28,14 @@ returns-in-Ok-clause-out_of_range c =
     let r : Result ℕ ComponentRange = Ok c.in-Ok.time in
     let e = c.in-Ok.ensures in
     not_refused HasTimeForm IsTimeError c.args.text.now c.in-Some.numbers (one_only HasTimeForm time _ _ time_shape c.in-Some.ensures.value)
-    (all r (more r hour_out_of_range _ e.hour (more r minute_out_of_range _ e.minute (last r second_out_of_range _ e.second))) e.error_kind)
+    (time_errors c.in-Some.numbers r e.hour e.minute e.second e.error_kind)
 
 pub returns-in-Err-clause-out_of_range : goal.returns-in-Err-clause-out_of_range
 returns-in-Err-clause-out_of_range c =
     let r : Result ℕ ComponentRange = Err c.in-Err.error in
     let e = c.in-Err.ensures in
     refused_for HasTimeForm IsTimeError c.args.text.now c.in-Some.numbers c.in-Err.error (one_only HasTimeForm time _ _ time_shape c.in-Some.ensures.value) c.in-Some.ensures.value
-    (all r (more r hour_out_of_range _ e.hour (more r minute_out_of_range _ e.minute (last r second_out_of_range _ e.second))) e.error_kind)
+    (time_errors c.in-Some.numbers r e.hour e.minute e.second e.error_kind)
 
 pub overflow_sub-position : goal.overflow_sub-position
 overflow_sub-position c = (stopped HasTimeForm time time_shape _ _ c.in-None.ensures.scans).within
