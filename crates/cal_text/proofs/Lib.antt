@@ -22,11 +22,13 @@ pub mod YearParts
 pub mod FormReads
 pub mod FormShapes
 pub mod PlainShapes
+pub mod OffsetDateTimeShapes
 pub mod Stops
 pub mod Positions
 pub mod Parts
 mod Faults
 mod PlainReads
+mod OffsetDateTimeReads
 mod AnyForms
 mod AnyPositions
 mod UnixPrinted

@@ -172,6 +172,17 @@ offset_shape =
     (after (λ (u : Unit {0}). Unit {0}) (λ u. 58 ∷ []) (Byte 58) _ _ (byte_part 58) (after IsTwo (digits_at_least 2) (Digits 2) IsAfterMinutes _ two_digits after_minutes_shape))))
     numbers there here
 
+pub offset-first : (x : ℕ) (xs : List ℕ) (o : OffsetNumbers) → HasOffsetForm (x ∷ xs) o → (43 ≤ x) × ((x ≤ 45) ⊎ (59 ≤ x))
+offset-first x xs o (inl zone) = elim zone.1 as (λ _. (43 ≤ x) × ((x ≤ 45) ⊎ (59 ≤ x))) [
+  | inl upper ↦ let first : x ≡ 90 = cc in (omega (arith, first), inr (omega (arith, first)))
+  | inr lower ↦ let first : x ≡ 122 = cc in (omega (arith, first), inr (omega (arith, first)))
+]
+offset-first x xs o (inr h) =
+    let e = h.bytes_are in
+    let first : x ≡ sign_byte o.is_negative = cc in
+    let range = sign-range o.is_negative in
+    (omega (arith, first, range.0), inl (omega (arith, first, range.1)))
+
 -- ---- what a scanner read
 pub put_seconds : (s : ℕ) (old mid new : List ℕ) → old ≡ 58 ∷ mid → ParsesDigits mid new 2 s → new ≡ [] → IsAfterMinutes old s
 put_seconds s old mid new colon digits end =

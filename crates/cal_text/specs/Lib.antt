@@ -9,5 +9,6 @@ pub mod Rfc3339Form
 pub mod TimeForm
 pub mod OffsetForm
 pub mod PlainForm
+pub mod OffsetDateTimeForm
 pub mod UnixText
 pub mod AnyForm

@@ -27,6 +27,10 @@ pub record IsPlainOf (p : PlainNumbers) (at : ℤ) : Type 0 where
   pub date : IsOnDay p.date (date_at at)
   pub time : IsTimeOf p.time (time_at at)
 
+-- A date-time has the numbers.
+abbrev pub HasPlain : PlainNumbers → Type 0
+HasPlain p = (at : ℤ) × IsPlainOf p at
+
 -- The bytes are a text of this date-time.
 abbrev pub IsPlainText : List ℕ → ℤ → Type 0
 IsPlainText bytes at = (p : PlainNumbers) × HasPlainForm bytes p × IsPlainOf p at

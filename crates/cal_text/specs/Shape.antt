@@ -260,3 +260,11 @@ signed_numbers = Sign (Digits 2 (Byte 58 (Digits 2 after_minutes)))
 -- Z, z, or a sign and numbers.
 abbrev pub offset : Shape
 offset = Branch 90 0 End (Branch 122 0 End signed_numbers)
+
+-- An optional space, and an offset.
+abbrev pub spaced_offset : Shape
+spaced_offset = Branch 32 0 offset offset
+
+-- A date-time, an optional space, and an offset.
+abbrev pub offset_date_time : Shape
+offset_date_time = Plain spaced_offset

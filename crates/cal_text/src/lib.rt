@@ -12,6 +12,7 @@ mod fraction;
 pub mod julian_day;
 mod laws;
 pub mod offset;
+pub mod offset_date_time;
 pub mod plain;
 pub mod rfc3339;
 mod scanner;

@@ -12,9 +12,9 @@ use crate::offset::from_numbers::offset_from_numbers;
 use crate::scanner::Scanner;
 use cal_time::UtcOffset;
 
-mod form;
-mod from_numbers;
-mod numbers;
+pub(crate) mod form;
+pub(crate) mod from_numbers;
+pub(crate) mod numbers;
 
 /// Parses an offset from UTC: `Z` or `z`, or a sign and two digits each of the hours, the minutes
 /// and optionally the seconds, such as `+05:30` or `-01:00:15`.

@@ -7,7 +7,7 @@ use crate::offset::numbers::OffsetNumbers;
 use crate::scanner::Scanner;
 
 /// Parses the numbers of an offset up to the end of the text.
-pub(super) fn scan_offset(scanner: &mut Scanner) -> Option<OffsetNumbers>
+pub(crate) fn scan_offset(scanner: &mut Scanner) -> Option<OffsetNumbers>
     ensures scans { ScansWhole offset scanner.old.rest.now scanner.new.rest.now result }
     ensures value { IfSome result (HasOffsetForm scanner.old.rest.now) }
 {

@@ -9,7 +9,7 @@ use cal_time::UtcOffset;
 use cal_time::error::{Component, ComponentRange};
 
 /// Returns the offset with these numbers, or the error of the first component out of range.
-pub(super) fn offset_from_numbers(numbers: OffsetNumbers) -> Result<UtcOffset, ComponentRange>
+pub(crate) fn offset_from_numbers(numbers: OffsetNumbers) -> Result<UtcOffset, ComponentRange>
     ensures every { (o : ℤ) → IsOffsetOf numbers o → result ≡ Ok o }
     ensures value { IfOk result (IsOffsetOf numbers) }
     ensures error_kind { IfErr result (λ e.

@@ -1,10 +1,10 @@
 use Rattle.std.proofs.Common.{ℤ, Result, Ok, Err}
-use Rattle.cal_time.specs.UtcOffset.{offset_hour_out_of_range, offset_minute_out_of_range, offset_second_out_of_range}
 use Rattle.cal_time.specs.declared.error.ComponentRange.{ComponentRange}
 use Rattle.cal_text.specs.Position.{HasSome}
 use Rattle.cal_text.specs.Shape.{offset}
 use Rattle.cal_text.specs.OffsetForm.{HasOffsetForm, IsOffsetError, IsOffsetOf}
-use Rattle.cal_text.proofs.Faults.{one_only, of_only, all, last, more, not_refused, refused_for, no_form}
+use Rattle.cal_text.proofs.Faults.{one_only, of_only, not_refused, refused_for, no_form}
+use Rattle.cal_text.proofs.OffsetDateTimeReads.{offset_errors}
 use Rattle.cal_text.proofs.Positions.{named, stopped}
 use Rattle.cal_text.proofs.Results.{not_ok}
 use Rattle.cal_text.proofs.OffsetShapes.{offset_shape}
@@ -25,14 +25,14 @@ returns-in-Ok-clause-out_of_range c =
     let r : Result ℤ ComponentRange = Ok c.in-Ok.offset in
     let e = c.in-Ok.ensures in
     not_refused HasOffsetForm IsOffsetError c.args.text.now c.in-Some.numbers (one_only HasOffsetForm offset _ _ offset_shape c.in-Some.ensures.value)
-    (all r (more r offset_hour_out_of_range _ e.hour (more r offset_minute_out_of_range _ e.minute (last r offset_second_out_of_range _ e.second))) e.error_kind)
+    (offset_errors c.in-Some.numbers r e.hour e.minute e.second e.error_kind)
 
 pub returns-in-Err-clause-out_of_range : goal.returns-in-Err-clause-out_of_range
 returns-in-Err-clause-out_of_range c =
     let r : Result ℤ ComponentRange = Err c.in-Err.error in
     let e = c.in-Err.ensures in
     refused_for HasOffsetForm IsOffsetError c.args.text.now c.in-Some.numbers c.in-Err.error (one_only HasOffsetForm offset _ _ offset_shape c.in-Some.ensures.value) c.in-Some.ensures.value
-    (all r (more r offset_hour_out_of_range _ e.hour (more r offset_minute_out_of_range _ e.minute (last r offset_second_out_of_range _ e.second))) e.error_kind)
+    (offset_errors c.in-Some.numbers r e.hour e.minute e.second e.error_kind)
 
 pub overflow_sub-position : goal.overflow_sub-position
 overflow_sub-position c = (stopped HasOffsetForm offset offset_shape _ _ c.in-None.ensures.scans).within
