@@ -90,6 +90,12 @@ number_part k some few = renamed _ _ _ (λ n. (n < 10 ^ k) × (n < 10 ^ 9)) (dig
     below : (ds : List ℕ) → IsExact k ds → digits_value 10 ds < 10 ^ 9
     below ds h = below-nine ds (digits_value 10 ds) (omega (arith, h.1)) (digits_value-lt 10 ds h.0)
 
+abbrev pub IsTwo : ℕ → Type 0
+IsTwo n = (n < 100) × (n < 10 ^ 9)
+
+pub two_digits : IsPart IsTwo (digits_at_least 2) (Digits 2)
+two_digits = number_part 2 (lit≤ tt) (lit≤ tt)
+
 -- ---- k digits or more
 abbrev pub IsCount : ℕ → ℕ → List ℕ → Type 0
 IsCount k more ds = AllDigits 10 ds × (k ≤ length ds) × (length ds ≤ k + more)

@@ -8,11 +8,10 @@ use Rattle.cal_time.specs.DateText.{digits_at_least}
 use Rattle.cal_time.proofs.DistinctTexts.{digits_at_least-digits, digits_at_least-value}
 use Rattle.cal_text.specs.declared.date_numbers.DateNumbers.{DateNumbers}
 use Rattle.cal_text.specs.declared.date_numbers.DateNumbers.TheVariants.{Calendar, Ordinal, Week}
-use Rattle.cal_text.specs.DateForms.{year_text, month_and_day_text, form_year, form_rest, IsPrintableYear, DigitsFit, HasForm}
-use Rattle.cal_text.specs.Shape.{ParsesDigits}
+use Rattle.cal_text.specs.DateForms.{year_text, month_and_day_text, form_year, form_rest, form_text, IsPrintableYear, DigitsFit, HasForm}
+use Rattle.cal_text.specs.Shape.{GoesPast, ParsesDigits}
 use Rattle.cal_text.proofs.DigitTexts.{digits-printed, digits_at_least-length}
 use Rattle.cal_text.proofs.NumberTexts.{one_digit}
-use Rattle.cal_text.proofs.Parts.{at_end}
 use Rattle.cal_text.proofs.ReadDigits.{printed, one_more}
 
 -- numbers, one after the other, as one number
@@ -29,42 +28,45 @@ three_digits-split m d few low =
     ap (λ n. digits_at_least 3 n) (sym value) ∙ ap (λ k. digits_at_least k (digits_value 10 (digits_at_least 2 m ++ (48 + d) ∷ []))) (sym size) ∙ printed
     ∙ ap (λ ds. digits_at_least 2 m ++ ds) (one_digit d low)
 
--- two numbers with a hyphen between them
-pub pair : (front back old rest : List ℕ) → old ≡ front ++ rest → rest ≡ 45 ∷ back → old ≡ (front ++ 45 ∷ []) ++ back
-pair front back old rest e f = e ∙ ap (λ r. front ++ r) f ∙ sym (append_assoc front (45 ∷ []) back)
+-- two numbers with a hyphen between them, and the rest
+pub pair : (front back old rest new : List ℕ) → old ≡ front ++ rest → rest ≡ 45 ∷ (back ++ new) → old ≡ ((front ++ 45 ∷ []) ++ back) ++ new
+pair front back old rest new e f =
+    e ∙ ap (λ r. front ++ r) f ∙ sym (append_assoc front (45 ∷ []) (back ++ new)) ∙ sym (append_assoc (front ++ 45 ∷ []) back new)
 
-pub put_week : (y : ℤ) (w b : ℕ) (old a c e : List ℕ) → IsPrintableYear y → ParsesDigits old a 2 w → a ≡ 45 ∷ c → (49 ≤ b) × (b ≤ 55) × (c ≡ b ∷ e) → e ≡ []
-    → DigitsFit (Week y w (b - 48)) × (87 ∷ old ≡ form_rest (Week y w (b - 48)))
-put_week y w b old a c e written h hyphen weekday end =
+pub put_week : (y : ℤ) (w b : ℕ) (old a c new : List ℕ) → IsPrintableYear y → ParsesDigits old a 2 w → a ≡ 45 ∷ c → (49 ≤ b) × (b ≤ 55) × (c ≡ b ∷ new)
+    → DigitsFit (Week y w (b - 48)) × (87 ∷ old ≡ form_rest (Week y w (b - 48)) ++ new)
+put_week y w b old a c new written h hyphen weekday =
     let two = printed old a 2 w (lit≤ tt) (lit≤ tt) h in
     let same : b ≡ 48 + (b - 48) = omega (arith, weekday.0) in
-    let last : c ≡ digits_at_least 1 (b - 48) =
-    weekday.2 ∙ ap (λ r. b ∷ r) end ∙ ap (λ x. x ∷ []) same ∙ one_digit (b - 48) (omega (arith, weekday.1)) in (
+    let last : c ≡ digits_at_least 1 (b - 48) ++ new =
+    weekday.2 ∙ ap (λ x. x ∷ new) same ∙ ap (λ ds. ds ++ new) (one_digit (b - 48) (omega (arith, weekday.1))) in (
       (written, omega (arith, two.0), omega (arith, weekday.0), omega (arith, weekday.1)),
-      ap (λ r. 87 ∷ r) (pair (digits_at_least 2 w) (digits_at_least 1 (b - 48)) old a two.1 (hyphen ∙ ap (λ r. 45 ∷ r) last)),
+      ap (λ r. 87 ∷ r) (pair (digits_at_least 2 w) (digits_at_least 1 (b - 48)) old a new two.1 (hyphen ∙ ap (λ r. 45 ∷ r) last)),
     )
 
-pub put_calendar : (y : ℤ) (m d : ℕ) (old a c e : List ℕ) → IsPrintableYear y → ParsesDigits old a 2 m → a ≡ 45 ∷ c → ParsesDigits c e 2 d → e ≡ []
-    → DigitsFit (Calendar y m d) × (old ≡ form_rest (Calendar y m d))
-put_calendar y m d old a c e written h hyphen k end =
+pub put_calendar : (y : ℤ) (m d : ℕ) (old a c new : List ℕ) → IsPrintableYear y → ParsesDigits old a 2 m → a ≡ 45 ∷ c → ParsesDigits c new 2 d
+    → DigitsFit (Calendar y m d) × (old ≡ form_rest (Calendar y m d) ++ new)
+put_calendar y m d old a c new written h hyphen k =
     let first = printed old a 2 m (lit≤ tt) (lit≤ tt) h in
-    let second = printed c e 2 d (lit≤ tt) (lit≤ tt) k in (
+    let second = printed c new 2 d (lit≤ tt) (lit≤ tt) k in (
       (written, omega (arith, first.0), omega (arith, second.0)),
-      pair (digits_at_least 2 m) (digits_at_least 2 d) old a first.1 (hyphen ∙ ap (λ r. 45 ∷ r) (at_end c (digits_at_least 2 d) e second.1 end)),
+      pair (digits_at_least 2 m) (digits_at_least 2 d) old a new first.1 (hyphen ∙ ap (λ r. 45 ∷ r) second.1),
     )
 
-pub month_and_day : (m d : ℕ) (new : List ℕ) → new ≡ [] → digits_at_least 2 m ++ 45 ∷ (digits_at_least 2 d ++ new) ≡ month_and_day_text m d
-month_and_day m d new end =
-    pair (digits_at_least 2 m) (digits_at_least 2 d) _ _ refl (ap (λ r. 45 ∷ r) (at_end _ (digits_at_least 2 d) new refl end))
+pub month_and_day : (m d : ℕ) (new : List ℕ) → digits_at_least 2 m ++ 45 ∷ (digits_at_least 2 d ++ new) ≡ month_and_day_text m d ++ new
+month_and_day m d new = pair (digits_at_least 2 m) (digits_at_least 2 d) _ _ new refl refl
 
-pub put_ordinal : (y : ℤ) (m d : ℕ) (old a c : List ℕ) → IsPrintableYear y → ParsesDigits old a 2 m → (d < 10) × (a ≡ (48 + d) ∷ c) → c ≡ []
-    → DigitsFit (Ordinal y (m * 10 + d)) × (old ≡ form_rest (Ordinal y (m * 10 + d)))
-put_ordinal y m d old a c written h last end =
-    let three = printed old c 3 (m * 10 + d) (lit≤ tt) (lit≤ tt) (one_more m d 2 old a c h last.0 last.1) in
-    ((written, omega (arith, three.0)), at_end old (digits_at_least 3 (m * 10 + d)) c three.1 end)
+pub put_ordinal : (y : ℤ) (m d : ℕ) (old a new : List ℕ) → IsPrintableYear y → ParsesDigits old a 2 m → (d < 10) × (a ≡ (48 + d) ∷ new)
+    → DigitsFit (Ordinal y (m * 10 + d)) × (old ≡ form_rest (Ordinal y (m * 10 + d)) ++ new)
+put_ordinal y m d old a new written h last =
+    let three = printed old new 3 (m * 10 + d) (lit≤ tt) (lit≤ tt) (one_more m d 2 old a new h last.0 last.1) in
+    ((written, omega (arith, three.0)), three.1)
 
-pub put_form : (y : ℤ) (f : DateNumbers) (old mid : List ℕ) → old ≡ year_text y ++ 45 ∷ mid → DigitsFit f → form_year f ≡ y → mid ≡ form_rest f → HasForm old f
-put_form y f old mid e is same rest = record {
-  form = is;
-  bytes_are = e ∙ ap (λ r. year_text y ++ 45 ∷ r) rest ∙ sym (append_assoc (year_text y) (45 ∷ []) (form_rest f)) ∙ ap (λ z. (year_text z ++ 45 ∷ []) ++ form_rest f) (sym same);
+pub put_form : (y : ℤ) (f : DateNumbers) (old mid new : List ℕ) → old ≡ year_text y ++ 45 ∷ mid → DigitsFit f → form_year f ≡ y → mid ≡ form_rest f ++ new
+    → GoesPast (λ bytes. HasForm bytes f) old new
+put_form y f old mid new e is same rest = record {
+  front = form_text f;
+  is = record { form = is; bytes_are = refl };
+  bytes_are = e ∙ ap (λ r. year_text y ++ 45 ∷ r) rest ∙ sym (append_assoc (year_text y) (45 ∷ []) (form_rest f ++ new))
+      ∙ sym (append_assoc (year_text y ++ 45 ∷ []) (form_rest f) new) ∙ ap (λ z. ((year_text z ++ 45 ∷ []) ++ form_rest f) ++ new) (sym same);
 }

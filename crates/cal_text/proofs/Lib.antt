@@ -15,14 +15,20 @@ pub mod DigitParts
 pub mod Decimals
 pub mod NumberShapes
 pub mod UnixShapes
+pub mod OffsetShapes
 pub mod MomentShapes
+pub mod TimeShapes
 pub mod YearParts
 pub mod FormReads
 pub mod FormShapes
+pub mod PlainShapes
+pub mod OffsetDateTimeShapes
 pub mod Stops
 pub mod Positions
 pub mod Parts
 mod Faults
+mod PlainReads
+mod OffsetDateTimeReads
 mod AnyForms
 mod AnyPositions
 mod UnixPrinted

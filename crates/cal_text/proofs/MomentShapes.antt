@@ -5,12 +5,12 @@ use Rattle.cal_time.specs.DateText.{digits_at_least, date_digits}
 use Rattle.cal_text.specs.declared.rfc3339.numbers.Numbers.{Numbers}
 use Rattle.cal_text.specs.declared.rfc3339.numbers.TimeOffset.{TimeOffset}
 use Rattle.cal_text.specs.declared.rfc3339.numbers.TimeOffset.TheVariants.{Utc, Signed}
-use Rattle.cal_text.specs.Rfc3339Form.{IsSeparator, IsTimeOffset, HasMomentForm, HasFractionBefore, clock_digits}
-use Rattle.cal_text.specs.Shape.{Shape, End, unmatched_bytes, Branch, Byte, Digits, UpTo, Fraction, Separator, TwoNumbers, ToSeconds, offset_digits, signed_offset, time_offset, moment, ParsesDigits}
+use Rattle.cal_text.specs.Rfc3339Form.{IsSeparator, IsTimeOffset, sign_byte, HasMomentForm, HasFractionBefore, clock_digits}
+use Rattle.cal_text.specs.Shape.{Shape, unmatched_bytes, Branch, Byte, Digits, UpTo, Fraction, Separator, TwoNumbers, ToSeconds, offset_digits, time_offset, moment, ParsesDigits}
 use Rattle.cal_text.proofs.Decimals.{fraction-below}
-use Rattle.cal_text.proofs.DigitParts.{number_part}
-use Rattle.cal_text.proofs.NumberShapes.{IsEnd, end_shape}
-use Rattle.cal_text.proofs.Parts.{IsPart, Splits, HasAfter, HasEither, byte_part, both, last, after, either, retold, at_end}
+use Rattle.cal_text.proofs.DigitParts.{IsTwo, two_digits, number_part}
+use Rattle.cal_text.proofs.OffsetShapes.{ZoneOr, HasZoneOr, zone_or}
+use Rattle.cal_text.proofs.Parts.{IsPart, Splits, HasAfter, byte_part, one_byte, both, last, after, retold, at_end}
 use Rattle.cal_text.proofs.Positions.{IsShapeOf, AreShapesOf}
 use Rattle.cal_text.proofs.ReadDigits.{printed}
 use Rattle.cal_text.proofs.Stops.{IsIn, in_or_out, unmatched_bytes-in, unmatched_bytes-out, unmatched_bytes-end, unmatched_bytes-branch_in, unmatched_bytes-branch_out, unmatched_bytes-branch_end}
@@ -66,16 +66,10 @@ separator-only f (x ∷ xs) e =
 separator_one : (s t : ℕ) (r q : List ℕ) → s ∷ r ≡ t ∷ q → (s ≡ t) × (r ≡ q)
 separator_one s t r q e = (cc, cc)
 
-separator_part : IsPart IsSeparator (λ s. s ∷ []) Separator
+pub separator_part : IsPart IsSeparator (λ s. s ∷ []) Separator
 separator_part = record { each = separator-each; only = separator-only; one = λ s t r q _ _ e. separator_one s t r q e }
 
 -- ---- the offset
-abbrev IsTwo : ℕ → Type 0
-IsTwo n = (n < 100) × (n < 10 ^ 9)
-
-two_digits : IsPart IsTwo (digits_at_least 2) (Digits 2)
-two_digits = number_part 2 (lit≤ tt) (lit≤ tt)
-
 abbrev Pair : Type 0
 Pair = ℕ × (Unit {0} × ℕ)
 
@@ -85,82 +79,32 @@ IsPair bytes v = (IsTwo v.0 × (Unit {0} × IsTwo v.1.1)) × (bytes ≡ digits_a
 pair_shape : IsShapeOf IsPair offset_digits
 pair_shape = last _ _ _ (both _ _ _ _ _ _ two_digits (both _ _ _ _ _ _ (byte_part 58) two_digits))
 
-abbrev IsWest : List ℕ → Unit {0} × Pair → Type 0
-IsWest = HasAfter (λ u. Unit {0}) (λ u. 45 ∷ []) IsPair
-
-abbrev SignedPair : Type 0
-SignedPair = (ℕ × Pair) ⊎ (Unit {0} × Pair)
-
-abbrev IsSigned : List ℕ → SignedPair → Type 0
-IsSigned = HasEither 43 0 IsPair IsWest
-
-west-first : (x : ℕ) (xs : List ℕ) (v : Unit {0} × Pair) → IsWest (x ∷ xs) v → x ≡ 45
-west-first x xs v h = let e = h.bytes_are in cc
-
-signed-first : (x : ℕ) (xs : List ℕ) (v : SignedPair) → IsSigned (x ∷ xs) v → (43 ≤ x) × (x ≤ 45)
-signed-first x xs (inl v) h = let e = h.bytes_are in let first : x ≡ 43 + v.0 = cc in (omega (arith, first), omega (arith, first, h.valid))
-signed-first x xs (inr v) h = let first = west-first x xs v h in (omega (arith, first), omega (arith, first))
-
-signed_shape : IsShapeOf IsSigned signed_offset
-signed_shape =
-    either 43 0 IsPair _ IsWest _ pair_shape (after (λ (u : Unit {0}). Unit {0}) (λ u. 45 ∷ []) _ IsPair _ (byte_part 45) pair_shape)
-    (λ x xs v here h. omega (arith, here.1, west-first x xs v h))
-
-abbrev Offset : Type 0
-Offset = (ℕ × Unit {0}) ⊎ ((ℕ × Unit {0}) ⊎ SignedPair)
-
-abbrev IsLowerOr : List ℕ → (ℕ × Unit {0}) ⊎ SignedPair → Type 0
-IsLowerOr = HasEither 122 0 IsEnd IsSigned
-
-lower-first : (x : ℕ) (xs : List ℕ) (v : (ℕ × Unit {0}) ⊎ SignedPair) → IsIn 90 0 x → ¬ IsLowerOr (x ∷ xs) v
-lower-first x xs (inl v) here h = let e = h.bytes_are in let first : x ≡ 122 + v.0 = cc in omega (arith, here.1, first)
-lower-first x xs (inr v) here h = omega (arith, here.0, (signed-first x xs v h).1)
-
-abbrev IsOffset : List ℕ → Offset → Type 0
-IsOffset = HasEither 90 0 IsEnd IsLowerOr
-
-offset_shape : IsShapeOf IsOffset time_offset
-offset_shape =
-    either 90 0 IsEnd End IsLowerOr _ end_shape
-    (either 122 0 IsEnd End IsSigned _ end_shape signed_shape (λ x xs v here h. omega (arith, here.0, (signed-first x xs v h).1))) lower-first
-
-time_offset_of : Offset → TimeOffset
+time_offset_of : ZoneOr Pair → TimeOffset
 time_offset_of (inl v) = Utc
 time_offset_of (inr (inl v)) = Utc
-time_offset_of (inr (inr (inl v))) = Signed false v.1.0 v.1.1.1
-time_offset_of (inr (inr (inr v))) = Signed true v.1.0 v.1.1.1
+time_offset_of (inr (inr v)) = Signed v.0 v.1.0 v.1.1.1
 
-one_byte : (b d : ℕ) (bytes rest : List ℕ) → d ≤ 0 → bytes ≡ (b + d) ∷ rest → bytes ≡ b ∷ rest
-one_byte b d bytes rest none e = let same : b + d ≡ b = omega arith in e ∙ ap (λ x. x ∷ rest) same
-
-there : (bytes : List ℕ) (v : Offset) → IsOffset bytes v → IsTimeOffset bytes (time_offset_of v)
+there : (bytes : List ℕ) (v : ZoneOr Pair) → HasZoneOr IsPair bytes v → IsTimeOffset bytes (time_offset_of v)
 unfolding time_offset_of
 there bytes (inl v) h = inl (one_byte 90 v.0 bytes h.rest h.valid h.bytes_are ∙ ap (λ r. 90 ∷ r) h.has)
 there bytes (inr (inl v)) h = inr (one_byte 122 v.0 bytes h.rest h.valid h.bytes_are ∙ ap (λ r. 122 ∷ r) h.has)
-there bytes (inr (inr (inl v))) h =
-    (h.has.0.0.0, h.has.0.1.1.0, one_byte 43 v.0 bytes h.rest h.valid h.bytes_are ∙ ap (λ r. 43 ∷ r) h.has.1)
-there bytes (inr (inr (inr v))) h = (h.has.0.0.0, h.has.0.1.1.0, h.bytes_are ∙ ap (λ r. 45 ∷ r) h.has.1)
+there bytes (inr (inr v)) h = (h.has.0.0.0, h.has.0.1.1.0, h.bytes_are ∙ ap (λ r. sign_byte v.0 ∷ r) h.has.1)
 
 as_pair : (h m : ℕ) → h < 100 → m < 100 → IsPair (digits_at_least 2 h ++ 58 ∷ digits_at_least 2 m) (h, (tt, m))
 as_pair h m few low = (((few, omega arith), (tt, (low, omega arith))), refl)
 
-here : (bytes : List ℕ) (z : TimeOffset) → IsTimeOffset bytes z → (v : Offset) × IsOffset bytes v × (time_offset_of v ≡ z)
+here : (bytes : List ℕ) (z : TimeOffset) → IsTimeOffset bytes z → (v : ZoneOr Pair) × HasZoneOr IsPair bytes v × (time_offset_of v ≡ z)
 unfolding time_offset_of
 here bytes Utc (inl e) = (inl (0, tt), record { rest = []; valid = lit≤ tt; bytes_are = e; has = refl }, refl)
 here bytes Utc (inr e) = (inr (inl (0, tt)), record { rest = []; valid = lit≤ tt; bytes_are = e; has = refl }, refl)
-here bytes (Signed false h m) is = (
-  inr (inr (inl (0, (h, (tt, m))))),
-  record { rest = digits_at_least 2 h ++ 58 ∷ digits_at_least 2 m; valid = lit≤ tt; bytes_are = is.2; has = as_pair h m is.0 is.1 },
-  refl,
-)
-here bytes (Signed true h m) is = (
-  inr (inr (inr (tt, (h, (tt, m))))),
+here bytes (Signed is_west h m) is = (
+  inr (inr (is_west, (h, (tt, m)))),
   record { rest = digits_at_least 2 h ++ 58 ∷ digits_at_least 2 m; valid = tt; bytes_are = is.2; has = as_pair h m is.0 is.1 },
   refl,
 )
 
 time_offset_shape : IsShapeOf IsTimeOffset time_offset
-time_offset_shape = retold IsOffset time_offset IsTimeOffset offset_shape time_offset_of there here
+time_offset_shape = retold (HasZoneOr IsPair) time_offset IsTimeOffset (zone_or IsPair offset_digits pair_shape) time_offset_of there here
 
 -- no offset begins with what a fraction has
 pub offset-first : (x : ℕ) (xs : List ℕ) (z : TimeOffset) → IsIn 46 11 x → ¬ IsTimeOffset (x ∷ xs) z

@@ -1,7 +1,7 @@
 -- Parts of a text, and whole texts, that a shape describes: how they are put together.
 use Rattle.std.proofs.Common.{◌≡◌, ℕ, ◌+◌, ◌-◌, ◌≤◌, ◌⊎◌, inl, inr, List, [], ◌∷◌, ◌++◌, refl, sym, ap, subst, ◌∙◌, arith, lit≤}
 use Rattle.std.proofs.lemmas.List.{append_assoc, append-nil}
-use Rattle.cal_text.specs.Shape.{Shape, End, ByteRange, Branch, unmatched_bytes, Byte}
+use Rattle.cal_text.specs.Shape.{GoesPast, Shape, End, ByteRange, Branch, unmatched_bytes, Byte}
 use Rattle.cal_text.specs.Position.{HasSome}
 use Rattle.cal_text.proofs.Positions.{IsShapeOf}
 use Rattle.cal_text.proofs.Stops.{IsIn, unmatched_bytes-in, unmatched_bytes-out, unmatched_bytes-end, unmatched_bytes-branch_in, unmatched_bytes-branch_out, unmatched_bytes-branch_end, unmatched_bytes-done, unmatched_bytes-more, in_or_out}
@@ -101,6 +101,9 @@ renamed Valid text part Valid' text' p into there here = record {
 -- a byte that is given has no value
 plus_none : (b d : ℕ) → d ≤ 0 → (b + d) ∷ [] ≡ b ∷ []
 plus_none b d h = let same : b + d ≡ b = omega arith in ap (λ x. x ∷ []) same
+
+pub one_byte : (b d : ℕ) (bytes rest : List ℕ) → d ≤ 0 → bytes ≡ (b + d) ∷ rest → bytes ≡ b ∷ rest
+one_byte b d bytes rest none e = let same : b + d ≡ b = omega arith in e ∙ ap (λ x. x ∷ rest) same
 
 pub byte_part : (b : ℕ) → IsPart {V = Unit {0}} (λ _. Unit {0}) (λ _. b ∷ []) (Byte b)
 byte_part b = renamed (λ d. d ≤ 0) (λ d. (b + d) ∷ []) (ByteRange b 0) (λ _. Unit {0}) (λ _. b ∷ []) (from_part b 0) (λ (d : ℕ). tt)
@@ -215,6 +218,18 @@ after {V} {W} Valid text part Has f p q = record {
       let front = p.one v.0 w.0 a.rest b.rest a.valid b.valid (sym a.bytes_are ∙ b.bytes_are) in
       same_pair V W v w front.0 (q.one b.rest v.1 w.1 (subst (λ rest. Has rest v.1) front.1 a.has) b.has);
 }
+
+-- a form, and then the rest of a text
+pub record HasThen {V W : Type 0} (Has : List ℕ → V → Type 0) (Others : List ℕ → W → Type 0) (bytes : List ℕ) (v : V × W) : Type 0 where
+  pub front : List ℕ
+  pub rest : List ℕ
+  pub first : Has front v.0
+  pub bytes_are : bytes ≡ front ++ rest
+  pub others : Others rest v.1
+
+-- what a scanner went past, before the end
+pub put_whole : {V : Type 0} (Has : List ℕ → V → Type 0) (v : V) (old new : List ℕ) → GoesPast (λ bytes. Has bytes v) old new → new ≡ [] → Has old v
+put_whole Has v old new h end = subst (λ all. Has all v) (sym (at_end old h.front new h.bytes_are end)) h.is
 
 -- A branch: a byte of the range and a text of the first form, or a text of the second form, which
 -- doesn't begin with such a byte.

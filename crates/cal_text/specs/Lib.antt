@@ -6,5 +6,9 @@ pub mod ErrorText
 pub mod JulianForm
 pub mod Rfc3339
 pub mod Rfc3339Form
+pub mod TimeForm
+pub mod OffsetForm
+pub mod PlainForm
+pub mod OffsetDateTimeForm
 pub mod UnixText
 pub mod AnyForm

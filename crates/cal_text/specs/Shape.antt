@@ -38,6 +38,12 @@ Branches low above old new r =
 abbrev pub ScansWhole : {V : Type 0} → Shape → List ℕ → List ℕ → Option V → Type 0
 ScansWhole f old new r = MatchOption r (unmatched_bytes f old ≡ suc (length new)) (λ _. unmatched_bytes f old ≡ 0)
 
+-- The parser went past bytes of this kind.
+pub record GoesPast (Is : List ℕ → Type 0) (old new : List ℕ) : Type 0 where
+  pub front : List ℕ
+  pub is : Is front
+  pub bytes_are : old ≡ front ++ new
+
 -- The parser went past `count` digits, which spell n.
 pub record ParsesDigits (old new : List ℕ) (count n : ℕ) : Type 0 where
   pub digits : List ℕ
@@ -137,20 +143,27 @@ Year f = Branch 43 0 (YearAfterPlus f) (Unsigned f)
 
 -- ---- forms
 -- A week and a weekday.
-abbrev pub week_date : Shape
-week_date = Digits 2 (Byte 45 (ByteRange 49 6 End))
+abbrev pub WeekDate : Shape → Shape
+WeekDate f = Digits 2 (Byte 45 (ByteRange 49 6 f))
 
 -- A month and a day of the month, or an ordinal.
-abbrev pub month_or_ordinal : Shape
-month_or_ordinal = Digits 2 (Branch 45 0 (Digits 2 End) (Digits 1 End))
+abbrev pub MonthOrOrdinal : Shape → Shape
+MonthOrOrdinal f = Digits 2 (Branch 45 0 (Digits 2 f) (Digits 1 f))
 
 -- The bytes after a year: W, a week and a weekday, or a month and a day, or an ordinal.
-abbrev pub after_year : Shape
-after_year = Branch 87 0 week_date month_or_ordinal
+abbrev pub AfterYear : Shape → Shape
+AfterYear f = Branch 87 0 (WeekDate f) (MonthOrOrdinal f)
 
 -- A calendar, ordinal or week date.
+abbrev pub Date : Shape → Shape
+Date f = Year (AfterYear f)
+
+-- The same at the end of a text.
+abbrev pub after_year : Shape
+after_year = AfterYear End
+
 abbrev pub date : Shape
-date = Year after_year
+date = Date End
 
 -- Zero, or a number above 0 of at most nine digits without leading zeros.
 abbrev pub natural : Shape
@@ -176,10 +189,35 @@ seconds_above_0 = Branch 48 0 (Byte 46 (SomeUpTo 8 End)) from_one
 abbrev pub unix_time : Shape
 unix_time = Byte 64 (Branch 45 0 seconds_above_0 seconds)
 
+-- ---- a time of day
+-- One or two digits of the hour.
+abbrev pub Hour : Shape → Shape
+Hour f = Digits 1 (UpTo 1 f)
+
+-- Nothing, or a colon, a second, and a fraction of at most nine digits.
+abbrev pub AfterMinute : Shape → Shape
+AfterMinute f = Branch 58 0 (Digits 2 (Fraction 8 f)) f
+
+-- An hour, a minute, and optionally a second.
+abbrev pub Time : Shape → Shape
+Time f = Hour (Byte 58 (Digits 2 (AfterMinute f)))
+
+-- A time of day alone.
+abbrev pub time : Shape
+time = Time End
+
 -- ---- a moment
 -- T, t or a space.
 abbrev pub Separator : Shape → Shape
 Separator f = Branch 84 0 f (Branch 116 0 f (Byte 32 f))
+
+-- A date, a separator, and a time of day.
+abbrev pub Plain : Shape → Shape
+Plain f = Date (Separator (Time f))
+
+-- The same at the end of a text.
+abbrev pub plain : Shape
+plain = Plain End
 
 -- Two numbers of two digits, each after the byte b.
 abbrev pub TwoNumbers : ℕ → Shape → Shape
@@ -209,3 +247,24 @@ moment more = ToSeconds (Fraction more time_offset)
 -- the length of the text.
 abbrev pub ScansLarge : {V : Type 0} → (ℕ → Shape) → List ℕ → List ℕ → Option V → Type 0
 ScansLarge f old new r = (more : ℕ) → length old ≤ more → ScansWhole (f more) old new r
+
+-- ---- an offset
+-- The bytes after the hours and the minutes: none, or a colon and seconds.
+abbrev pub after_minutes : Shape
+after_minutes = Branch 58 0 (Digits 2 End) End
+
+-- A sign, hours and minutes, and optionally seconds.
+abbrev pub signed_numbers : Shape
+signed_numbers = Sign (Digits 2 (Byte 58 (Digits 2 after_minutes)))
+
+-- Z, z, or a sign and numbers.
+abbrev pub offset : Shape
+offset = Branch 90 0 End (Branch 122 0 End signed_numbers)
+
+-- An optional space, and an offset.
+abbrev pub spaced_offset : Shape
+spaced_offset = Branch 32 0 offset offset
+
+-- A date-time, an optional space, and an offset.
+abbrev pub offset_date_time : Shape
+offset_date_time = Plain spaced_offset

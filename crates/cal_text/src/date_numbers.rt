@@ -2,7 +2,7 @@
 
 mod parsing;
 
-pub(crate) use parsing::parse_numbers;
+pub(crate) use parsing::{parse_numbers, scan_date};
 
 /// The numbers of a date in text, by its form. They need not be in range.
 #[derive(Clone, Copy)]

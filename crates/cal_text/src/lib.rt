@@ -11,8 +11,12 @@ mod error;
 mod fraction;
 pub mod julian_day;
 mod laws;
+pub mod offset;
+pub mod offset_date_time;
+pub mod plain;
 pub mod rfc3339;
 mod scanner;
+pub mod time;
 pub mod unix;
 mod year;
 

@@ -18,7 +18,7 @@ mod from_numbers;
 mod numbers;
 mod text;
 
-pub(crate) use form::is_separator;
+pub(crate) use form::{is_separator, scan_separator};
 pub use text::Text;
 
 /// Parses a moment of RFC 3339, such as `2024-02-29T23:59:59.25+01:00`.

@@ -4,3 +4,4 @@ pub mod PosixError
 pub mod Header
 pub mod Types
 pub mod File
+pub mod ErrorText

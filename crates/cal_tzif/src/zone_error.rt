@@ -1,7 +1,9 @@
 //! Errors in the bytes of a time zone.
-ghost use Rattle.std.specs.Prelude.{◌≡◌};
+ghost use Rattle.std.specs.Prelude.{◌≡◌, ◌≤◌, Some, length};
+ghost use Rattle.cal_tzif.specs.ErrorText.{change_reason, timeline_reason, reason, error_text};
 
-use cal_zone::TimelineError;
+use cal_zone::{ChangeError, TimelineError};
+use std::fmt;
 
 /// A kind of error in the bytes of a time zone.
 #[derive(Clone, Copy, Debug, PartialEq, Eq)]
@@ -45,7 +47,8 @@ pub enum ZoneErrorKind {
     Trailing,
 }
 
-/// An error in the bytes of a time zone, with the position of the first byte that is wrong.
+/// An error in the bytes of a time zone, with the position of the first byte that is wrong. It
+/// prints, for example, `invalid POSIX offset at 3`.
 #[derive(Clone, Copy, Debug, PartialEq, Eq)]
 pub struct ZoneError {
     /// The kind of the error.
@@ -55,6 +58,33 @@ pub struct ZoneError {
 }
 
 impl ZoneErrorKind {
+    /// Returns the reason of the error, at most 26 bytes. For `Daylight` it is
+    /// `invalid local time type`.
+    pub fn reason(self) -> &'static str
+        ensures value { result.now ≡ reason self }
+        ensures max_length { length result.now ≤ 26 }
+    {
+        match self {
+            ZoneErrorKind::Truncated => "unexpected end",
+            ZoneErrorKind::Magic => "not a zone file",
+            ZoneErrorKind::Version => "unsupported version",
+            ZoneErrorKind::LeapSeconds => "leap seconds",
+            ZoneErrorKind::NoType => "missing local time type",
+            ZoneErrorKind::TypeIndex => "invalid type index",
+            ZoneErrorKind::Offset | ZoneErrorKind::Daylight => "invalid local time type",
+            ZoneErrorKind::NameIndex | ZoneErrorKind::NotAscii | ZoneErrorKind::Name => {
+                "invalid abbreviation"
+            }
+            ZoneErrorKind::Timeline(error) => timeline_reason(error),
+            ZoneErrorKind::Newline => "missing newline",
+            ZoneErrorKind::PosixOffset => "invalid POSIX offset",
+            ZoneErrorKind::Day => "invalid day of a rule",
+            ZoneErrorKind::Time => "invalid time of a rule",
+            ZoneErrorKind::Months => "months of a rule too close",
+            ZoneErrorKind::Trailing => "trailing bytes",
+        }
+    }
+
     /// Returns the error of this kind at a position.
     pub(crate) fn at(self, position: usize) -> ZoneError
         ensures { result ≡ record { kind = self; position = position } }
@@ -63,5 +93,34 @@ impl ZoneErrorKind {
             kind: self,
             position,
         }
+    }
+}
+
+fn timeline_reason(error: TimelineError) -> &'static str
+    ensures value { result.now ≡ timeline_reason error }
+    ensures max_length { length result.now ≤ 26 }
+{
+    match error {
+        TimelineError::Change(error) => change_reason(error),
+        TimelineError::Junction => "overlapping changes",
+    }
+}
+
+fn change_reason(error: ChangeError) -> &'static str
+    ensures value { result.now ≡ change_reason error }
+    ensures max_length { length result.now ≤ 26 }
+{
+    match error {
+        ChangeError::FirstOffset | ChangeError::Offset(_) => "invalid local time type",
+        ChangeError::Instant(_) | ChangeError::NotRising(_) => "changes out of order",
+        ChangeError::Overlap(_) => "overlapping changes",
+    }
+}
+
+impl fmt::Display for ZoneError {
+    ghost output = { λ e. Some (error_text e) };
+
+    fn fmt<W: fmt::Write>(&self, f: &mut fmt::Formatter<W>) -> fmt::Result {
+        write!(f, "{} at {}", self.kind.reason(), self.position)
     }
 }

@@ -1,9 +1,9 @@
 //! Parsing the form of a date.
-ghost use Rattle.std.specs.Prelude.{◌≡◌, ◌∷◌, IfSome, IfOk, IfErr, Ok};
+ghost use Rattle.std.specs.Prelude.{◌≡◌, IfSome, IfOk, IfErr, Ok};
 ghost use Rattle.cal_text.specs.declared.date_numbers.DateNumbers.{DateNumbers};
-ghost use Rattle.cal_text.specs.DateForms.{IsPrintableYear, form_year, form_rest, DigitsFit, HasForm};
+ghost use Rattle.cal_text.specs.DateForms.{HasForm};
 ghost use Rattle.cal_text.specs.Position.{HasSome, IsPosition};
-ghost use Rattle.cal_text.specs.Shape.{ScansWhole, week_date, month_or_ordinal, after_year, date};
+ghost use Rattle.cal_text.specs.Shape.{Scans, ScansWhole, GoesPast, Date, date};
 
 use crate::date_numbers::DateNumbers;
 use crate::scanner::Scanner;
@@ -28,35 +28,44 @@ pub(crate) fn parse_numbers(text: &[u8]) -> Result<DateNumbers, usize>
         }
     }
     scanner.rest = text;
-    match scan_date(&mut scanner) {
+    match scan_whole_date(&mut scanner) {
         Some(form) => Ok(form),
         None => Err(text.len() - scanner.rest.len()),
     }
 }
 
-/// Parses a year, a hyphen, and then a week and a weekday, a month and a day, or an ordinal.
-fn scan_date(scanner: &mut Scanner) -> Option<DateNumbers>
+/// Parses the numbers of a date up to the end of the text.
+fn scan_whole_date(scanner: &mut Scanner) -> Option<DateNumbers>
     ensures scans { ScansWhole date scanner.old.rest.now scanner.new.rest.now result }
     ensures value { IfSome result (HasForm scanner.old.rest.now) }
+{
+    let form = scan_date(scanner)?;
+    scanner.end()?;
+    Some(form)
+}
+
+/// Parses a year, a hyphen, and then a week and a weekday, a month and a day, or an ordinal.
+#[inline(always)]
+pub(crate) fn scan_date(scanner: &mut Scanner) -> Option<DateNumbers>
+    ensures scans { Scans Date scanner.old.rest.now scanner.new.rest.now result }
+    ensures value { IfSome result (λ form.
+        GoesPast (λ bytes. HasForm bytes form) scanner.old.rest.now scanner.new.rest.now) }
 {
     let year = scan_year(scanner)?;
     if let Some(()) = scanner.byte(b'W') {
         let week = scanner.two_digits()?;
         scanner.byte(b'-')?;
         let weekday = scanner.byte_from(b'1', 6)?;
-        scanner.end()?;
         return Some(DateNumbers::Week(year, week as u8, weekday - b'0'));
     }
     let front = scanner.two_digits()?;
     match scanner.byte(b'-') {
         Some(()) => {
             let day = scanner.two_digits()?;
-            scanner.end()?;
             Some(DateNumbers::Calendar(year, front as u8, day as u8))
         }
         None => {
             let last = scanner.digit()?;
-            scanner.end()?;
             Some(DateNumbers::Ordinal(year, (front * 10 + last) as u16))
         }
     }

@@ -35,7 +35,7 @@ pub(super) fn scan_numbers(scanner: &mut Scanner) -> Option<Numbers>
 
 /// Parses the byte between the date and the time.
 #[inline(always)]
-fn scan_separator(scanner: &mut Scanner) -> Option<()>
+pub(crate) fn scan_separator(scanner: &mut Scanner) -> Option<()>
     ensures scans { Scans Separator scanner.old.rest.now scanner.new.rest.now result }
     ensures value { IfSome result (λ _.
         (b : ℕ) × IsSeparator b × (scanner.old.rest.now ≡ b ∷ scanner.new.rest.now)) }
