@@ -99,8 +99,12 @@ impl<'a> ZonedSet<'a> {
     pub(crate) fn counted(&self) -> CountedZonedSet<'a>
         ensures { result ≡ self.now }
     {
+        let mut readings = self.readings.copy();
+        if !self.instants.is_empty() {
+            readings.rule.settle();
+        }
         let set = ZonedSet {
-            readings: self.readings.copy(),
+            readings,
             zone: self.zone,
             until: self.until,
             instants: self.instants,

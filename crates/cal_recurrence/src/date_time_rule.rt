@@ -106,7 +106,7 @@ impl DateTimeRule {
         ensures { self.new ≡ self.old }
     {
         let start = self.days.start;
-        if !self.days.contains(start) && self.days.next_after(start).is_none() {
+        if !self.has_no_day && !self.days.contains(start) && self.days.next_after(start).is_none() {
             self.has_no_day = true;
         }
     }
