@@ -1,15 +1,18 @@
 -- The next and the previous day of a set: the nearest one of a rule or a list that isn't left out.
-use Rattle.std.proofs.Common.{◌≡◌, ℕ, suc, ◌+◌, ◌-◌, refl, sym, ap, ◌∙◌, arith, Bool, true, false, ◌&&◌, not, ◌∷◌, filter, slice_get, Option, Some, None}
+use Rattle.std.proofs.Common.{◌≡◌, ℕ, suc, ◌+◌, ◌-◌, ◌<◌, ◌≤◌, inl, inr, refl, sym, ap, ◌∙◌, arith, Bool, true, false, ◌&&◌, not, ◌∷◌, filter, slice_get, Option, Some, None}
 use Rattle.std.specs.Prelude.{◌||◌, nat_le}
 use Rattle.std.specs.Ordering.{nat_cmp}
+use Rattle.std.proofs.lemmas.Bool.{cases_lt}
+use Rattle.std.proofs.lemmas.Bool.Decides.{nat_tests}
 use Rattle.cal_time.specs.Date.{last_day, IsDate}
 use Rattle.cal_time.specs.Occurrences.{days_from, days_back_from}
 use Rattle.cal_schedule.specs.Previous.{IsPreviousDay, is_previous_day, previous_day}
 use Rattle.cal_schedule.specs.Rule.{is_occurrence, occurrences_after, occurrences_before}
 use Rattle.cal_schedule.specs.Ranks.{from-no, from-yes}
+use Rattle.cal_schedule.specs.declared.rule.rule.Rule.{Rule}
 use Rattle.cal_recurrence.specs.Nearest.{is_past, IsFirstPast, IsNearest}
-use Rattle.cal_recurrence.specs.Sets.{is_in_set, is_listed, set_days_after, set_days_from, set_days_left}
-use Rattle.cal_recurrence.specs.TimeSearch.{IsFirst, IsNext}
+use Rattle.cal_recurrence.specs.Sets.{is_in_set, is_listed, set_days_after, set_days_from, set_days_left, HasEnded}
+use Rattle.cal_recurrence.specs.TimeSearch.{IsFirst, IsNext, NoneIn}
 use Rattle.cal_recurrence.specs.declared.set.RecurrenceSet.{RecurrenceSet}
 use Rattle.cal_recurrence.proofs.FirstNumbers.{first-in_list, first-of_list, list-first, list-none}
 use Rattle.cal_recurrence.proofs.NearestValues.{Leaves, after, before, is-after, is-before, up_to, within}
@@ -44,6 +47,33 @@ of-previous test n (Some x) h = record {
 pub is_nearest_before : (test : ℕ → Bool) (n : ℕ) (r : Option ℕ) → IsNearest (is_past nat_cmp false) test n r → r ≡ slice_get (filter test (days_back_from n)) 0
 is_nearest_before test n None none = is_previous_day test n None (λ k less. none k (before n k less))
 is_nearest_before test n (Some x) h = is_previous_day test n (Some x) (is-before n x h.beyond, h.passes, λ k late less. h.none_between k (before n k less) (before k x late))
+
+-- ---- the end of a rule
+pub has_ended : (rule : Rule) (n : ℕ) → None ≡ slice_get (occurrences_after rule n) 0 → HasEnded rule n
+has_ended rule n none = next_day (is_occurrence rule) n None none
+
+pub no_later_day : (rule : Rule) (n : ℕ) → HasEnded rule n → None ≡ slice_get (occurrences_after rule n) 0
+no_later_day rule n over = is_next_day (is_occurrence rule) n None over
+
+pub stays-ended : (rule : Rule) (n k : ℕ) → n ≤ k → HasEnded rule n → HasEnded rule k
+stays-ended rule n k later over = λ i low high. over i (omega (arith, later, low)) high
+
+-- A rule has no days if it has none at its start and after it.
+before-start : (rule : Rule) (n : ℕ) → n < rule.start → is_occurrence rule n ≡ false
+unfolding is_occurrence
+before-start rule n less = let late : nat_le rule.start n ≡ false = grind (arith, nat_tests, less) in rw late refl
+
+pub no_days : (rule : Rule) → is_occurrence rule rule.start ≡ false → None ≡ slice_get (occurrences_after rule rule.start) 0
+    → NoneIn (is_occurrence rule) 0 (last_day + 1)
+no_days rule here later k low high =
+    let after = has_ended rule rule.start later in
+    elim (cases_lt k rule.start) [
+      | inl less ↦ before-start rule k less
+      | inr past ↦ elim (cases_lt rule.start k) [
+        | inl more ↦ after k (omega (arith, more)) high
+        | inr most ↦ let same : rule.start ≡ k = omega (arith, past, most) in ap (is_occurrence rule) (sym same) ∙ here
+      ]
+    ]
 
 -- ---- the days of a set
 -- A day of the range that the rule has.

@@ -235,9 +235,9 @@ abbrev pub ranked : DateTimeParts → Rule
 ranked rule = with_positions rule (map (day_position (per_day rule)) rule.pattern.set_positions)
 
 -- The fields of a rule: its days are the days of its parts with the positions of days.
-pub days-are : (start : ℤ) (until : Option ℤ) (days : Rule) (times : TimesOfDay) (positions : List ℤ) (size : ℕ) → IsInside start until days times positions size
+pub days-are : (start : ℤ) (until : Option ℤ) (days : Rule) (times : TimesOfDay) (positions : List ℤ) (size : ℕ) (has : Bool) → IsInside start until days times positions size has
     → days ≡ ranked (parts_of start until days times positions)
-days-are start until days times positions size h =
+days-are start until days times positions size has h =
     h.days_are
     ∙ ap (λ ps. rule_of (record days.pattern { set_positions = ps }) (date_at start) (option_map date_at until)) h.ranks_are
     ∙ ap (λ s. rule_of (record days.pattern { set_positions = map (day_position s) positions }) (date_at start) (option_map date_at until)) h.count_is

@@ -5,6 +5,8 @@ use Rattle.std.specs.List.{list_any}
 use Rattle.cal_time.specs.Date.{last_day}
 use Rattle.cal_time.specs.Occurrences.{days_from, days_back_from}
 use Rattle.cal_schedule.specs.Rule.{is_occurrence}
+use Rattle.cal_schedule.specs.declared.rule.rule.Rule.{Rule}
+use Rattle.cal_recurrence.specs.TimeSearch.{NoneIn}
 use Rattle.cal_recurrence.specs.declared.set.RecurrenceSet.{RecurrenceSet}
 
 -- Day n is in a list.
@@ -14,6 +16,10 @@ is_listed days n = list_any (λ d. d == n) days
 -- Day n is a day of the rule or one of the other days, and isn't left out.
 unfoldable pub is_in_set : RecurrenceSet → ℕ → Bool
 is_in_set set n = (is_occurrence set.rule n || is_listed set.dates.now n) && not (is_listed set.exceptions.now n)
+
+-- The rule has no day after day n.
+abbrev pub HasEnded : Rule → ℕ → Type 0
+HasEnded rule n = NoneIn (is_occurrence rule) (n + 1) (last_day + 1)
 
 -- The days of the set from day n on, in ascending order.
 abbrev pub set_days_from : RecurrenceSet → ℕ → List ℕ

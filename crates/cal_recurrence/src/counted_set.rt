@@ -67,7 +67,11 @@ impl Recurrence {
         ensures dates { result.dates.now ≡ dates.now }
         ensures exceptions { result.exceptions.now ≡ exceptions.now }
     {
-        let (rule, left) = self.uncounted(start);
+        let (mut rule, left) = self.uncounted(start);
+        if !dates.is_empty() {
+            // A search for each of the other readings would search for a day of the rule again.
+            rule.settle();
+        }
         let set = DateTimeSet {
             rule,
             dates,

@@ -61,7 +61,7 @@ impl Recurrence {
         ensures instants { result.instants.now ≡ [] }
         ensures exceptions { result.exceptions.now ≡ [] }
     {
-        let (rule, left, until) = match self.end {
+        let (mut rule, left, until) = match self.end {
             RuleEnd::Until(DateOrTime::Utc(last)) => {
                 let rule = self.rule_until(start, None);
                 let left = rule.first_readings(0);
@@ -72,6 +72,9 @@ impl Recurrence {
                 (rule, left, None)
             }
         };
+        if !dates.is_empty() {
+            rule.settle();
+        }
         let readings = DateTimeSet {
             rule,
             dates,
@@ -96,8 +99,12 @@ impl<'a> ZonedSet<'a> {
     pub(crate) fn counted(&self) -> CountedZonedSet<'a>
         ensures { result ≡ self.now }
     {
+        let mut readings = self.readings.copy();
+        if !self.instants.is_empty() {
+            readings.rule.settle();
+        }
         let set = ZonedSet {
-            readings: self.readings.copy(),
+            readings,
             zone: self.zone,
             until: self.until,
             instants: self.instants,
@@ -117,7 +124,7 @@ impl<'a> CountedZonedSet<'a> {
     /// 2024-04-02 12:00 UTC and without 2024-03-31 1:30 UTC, it has 2024-03-30 2:30 +01:00:00 and
     /// 2024-04-02 12:00 UTC.
     pub fn with_instants(
-        self,
+        mut self,
         instants: &'a [OffsetDateTime],
         exceptions: &'a [OffsetDateTime],
     ) -> Self
@@ -127,6 +134,9 @@ impl<'a> CountedZonedSet<'a> {
         ensures instants { result.instants.now ≡ instants.now }
         ensures exceptions { result.exceptions.now ≡ exceptions.now }
     {
+        if !instants.is_empty() {
+            self.set.readings.rule.settle();
+        }
         let set = ZonedSet {
             readings: self.set.readings,
             zone: self.set.zone,

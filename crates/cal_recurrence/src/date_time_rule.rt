@@ -30,6 +30,8 @@ pub struct DateTimeRule {
     positions: Values<i16>,
     /// The number of times that pass in a day.
     per_day: u32,
+    /// `true` if a search found no day of the rule, `false` if it isn't known.
+    has_no_day: bool,
 }
 
 impl Model for DateTimeRule {
@@ -41,7 +43,7 @@ impl Model for DateTimeRule {
     ghost view = { λ rule. parts_of rule.start rule.until rule.days rule.times rule.positions };
 
     ghost invariant = { λ rule. IsInside rule.start rule.until rule.days rule.times rule.positions
-        rule.per_day };
+        rule.per_day rule.has_no_day };
 }
 
 impl DateTimeRule {
@@ -78,6 +80,7 @@ impl DateTimeRule {
             times,
             positions,
             per_day,
+            has_no_day: false,
         }
     }
 
@@ -92,6 +95,19 @@ impl DateTimeRule {
             times: self.times.copy(),
             positions: Values::from_slice(self.positions.as_slice(), 0),
             per_day: self.per_day,
+            has_no_day: self.has_no_day,
+        }
+    }
+
+    /// Searches for a day of the rule, and remembers if there is none. Without a day, each search
+    /// goes through the whole range, so this pays before more than one of them.
+    #[tactic(auto, using(crate::proofs::Sets::no_days))]
+    pub(crate) fn settle(&mut self)
+        ensures { self.new ≡ self.old }
+    {
+        let start = self.days.start;
+        if !self.has_no_day && !self.days.contains(start) && self.days.next_after(start).is_none() {
+            self.has_no_day = true;
         }
     }
 
@@ -101,6 +117,7 @@ impl DateTimeRule {
     {
         self.until = Some(last);
         self.days.until = Some(last.date());
+        self.has_no_day = false;
     }
 
     /// Returns the last possible reading, if there is one.
@@ -183,6 +200,9 @@ impl DateTimeRule {
         // Without this test, a rule whose times never match, such as `BYSECOND=60`, would go
         // through all days of the range.
         if self.per_day == 0 {
+            return None;
+        }
+        if self.has_no_day {
             return None;
         }
         let mut last = date;

@@ -23,12 +23,16 @@ pub struct DateTimeSet<'a> {
 }
 
 impl<'a> DateTimeSet<'a> {
-    /// Copies the set.
+    /// Copies the set, for more than one search.
     pub(crate) fn copy(&self) -> DateTimeSet<'a>
         ensures { result ≡ self.now }
     {
+        let mut rule = self.rule.copy();
+        if !self.dates.is_empty() {
+            rule.settle();
+        }
         DateTimeSet {
-            rule: self.rule.copy(),
+            rule,
             dates: self.dates,
             exceptions: self.exceptions,
         }

@@ -295,6 +295,35 @@ fn dates_after_an_end(rt: HostRuntime) {
     check_text(rt, text, &berlin, &rows);
 }
 
+/// Every seventh day from a Saturday is a Saturday, so the rule has no Monday, and only the values
+/// of `RDATE` are in the sets.
+#[test]
+fn rules_without_days(rt: HostRuntime) {
+    let rt = &rt;
+    let berlin = berlin(rt);
+    let rows = [
+        (1_704_708_000, 0),
+        (1_704_798_000, 3_600),
+        (1_704_884_400, 3_600),
+    ];
+    for text in [
+        "DTSTART;TZID=Europe/Berlin:20240106T090000\nRRULE:FREQ=DAILY;INTERVAL=7;BYDAY=MO\n\
+            RDATE;TZID=Europe/Berlin:20240110T120000,20240109T120000\nRDATE:20240108T100000Z",
+        "DTSTART;TZID=Europe/Berlin:20240106T090000\n\
+            RRULE:FREQ=DAILY;INTERVAL=7;BYDAY=MO;UNTIL=20250101T000000Z\n\
+            RDATE;TZID=Europe/Berlin:20240110T120000,20240109T120000\nRDATE:20240108T100000Z",
+        "DTSTART;TZID=Europe/Berlin:20240106T090000\n\
+            RRULE:FREQ=DAILY;INTERVAL=7;BYDAY=MO;COUNT=3\n\
+            RDATE;TZID=Europe/Berlin:20240110T120000,20240109T120000\nRDATE:20240108T100000Z",
+    ] {
+        check_text(rt, text, &berlin, &rows);
+    }
+    let text = "DTSTART;TZID=Europe/Berlin:20240106T090000\n\
+        RRULE:FREQ=DAILY;INTERVAL=7;BYDAY=MO\nRDATE:20240109T110000Z,20240108T100000Z";
+    let rows = [(1_704_708_000, 0), (1_704_798_000, 0)];
+    check_text(rt, text, &berlin, &rows);
+}
+
 /// A search counts only as far as it needs.
 #[test]
 fn long_counts(rt: HostRuntime) {

@@ -13,6 +13,6 @@ returns c =
       | then-contains w ↦ ap (set_days_left set) w.front-is ∙ from_here set date on.in_range (sym on.value ∙ w.if-contains.true)
       | else-contains w ↦
           ap (set_days_left set) w.front-is
-          ∙ from_next set date w.next_after-front.result on.in_range (sym on.value ∙ w.if-contains.false) w.next_after-front.ensures.value
+          ∙ from_next set date w.next_day-front.result on.in_range (sym on.value ∙ w.if-contains.false) w.next_day-front.ensures.value
     ] in
-    ap (λ rule. set_days_left (record { rule = rule; dates = set.dates; exceptions = set.exceptions }) c.if-contains.front) c.rule-rule.ensures ∙ front
+    ap (λ its. set_days_left its c.if-contains.front) c.copy-set.ensures ∙ front
