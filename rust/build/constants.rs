@@ -19,13 +19,13 @@ fn is_listed(krate: &str, owner: &str, name: &str) -> bool {
 }
 
 /// Makes a function `const` if it is listed.
-pub fn change(source: &Source, item: &Item, has_own_body: bool, edits: &mut Edits) {
+pub fn change(source: &Source, item: &Item, edits: &mut Edits) {
     if !is_listed(&source.krate, &item.owner, &item.name) {
         return;
     }
     let Some(function) = item.head.clone().find(|at| source.word(*at) == "fn") else { return };
     edits.insert(source.tokens[function].range.start, "const ");
-    for at in item.body.clone().filter(|_| has_own_body).unwrap_or_default() {
+    for at in item.body.clone().unwrap_or_default() {
         without_traits(source, item, at, edits);
     }
 }

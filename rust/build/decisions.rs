@@ -8,14 +8,14 @@ pub enum Decision {
     Panic(&'static str),
     /// Panics with the words of the function that the body calls.
     Calls(&'static str),
-    /// Panics with these words, by this body.
-    Body(&'static str, &'static str),
+    /// Panics with these words unless this expression is true.
+    Check(&'static str, &'static str),
     /// Needs no check: Rust can call each closure.
     Keep,
     /// Is visible in the crate only.
     Hide,
 }
-use Decision::{Body, Calls, Keep, Panic};
+use Decision::{Calls, Check, Keep, Panic};
 
 const NEW: &str = "overflow constructing a duration";
 const ADD: &str = "overflow when adding durations";
@@ -35,12 +35,12 @@ const DECISIONS: &[(&str, &str, Decision)] = &[
     ("CycleIter", "any_once", Keep),
     ("Rev", "all_once", Keep),
     ("Rev", "any_once", Keep),
-    ("SignedDuration", "new", Body(NEW, NEW_BODY)),
-    ("SignedDuration", "weeks", Body(NEW, "Self::seconds(weeks.checked_mul(SECONDS_PER_WEEK).expect(WORDS))")),
-    ("SignedDuration", "days", Body(NEW, "Self::seconds(days.checked_mul(SECONDS_PER_DAY).expect(WORDS))")),
-    ("SignedDuration", "hours", Body(NEW, "Self::seconds(hours.checked_mul(SECONDS_PER_HOUR).expect(WORDS))")),
-    ("SignedDuration", "minutes", Body(NEW, "Self::seconds(minutes.checked_mul(SECONDS_PER_MINUTE).expect(WORDS))")),
-    ("SignedDuration", "nanoseconds_i128", Body(NEW, NANOSECONDS_BODY)),
+    ("SignedDuration", "new", Check(NEW, "seconds.checked_add((nanoseconds / NANOSECONDS_PER_SECOND) as i64).is_some()")),
+    ("SignedDuration", "weeks", Check(NEW, "weeks.checked_mul(SECONDS_PER_WEEK).is_some()")),
+    ("SignedDuration", "days", Check(NEW, "days.checked_mul(SECONDS_PER_DAY).is_some()")),
+    ("SignedDuration", "hours", Check(NEW, "hours.checked_mul(SECONDS_PER_HOUR).is_some()")),
+    ("SignedDuration", "minutes", Check(NEW, "minutes.checked_mul(SECONDS_PER_MINUTE).is_some()")),
+    ("SignedDuration", "nanoseconds_i128", Check(NEW, IS_DURATION)),
     ("SignedDuration", "product", Panic(MULTIPLY)),
     ("SignedDuration", "quotient", Panic(DIVIDE)),
     ("Add for SignedDuration", "add", Panic(ADD)),
@@ -72,12 +72,9 @@ const DECISIONS: &[(&str, &str, Decision)] = &[
     ("OffsetDateTime", "to_utc", Panic(OFFSET)),
 ];
 
-const NEW_BODY: &str = "let seconds = seconds.checked_add((nanoseconds / NANOSECONDS_PER_SECOND) as i64).expect(WORDS); \
-    match Self::checked_new(seconds, nanoseconds % NANOSECONDS_PER_SECOND) { Some(duration) => duration, None => panic!(\"{}\", WORDS) }";
-
-const NANOSECONDS_BODY: &str = "let seconds = nanoseconds / NANOSECONDS_PER_SECOND as i128; \
-    if seconds < i64::MIN as i128 || seconds > i64::MAX as i128 { panic!(\"{}\", WORDS) } \
-    Self { seconds: seconds as i64, nanoseconds: (nanoseconds % NANOSECONDS_PER_SECOND as i128) as i32 }";
+/// The seconds fit in an `i64`.
+const IS_DURATION: &str = "nanoseconds / NANOSECONDS_PER_SECOND as i128 >= i64::MIN as i128 \
+    && nanoseconds / NANOSECONDS_PER_SECOND as i128 <= i64::MAX as i128";
 
 /// Functions with a condition that only the crate calls, by owner. Free functions have none.
 const HIDDEN: &[(&str, &[&str])] = &[

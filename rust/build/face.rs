@@ -174,8 +174,7 @@ fn function(source: &Source, item: &Item, definitions: &Definitions, edits: &mut
     }
     edits.insert(head.start, attributes);
     table(source, item, edits);
-    let has_own_body = !matches!(found, Some(Decision::Body(..)));
-    constants::change(source, item, has_own_body, edits);
+    constants::change(source, item, edits);
     Ok(())
 }
 
@@ -207,9 +206,8 @@ fn checked(source: &Source, item: &Item, found: Option<&Decision>, edits: &mut E
             edits.replace(start..start + call.len(), format!(".expect({words:?})"));
             Ok(Some(*words))
         }
-        Some(Decision::Body(words, code)) => {
-            let lines = "\n".repeat(source.part(body).matches('\n').count());
-            edits.replace(range, format!("{{ const WORDS: &str = {words:?}; {code}{lines}}}"));
+        Some(Decision::Check(words, condition)) => {
+            edits.insert(range.start + 1, format!(" if !({condition}) {{ panic!({words:?}) }}"));
             Ok(Some(*words))
         }
         Some(Decision::Calls(words)) => Ok(Some(*words)),
