@@ -1,5 +1,5 @@
-/* Times the cheapest functions, their inline forms, rows of columns, strings and zones beside an
- * empty loop. Prints the median in nanoseconds of processor time for each value. Nothing tests it. */
+/* Times the cheapest calls, their inline functions and the rows of columns beside a loop without a
+ * call. Prints the median in nanoseconds of processor time for each value. Nothing tests it. */
 #include <stdio.h>
 #include <stdlib.h>
 #include <string.h>
@@ -22,13 +22,6 @@ static fots_iso_week_date_result week_dates[VALUES];
 /* Columns. */
 static int32_t julian_days[VALUES], years[VALUES], found[VALUES];
 static uint8_t months[VALUES], month_days[VALUES], weeks[VALUES], weekdays[VALUES], statuses[VALUES];
-
-/* Instants of 2040 to 2400 in a zone, and their readings. */
-static fots_zone zone;
-static fots_moment moments[VALUES];
-static fots_text_result texts[VALUES];
-static int64_t instants[VALUES], readings[VALUES], resolved[VALUES];
-static int32_t zone_offsets[VALUES];
 
 /* Hides the number and the memory from the optimizer. */
 static void keep(int32_t number)
@@ -58,57 +51,6 @@ static void draw(void)
         calendars[k] = fots_date_to_calendar_date(dates[k]);
     }
     fots_dates_to_calendar_dates(julian_days, VALUES, years, VALUES, months, VALUES, month_days, VALUES, statuses, VALUES);
-}
-
-/* Fills in the zone, its instants, their readings and the strings of their moments. */
-static void draw_in_zone(void)
-{
-    const char *text = "CET-1CEST,M3.5.0,M10.5.0/3";
-    zone = fots_zone_from_posix(text, strlen(text)).zone;
-    for (int k = 0; k < VALUES; k++) {
-        instants[k] = 2208988800 + (int64_t)drawn() % 4294967296 * 2;
-        readings[k] = instants[k] + 3600;
-        moments[k] = fots_moment_in_zone(fots_moment_from_unix_timestamp(instants[k]).moment, &zone).moment;
-        texts[k] = fots_moment_text(moments[k].date, moments[k].time, moments[k].offset);
-    }
-}
-
-static void one_zone_offset(void)
-{
-    for (int k = 0; k < VALUES; k++) {
-        keep(fots_zone_offset(&zone, instants[k]).offset.seconds);
-    }
-}
-
-static void one_resolved(void)
-{
-    for (int k = 0; k < VALUES; k++) {
-        keep((int32_t)fots_zone_resolve(&zone, moments[k].date, moments[k].time).kind);
-    }
-}
-
-static void column_of_offsets(void)
-{
-    keep((int32_t)fots_zone_offsets(&zone, instants, VALUES, zone_offsets, VALUES, statuses, VALUES));
-}
-
-static void column_of_instants(void)
-{
-    keep((int32_t)fots_zone_instants(&zone, readings, VALUES, FOTS_COMPATIBLE, resolved, VALUES, statuses, VALUES));
-}
-
-static void one_moment_parsed(void)
-{
-    for (int k = 0; k < VALUES; k++) {
-        keep(fots_moment_parse(texts[k].bytes, texts[k].length).date.julian_day);
-    }
-}
-
-static void one_moment_text(void)
-{
-    for (int k = 0; k < VALUES; k++) {
-        keep((int32_t)fots_moment_text(moments[k].date, moments[k].time, moments[k].offset).length);
-    }
 }
 
 static void no_call(void)
@@ -187,22 +129,18 @@ static void column_of_calendar_to_week_dates(void)
         weekdays, VALUES, statuses, VALUES));
 }
 
-/* Loops over a call and over its inline function, which store each result. */
-#define PAIR(name, results, call, inlined) \
-    static void name##_called(void) \
+/* A loop over a call, which stores each result. */
+#define LOOP(name, results, call) \
+    static void name(void) \
     { \
         for (int k = 0; k < VALUES; k++) { \
             results[k] = call; \
         } \
         __asm__ volatile("" : : "r"(results) : "memory"); \
-    } \
-    static void name##_inlined(void) \
-    { \
-        for (int k = 0; k < VALUES; k++) { \
-            results[k] = inlined; \
-        } \
-        __asm__ volatile("" : : "r"(results) : "memory"); \
     }
+
+/* Loops over a call and over its inline function. */
+#define PAIR(name, results, call, inlined) LOOP(name##_called, results, call) LOOP(name##_inlined, results, inlined)
 
 PAIR(next_day, made, fots_date_next_day(dates[k]), fots_date_next_day_inline(dates[k]))
 PAIR(add_days, made, fots_date_add_days(dates[k], days[k]), fots_date_add_days_inline(dates[k], days[k]))
@@ -212,6 +150,77 @@ PAIR(calendar, shown, fots_date_to_calendar_date(dates[k]), fots_date_to_calenda
 PAIR(week, week_dates, fots_date_to_iso_week_date(dates[k]), fots_date_to_iso_week_date_inline(dates[k]))
 PAIR(date, made, fots_date_from_calendar_date(calendars[k].year, calendars[k].month, calendars[k].day),
     fots_date_from_calendar_date_inline(calendars[k].year, calendars[k].month, calendars[k].day))
+
+/* Calls with texts, formats, zones, working days and rules. */
+static char texts[VALUES * 10], printed[960];
+static int32_t bounds[VALUES + 1];
+static int64_t instants[VALUES];
+static int32_t moves[VALUES];
+static fots_format format;
+static fots_zone zone;
+static fots_workdays workdays;
+static fots_rule rule;
+static uint32_t sums[VALUES];
+
+/* Fills in what these calls take. */
+static void prepare(void)
+{
+    static const int8_t last = -1;
+    const char *rules = "CET-1CEST,M3.5.0,M10.5.0/3", *dates_as = "%d %B %Y, %A";
+    fots_date holidays[8];
+    for (int k = 0; k < VALUES; k++) {
+        memcpy(texts + 10 * k, fots_date_calendar_text(dates[k]).bytes, 10);
+        bounds[k] = 10 * k;
+        instants[k] = (int64_t)(drawn() % 4000000000U);
+        moves[k] = (int32_t)(drawn() % 400) - 200;
+    }
+    bounds[VALUES] = 10 * VALUES;
+    for (int k = 0; k < 8; k++) {
+        holidays[k].julian_day = 2460000 + 40 * k;
+    }
+    format = fots_format_new(dates_as, strlen(dates_as)).format;
+    zone = fots_zone_from_posix(rules, strlen(rules)).zone;
+    workdays = fots_workdays_new(FOTS_MONDAY_TO_FRIDAY, holidays, 8).workdays;
+    rule = fots_rule_new(dates[0], FOTS_MONTHLY);
+    rule.start.julian_day = 1721426;
+    rule.month_days = &last;
+    rule.month_days_length = 1;
+}
+
+LOOP(one_from_julian_day, made, fots_date_from_julian_day(julian_days[k]))
+LOOP(one_from_ordinal_date, made, fots_date_from_ordinal_date(calendars[k].year, 1 + calendars[k].day))
+LOOP(one_add_months, made, fots_date_add_months(dates[k], moves[k]))
+LOOP(one_months_until, sums, (uint32_t)fots_date_months_until(dates[k], dates[VALUES - 1 - k]).number)
+LOOP(one_quarter, numbers, fots_date_quarter(dates[k]))
+LOOP(one_parse, sums, (uint32_t)fots_date_parse(texts + 10 * k, 10).date.julian_day)
+LOOP(one_moment_text, sums, (uint32_t)fots_moment_text(dates[k], (fots_time)instants[k], (fots_offset){3600}).bytes[9])
+LOOP(one_moment_parse, sums, (uint32_t)fots_moment_parse("2024-02-29T23:59:59.25+01:00", 28).date.julian_day)
+LOOP(one_date_format, sums, (uint32_t)fots_date_format(dates[k], &format, printed, sizeof printed).length)
+LOOP(one_zone_offset, sums, (uint32_t)fots_zone_offset(&zone, instants[k]).offset.seconds)
+LOOP(one_zone_resolve, sums, fots_zone_resolve(&zone, dates[k], (fots_time)instants[k]).kind)
+LOOP(one_workdays_add, made, fots_workdays_add(&workdays, dates[k], moves[k]))
+LOOP(one_rule_next_after, made, fots_rule_next_after(&rule, dates[k]))
+
+static void column_of_added_months(void)
+{
+    keep((int32_t)fots_dates_add_months(julian_days, VALUES, moves, VALUES, found, VALUES, statuses, VALUES));
+}
+
+static void column_of_texts(void)
+{
+    keep((int32_t)fots_dates_parse(texts, 10 * VALUES, bounds, VALUES + 1, found, VALUES, statuses, VALUES));
+}
+
+static void column_of_zone_offsets(void)
+{
+    keep((int32_t)fots_zone_offsets(&zone, instants, VALUES, found, VALUES, statuses, VALUES));
+}
+
+static void column_of_zone_instants(void)
+{
+    static int64_t resolved[VALUES];
+    keep((int32_t)fots_zone_instants(&zone, instants, VALUES, FOTS_COMPATIBLE, resolved, VALUES, statuses, VALUES));
+}
 
 static const struct {
     const char *name;
@@ -229,12 +238,6 @@ static const struct {
     {"fots_dates_from_calendar_dates, a row", column_from_calendar_dates},
     {"fots_dates_to_iso_week_dates, a row", column_of_week_dates},
     {"fots_calendar_dates_to_iso_week_dates, a row", column_of_calendar_to_week_dates},
-    {"fots_zone_offset", one_zone_offset},
-    {"fots_zone_offsets, a row", column_of_offsets},
-    {"fots_zone_resolve", one_resolved},
-    {"fots_zone_instants, a row", column_of_instants},
-    {"fots_moment_parse", one_moment_parsed},
-    {"fots_moment_text", one_moment_text},
     {"fots_date_next_day, stored", next_day_called},
     {"the same inlined", next_day_inlined},
     {"fots_date_add_days, stored", add_days_called},
@@ -249,6 +252,23 @@ static const struct {
     {"the same inlined", week_inlined},
     {"fots_date_from_calendar_date, stored", date_called},
     {"the same inlined", date_inlined},
+    {"fots_date_from_julian_day", one_from_julian_day},
+    {"fots_date_from_ordinal_date", one_from_ordinal_date},
+    {"fots_date_add_months", one_add_months},
+    {"fots_date_months_until", one_months_until},
+    {"fots_date_quarter", one_quarter},
+    {"fots_date_parse", one_parse},
+    {"fots_moment_text", one_moment_text},
+    {"fots_moment_parse", one_moment_parse},
+    {"fots_date_format", one_date_format},
+    {"fots_zone_offset", one_zone_offset},
+    {"fots_zone_resolve", one_zone_resolve},
+    {"fots_workdays_add", one_workdays_add},
+    {"fots_rule_next_after", one_rule_next_after},
+    {"fots_dates_add_months, a row", column_of_added_months},
+    {"fots_dates_parse, a row", column_of_texts},
+    {"fots_zone_offsets, a row", column_of_zone_offsets},
+    {"fots_zone_instants, a row", column_of_zone_instants},
 };
 
 #define LOOPS ((int)(sizeof(loops) / sizeof(loops)[0]))
@@ -263,7 +283,7 @@ int main(void)
 {
     static double times[LOOPS][ROUNDS];
     draw();
-    draw_in_zone();
+    prepare();
     for (int round = 0; round < ROUNDS; round++) {
         for (int loop = 0; loop < LOOPS; loop++) {
             clock_t start = clock();
