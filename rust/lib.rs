@@ -166,7 +166,10 @@ pub mod schedule {
 
 /// Strings of dates and date-times.
 pub mod text {
-    pub use crate::cal_text::{DateForm, DateOrMoment, MomentForm, ParseError, date, julian_day, parse_any, rfc3339, unix};
+    pub use crate::cal_text::{
+        DateForm, DateOrMoment, MomentForm, ParseError, date, julian_day, offset, offset_date_time, parse_any, plain, rfc3339,
+        time, unix,
+    };
     pub use crate::cal_units::ShortText;
 }
 
