@@ -1,4 +1,4 @@
--- The errors of a moment.
+-- The errors of an offset and of a moment.
 use Rattle.std.proofs.Common.{◌≡◌, ◌⊎◌, ◌≤◌, ◌<◌, ◌↔◌, ℤ, Result, Ok, Err, IfErr, inl, inr}
 use Rattle.cal_time.specs.ComponentError.{FailsWith}
 use Rattle.cal_time.specs.UtcOffset.{offset_hour_out_of_range, offset_minute_out_of_range, offset_second_out_of_range}

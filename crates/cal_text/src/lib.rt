@@ -1,4 +1,5 @@
-//! Dates and moments in text: ISO 8601, Julian days, RFC 3339 and Unix times.
+//! Dates and moments in text: ISO 8601, Julian days, RFC 3339 and Unix times. Times of day, offsets
+//! and date-times in text.
 //!
 //! A text parses as a date exactly if the date prints it in one of the forms.
 #![tactic(auto)]
