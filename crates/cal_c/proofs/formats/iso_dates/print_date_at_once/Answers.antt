@@ -5,8 +5,8 @@ use Rattle.cal_c.specs.OnePass.{PrintsItems}
 use Rattle.cal_c.proofs.IsoDates.{usual-printed, printed-format}
 use Rattle.cal_c.proofs.formats.iso_dates.print_date_at_once.Goals as goal
 
-pub returns-clause-value : goal.returns-clause-value
-returns-clause-value c =
+pub returns-in-Some-clause-value : goal.returns-in-Some-clause-value
+returns-in-Some-clause-value c =
     let n = c.args.date in
     let old = c.args.buffer.now in
     let bytes = c.copy_from_slice.new.self in
