@@ -1,8 +1,9 @@
 //! Formats.
-ghost use Rattle.std.specs.Prelude.{◌≡◌, ℕ, ◌+◌, ◌<◌, ◌≤◌, ◌^◌, ◌++◌, ◌∷◌, ◌↔◌, List, [], Ok, ◌⊎◌, IsTrue, IfOk, OnOk, IfErr, length, get_or};
+ghost use Rattle.std.specs.Prelude.{◌≡◌, ℕ, ◌+◌, ◌<◌, ◌≤◌, ◌^◌, ◌++◌, ◌∷◌, ◌↔◌, List, [], Ok, Some, ◌⊎◌, IsTrue, IfOk, OnOk, IfErr, length, get_or};
 ghost use Rattle.cal_format.specs.declared.item.Item.{Item};
 ghost use Rattle.cal_format.specs.declared.item.Syntax.TheVariants.{Percent, Brackets};
 ghost use Rattle.cal_format.specs.declared.format.FormatError.TheVariants.{UnknownItem, TooLong};
+ghost use Rattle.cal_format.specs.ErrorText.{format_error_text};
 ghost use Rattle.cal_format.specs.Reading.{are_apart, show_within};
 ghost use Rattle.cal_format.specs.Format.{Spells, IsFaultOf, escape, spelled, front};
 
@@ -11,18 +12,31 @@ use crate::determines::are_apart;
 use crate::directive::{DIRECTIVES, Directive, front_in};
 use crate::item::{Item, Syntax};
 use crate::shown::Shown;
+use std::fmt;
 use std::marker::Model;
 
 /// The maximum number of items.
 const CAPACITY: usize = 64;
 
-/// An error: a text is not a format.
+/// An error: a text is not a format. It prints, for example, `unknown item at 3` or
+/// `too many items`.
 #[derive(Clone, Copy, Debug, PartialEq, Eq)]
 pub enum FormatError {
     /// The bytes from this position on, counted from 0, spell no item.
     UnknownItem(usize),
     /// The format has more than 64 items.
     TooLong,
+}
+
+impl fmt::Display for FormatError {
+    ghost output = { λ e. Some (format_error_text e) };
+
+    fn fmt<W: fmt::Write>(&self, f: &mut fmt::Formatter<W>) -> fmt::Result {
+        match self {
+            FormatError::UnknownItem(position) => write!(f, "unknown item at {position}"),
+            FormatError::TooLong => f.write_str("too many items"),
+        }
+    }
 }
 
 /// A format of texts: a list of items. Contracts see this list.
