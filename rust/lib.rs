@@ -150,8 +150,8 @@ pub mod recurrence {
     pub use crate::cal_recurrence::{
         CountedSet, CountedZonedSet, DateOrTime, DateTimeRule, DateTimeSet, DateTimeSetReadings, Occurrences, ParseRuleError,
         ParseRuleErrorKind, ParseSetError, ParseSetErrorKind, Recurrence, RecurrenceSet, RecurrenceSetDays, RecurrenceText,
-        RuleEnd, RulePart, RuleReadings, SetDays, SetInstants, SetLine, SetParts, SetReadings, TimesOfDay, ZoneName, ZonedSet,
-        fold, parse, parse_set, unfold,
+        RuleCount, RuleEnd, RulePart, RuleReadings, SetDays, SetInstants, SetLine, SetParts, SetReadings, TimesOfDay, ZoneName,
+        ZonedSet, fold, parse, parse_set, unfold,
     };
     pub use crate::schedule::{ByDay, Frequency, Pattern, Rule, RuleDays, Values};
 }

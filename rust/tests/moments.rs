@@ -217,8 +217,13 @@ fn texts() {
         ("2024-02-29", UnexpectedEnd(10)),
         ("2024-02-29 ", UnexpectedEnd(11)),
         ("2024-02 0:00:00", UnexpectedByte(7)),
-        ("2024-02-29 0:00", UnexpectedEnd(15)),
+        ("2024-02-29 0:0", UnexpectedEnd(14)),
     ];
+    let first = PlainDateTime::new("2024-02-29".parse().unwrap(), Time::MIDNIGHT);
+    for text in ["2024-02-29 0:00", "2024-02-29T00:00:00", "2024-W09-4t0:00:00.0"] {
+        assert_eq!(plain(text), first, "{text}");
+        assert_eq!(shows(moment(&format!("{text}Z"))), shows(moment(&format!("{text} +00:00"))));
+    }
     for (text, error) in
         unexpected.into_iter().chain([("2024-02-30 0:00:0x", UnexpectedByte(17)), ("2024-02-29 0:00:00 ", UnexpectedByte(18))])
     {
@@ -227,6 +232,7 @@ fn texts() {
     let unexpected = [
         ("2024-02-29", UnexpectedEnd(10)),
         ("2024-02-29 0:00:00.0 +1", UnexpectedEnd(23)),
+        ("2024-02-29T00:00:00.1234567891Z", UnexpectedByte(29)),
         ("2024-02-29  0:00:00 +01:00", UnexpectedByte(11)),
         ("2024-02-29 0:00:00.0 ", UnexpectedEnd(21)),
     ];

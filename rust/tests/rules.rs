@@ -8,7 +8,7 @@ use fotsevindre::Frequency::{Daily, Monthly, Weekly, Yearly};
 use fotsevindre::Month::{December, February, January, July, June, November};
 use fotsevindre::Weekday::{Friday, Monday, Saturday, Sunday, Thursday, Tuesday, Wednesday};
 use fotsevindre::error::TooManyValues;
-use fotsevindre::recurrence::{DateOrTime, ParseRuleError, ParseRuleErrorKind, RecurrenceSet, RuleEnd, RulePart, parse};
+use fotsevindre::recurrence::{DateOrTime, ParseRuleError, ParseRuleErrorKind, RecurrenceSet, RuleCount, RuleEnd, RulePart, parse};
 use fotsevindre::schedule::{Pattern, Values};
 use fotsevindre::{ByDay, Date, Duration, Frequency, Month, OffsetDateTime, PlainDateTime, Rule, Time, Zone};
 
@@ -77,7 +77,7 @@ fn parts() {
     assert_eq!((numbered.weeks.as_slice(), numbered.year_days.as_slice()), (&[1, -53][..], &[1, -366][..]));
     assert_eq!(numbered.set_positions.as_slice(), [2, -366]);
     let counted = parse(b"FREQ=MONTHLY;COUNT=6;BYDAY=-2MO").unwrap();
-    assert_eq!((counted.end, counted.rule(Date::MIN).until), (RuleEnd::Count(6), None));
+    assert_eq!((counted.end, counted.rule(Date::MIN).until), (RuleEnd::Count(RuleCount::new(6).unwrap()), None));
     let last = date(1998_02_16);
     assert_eq!(counted.days(date(1997_09_22)).next_back(), Some(last));
     assert_eq!(counted.rule(date(1997_09_22)).next_after(last), Some(date(1998_03_23)));
