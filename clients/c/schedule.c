@@ -866,6 +866,46 @@ static void long_counts(void)
     }
 }
 
+/* Every seventh day from a Saturday is no Monday, so only the other days are left. A search for a
+ * Monday takes as long as many thousand steps, and isn't made again for each of them. */
+static void rule_without_days(void)
+{
+    static const char text[] = "FREQ=DAILY;INTERVAL=7;BYDAY=MO", utc[] = "UTC0";
+    static fots_moment more[FOTS_MAX_DATES], found[FOTS_MAX_DATES + 1];
+    static fots_date dates[FOTS_MAX_DATES], days[FOTS_MAX_DATES + 1];
+    const fots_moment saturday = reading(1, 6, 9, 0);
+    for (int index = 0; index < FOTS_MAX_DATES; index++) {
+        more[index] = saturday;
+        more[index].date.julian_day += 3 * (FOTS_MAX_DATES - index);
+        dates[index] = more[index].date;
+    }
+    fots_recurrence_set set = set_of(text, saturday);
+    set.dates = more;
+    set.dates_length = FOTS_MAX_DATES;
+    const fots_zone zone = fots_zone_from_posix(utc, sizeof utc - 1).zone;
+    for (int turn = 0; turn < 2; turn++) {
+        is_written(turn == 0 ? fots_recurrence_readings(&set, saturday, found, COUNT(found)) : fots_recurrence_moments(&set, &zone, saturday, found, COUNT(found)),
+            FOTS_MAX_DATES, text);
+        for (int index = 0; index < FOTS_MAX_DATES; index++) {
+            check(is_moment(found[index], more[FOTS_MAX_DATES - 1 - index], 0), text, turn, index);
+        }
+    }
+    const fots_rule_weekday monday = {0, 1};
+    fots_rule rule = fots_rule_new(saturday.date, FOTS_DAILY);
+    rule.interval = 7;
+    rule.weekdays = &monday;
+    rule.weekdays_length = 1;
+    rule.dates = dates;
+    rule.dates_length = FOTS_MAX_DATES;
+    check(fots_rule_days_after(&rule, saturday.date, days, COUNT(days)).length == FOTS_MAX_DATES, text, 2, 0);
+    for (int index = 0; index < FOTS_MAX_DATES; index++) {
+        check(days[index].julian_day == dates[FOTS_MAX_DATES - 1 - index].julian_day, text, 2, index);
+    }
+    rule.exceptions = dates;
+    rule.exceptions_length = FOTS_MAX_DATES;
+    is_error(fots_rule_next_after(&rule, saturday.date), FOTS_RESULT_OUT_OF_RANGE, text);
+}
+
 /* From the last part to the first, each is wrong before the parts that are wrong already. */
 static void time_errors(void)
 {
@@ -941,6 +981,7 @@ int main(void)
     times_of_day();
     times_in_zones();
     long_counts();
+    rule_without_days();
     time_errors();
     invalid_dates();
     return ended("schedule");

@@ -95,10 +95,6 @@ pub first_given : (r : Option ℕ) (xs ys : List ℕ) → MatchOption r ((xs ≡
 first_given None xs ys h = ap (λ l. slice_get l 0) (sym h.0)
 first_given (Some x) xs ys h = ap (λ l. slice_get l 0) (sym h)
 
-pub none_first : (xs : List ℕ) → None ≡ slice_get xs 0 → xs ≡ []
-none_first [] e = refl
-none_first (x ∷ xs) e = absurd (cc)
-
 -- A list after its first i values.
 pub goes_on : {A : Type 0} (d : A) (ns xs : List A) (i : ℕ) (x : A) → i < length ns → drop i ns ≡ x ∷ xs → (get_or ns i d ≡ x) × (drop (i + 1) ns ≡ xs)
 goes_on d ns xs i x lt e = let same = drop-cons ns i d lt in (cc, rw (add-one) (cc))

@@ -1,5 +1,5 @@
 -- Sets of days by their rule and the values of their lists.
-use Rattle.std.proofs.Common.{◌≡◌, ℕ, ℤ, ◌+◌, ◌-◌, ap, refl, sym, subst, ◌∙◌, Bool, true, false, ◌&&◌, not, List, [], ◌∷◌, filter, slice_get, Some}
+use Rattle.std.proofs.Common.{◌≡◌, ℕ, ℤ, ◌+◌, ◌-◌, ap, refl, sym, subst, ◌∙◌, Bool, true, false, ◌&&◌, not, List, [], filter}
 use Rattle.std.specs.Prelude.{◌||◌}
 use Rattle.cal_time.specs.Date.{last_day}
 use Rattle.cal_time.specs.Occurrences.{days_from}
@@ -7,7 +7,6 @@ use Rattle.cal_schedule.specs.Rule.{is_occurrence, occurrences_after}
 use Rattle.cal_schedule.specs.declared.rule.rule.Rule.{Rule}
 use Rattle.cal_recurrence.specs.Sets.{is_in_set, is_listed, set_days_after}
 use Rattle.cal_recurrence.specs.declared.set.RecurrenceSet.{RecurrenceSet}
-use Rattle.cal_recurrence.proofs.Sets.{left_after}
 use Rattle.cal_c.specs.Recurrences.{AreDatesWritten}
 
 -- Two sets with the same rule and lists have the same days, wherever the lists are.
@@ -32,7 +31,3 @@ rule_days s n count old new dates exceptions =
 -- The set of a rule without other dates and exceptions has the days of the rule.
 pub in_rule : (s : RecurrenceSet) (rule : Rule) → rule ≡ s.rule → s.dates.now ≡ [] → s.exceptions.now ≡ [] → is_occurrence rule ≡ is_in_set s
 in_rule s rule is dates exceptions = ap is_occurrence is ∙ sym (only_rule s dates exceptions)
-
--- The days after a day, from the first of them on.
-pub after_next : (set : RecurrenceSet) (n x : ℕ) → Some x ≡ slice_get (set_days_after set n) 0 → set_days_after set n ≡ x ∷ set_days_after set x
-after_next set n x e = sym (left_after set n (Some x) e)

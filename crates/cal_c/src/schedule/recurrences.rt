@@ -121,13 +121,12 @@ pub extern "C" fn fots_rule_days_after(
 fn write_days(set: &RecurrenceSet<'_>, date: Date, days: &mut [i32]) -> usize
     ensures { AreDatesWritten (set_days_after set.now date) days.old days.new result }
 {
-    let mut last = date;
+    let mut walk = set.days_after(date);
     for index in 0..days.len() {
-        let Some(day) = set.next_after(last) else {
+        let Some(day) = walk.next() else {
             return index;
         };
         days[index] = day.to_julian_day();
-        last = day;
     }
     days.len()
 }

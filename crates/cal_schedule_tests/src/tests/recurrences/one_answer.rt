@@ -139,6 +139,12 @@ fn set_days_from<'a>(set: &RecurrenceSet<'a>, date: Date) -> Twice<RecurrenceSet
     twice!(set.days_from(date))
 }
 
+fn set_days_after<'a>(set: &RecurrenceSet<'a>, date: Date) -> Twice<RecurrenceSetDays<'a>>
+    ensures { result.0 ≡ result.1 }
+{
+    twice!(set.days_after(date))
+}
+
 fn set_days<'a>(set: &RecurrenceSet<'a>) -> Twice<RecurrenceSetDays<'a>>
     ensures { result.0 ≡ result.1 }
 {

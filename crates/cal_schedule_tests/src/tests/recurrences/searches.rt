@@ -280,6 +280,12 @@ fn sets(rt: HostRuntime) {
         set.days_from(day(rt, 2024_04_26)),
         &[2024_04_26, 2024_05_31, 2024_07_04],
     );
+    has_set_days(
+        rt,
+        set.days_after(day(rt, 2024_04_26)),
+        &[2024_05_31, 2024_07_04],
+    );
+    has_set_days(rt, set.days_after(day(rt, 2024_07_04)), &[]);
     for &(date, previous, next) in &[
         (2024_02_01, 0, 2024_02_23),
         (2024_02_02, 2024_02_01, 2024_02_23),

@@ -186,6 +186,42 @@ fn days_of_sets(rt: HostRuntime) {
     same(rt, walk.next(), None);
 }
 
+/// Every seventh day from a Saturday is a Saturday, so the rule has no Monday, and only the other
+/// values are in the sets.
+#[test]
+fn rules_without_days(rt: HostRuntime) {
+    let rt = &rt;
+    let rows = [
+        (2024_01_07, 9_30_00),
+        (2024_01_08, 10_00_00),
+        (2024_01_15, 12_00_00),
+        (2025_01_06, 9_00_00),
+    ];
+    for text in [
+        "DTSTART:20240106T090000\nRRULE:FREQ=DAILY;INTERVAL=7;BYDAY=MO\n\
+            RDATE:20240115T120000,20240109T090000,20240108T100000\n\
+            RDATE:20250106T090000,20240107T093000\nEXDATE:20240109T090000",
+        "DTSTART:20240106T090000\nRRULE:FREQ=DAILY;INTERVAL=7;BYDAY=MO;COUNT=3\n\
+            RDATE:20240107T093000,20240108T100000,20240115T120000,20250106T090000",
+    ] {
+        check_readings(rt, text, &rows);
+    }
+    let text = "DTSTART:20240106\nRRULE:FREQ=DAILY;INTERVAL=7;BYDAY=MO\n\
+        RDATE:20240115,20240109,20240107,20250106,20240109,20240108\nEXDATE:20240108";
+    let days = read_set(rt, text).days().expect(rt, "no set of days");
+    let set = days.set();
+    let (mut walk, mut later) = (set.days(), set.days_after(day(rt, 2024_01_09)));
+    for row in [2024_01_07, 2024_01_09] {
+        same_at(rt, row, walk.next(), Some(day(rt, row)));
+    }
+    for row in [2024_01_15, 2025_01_06] {
+        same_at(rt, row, walk.next(), Some(day(rt, row)));
+        same_at(rt, row, later.next(), Some(day(rt, row)));
+    }
+    same(rt, walk.next(), None);
+    same(rt, later.next(), None);
+}
+
 /// Sections 3.1 and 3.2 of RFC 5545: readers ignore parameters that they don't know, and a value in
 /// quotation marks can have `:`, `;` and `,`.
 #[test]

@@ -3,19 +3,17 @@ use Rattle.std.proofs.lemmas.Grind.{common_steps}
 use Rattle.std.proofs.lemmas.Int.{to_z-of_z}
 use Rattle.cal_time.specs.Date.{julian_day_at}
 use Rattle.cal_recurrence.specs.Sets.{set_days_after}
-use Rattle.cal_c.proofs.Recurring.{goes_on, kept_more, more_left, none_first, none_left, written_more}
-use Rattle.cal_c.proofs.RuleSets.{after_next}
+use Rattle.cal_c.proofs.Recurring.{goes_on, kept_more, more_left, none_left, written_more}
 use Rattle.cal_c.proofs.schedule.recurrences.write_days.Goals as goal
 
 pub loop-index-preserved : goal.loop-index-preserved
 loop-index-preserved c =
     let kept = c.loop-index.invariant in
-    let set = c.args.set.now in
-    let days = set_days_after set c.args.date in
+    let days = set_days_after c.args.set.now c.args.date in
     let index = c.loop-index.index in
-    let from = kept.left ∙ after_next set c.loop-index.last c.in-Some.day (sym c.in-Some.is ∙ c.next_after.ensures.value) in
-    let more = more_left days (set_days_after set c.in-Some.day) index c.in-Some.day from in
-    let on = goes_on 0 days (set_days_after set c.in-Some.day) index c.in-Some.day more from in
+    let from = kept.left ∙ c.in-Some.ensures.steps in
+    let more = more_left days c.next.new.self index c.in-Some.day from in
+    let on = goes_on 0 days c.next.new.self index c.in-Some.day more from in
     let fits : FitsSigned w32 c.to_julian_day.result = search rules in
     let here : to_z w32 (of_z w32 c.to_julian_day.result) ≡ julian_day_at (get_or days index 0) =
     simp to_z-of_z (c.to_julian_day.ensures.value ∙ ap julian_day_at (sym on.0)) in
@@ -31,7 +29,7 @@ pub returns-in_default : goal.returns-in_default
 returns-in_default c =
     let kept = c.loop-index.invariant in
     let days = set_days_after c.args.set.now c.args.date in
-    let end = none_left days c.loop-index.index (kept.left ∙ none_first _ (sym c.in_default.is ∙ c.next_after.ensures.value)) in
+    let end = none_left days c.loop-index.index (kept.left ∙ c.in_default.ensures.steps.0) in
     record { count_is = omega (arith, end); days = kept.written; others = kept.others }
 
 pub returns : goal.returns
