@@ -1,7 +1,7 @@
 """Dates, times of day, date-times, offsets from UTC, durations, months, weekdays, working days and
 recurrences.
 
-The names are those of the Rust crate `time`. The results come from a proved library, which is part
+The names come from the Rust crate `time`. The results come from a proved library, which is part
 of the compiled module `_core`.
 
     >>> from fotsevindre import Date, SignedDuration
@@ -56,6 +56,6 @@ __all__ += [
     "moments_texts", "dates_parse_format", "dates_format",
 ]
 
-# Names in errors and pickles are those of the package.
+# Errors and pickles name the package.
 for _name in __all__:
     globals()[_name].__module__ = __name__

@@ -80,9 +80,9 @@ def _file_of(key: str) -> bytes:
 class Zone:
     """Zone(key): a time zone of the IANA database, such as `Europe/Berlin`.
 
-    Its file is that of the package `tzdata`, if it is installed, else that of the folder in the
-    environment variable TZDIR or of /usr/share/zoneinfo. `LookupError` if there is none, and
-    `ZoneError` if it isn't a valid one. An instant is an `OffsetDateTime` or Unix seconds. `key` is
+    Its file comes from the package `tzdata`, if it is installed, else from the folder in the
+    environment variable TZDIR or from /usr/share/zoneinfo. `LookupError` if there is no such file,
+    and `ZoneError` if it isn't valid. An instant is an `OffsetDateTime` or Unix seconds. `key` is
     the name of the zone, or its POSIX text.
 
     >>> berlin = Zone.from_posix("CET-1CEST,M3.5.0,M10.5.0/3")
