@@ -10,6 +10,8 @@ use std::fmt::{Debug, Display};
 use std::process::Abort;
 
 mod any;
+mod clocks;
+mod date_times;
 mod moments;
 mod one_answer;
 mod unix_times;

@@ -3,7 +3,7 @@ use crate::tests::formats::{
     described, format, has_no_date, has_no_date_time, has_no_time, holds, is_date_text,
     is_date_time_text,
 };
-use crate::tests::{date_of, time_of};
+use crate::tests::{date_of, prints, time_of};
 use cal_datetime::PlainDateTime;
 use cal_format::{Format, FormatError};
 use cal_time::{Date, Month};
@@ -134,6 +134,12 @@ fn too_many_items(rt: HostRuntime) {
     let text = "------------------------------------------------------------%F";
     let error = Format::new(text).err();
     holds(rt, "65 items", error == Some(FormatError::TooLong));
+}
+
+#[test]
+fn texts_of_errors(rt: HostRuntime) {
+    prints(&rt, &FormatError::UnknownItem(3), "unknown item at 3");
+    prints(&rt, &FormatError::TooLong, "too many items");
 }
 
 /// Literal bytes, names, numbers and signs are counted by hand.

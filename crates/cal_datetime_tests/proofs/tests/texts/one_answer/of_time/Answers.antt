@@ -1,0 +1,13 @@
+use Rattle.cal_text.specs.TimeForm.{IsTimeText, HasTimeForm, IsTimeError}
+use Rattle.cal_text.specs.Position.{HasSome}
+use Rattle.cal_text.specs.Parsing.{HasError}
+use Rattle.cal_datetime_tests.proofs.OneTextAnswer.{one_answer}
+use Rattle.cal_datetime_tests.proofs.tests.texts.one_answer.of_time.Goals as goal
+
+pub returns : goal.returns
+returns c =
+    let text = c.args.text.now in
+    let r = c.parse.ensures in
+    let s = c.parse-2.ensures in
+    one_answer (IsTimeText text) (HasError HasTimeForm IsTimeError text) (HasSome HasTimeForm) text _ _ r.value s.value r.every s.every
+    r.syntax_error s.syntax_error r.out_of_range s.out_of_range r.position s.position
