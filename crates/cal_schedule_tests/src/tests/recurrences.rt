@@ -1,6 +1,6 @@
 //! Examples of RFC 5545 and of published calendars, and texts with errors.
 
-use cal_recurrence::{Recurrence, parse};
+use cal_recurrence::{Recurrence, RuleEnd, parse};
 use std::process::Abort;
 
 mod one_answer;
@@ -16,6 +16,14 @@ mod written;
 /// Parses the text.
 fn read(rt: &impl Abort, text: &str) -> Recurrence {
     parse(text.as_bytes()).expect(rt, text)
+}
+
+/// Returns the number of a `COUNT`, or 0 for another end.
+fn count_of(end: RuleEnd) -> u32 {
+    match end {
+        RuleEnd::Count(count) => count.get(),
+        RuleEnd::Never | RuleEnd::Until(_) => 0,
+    }
 }
 
 /// Checks a condition of the text.

@@ -1,10 +1,10 @@
 //! Recurrence sets in text, as in a calendar file. The days and readings are rows of `dateutil` 2.9.
-use crate::tests::recurrences::read;
+use crate::tests::recurrences::{count_of, read};
 use crate::tests::times_of_day::reading;
 use crate::tests::{day, same, same_at};
 use cal_recurrence::{
-    DateOrTime, ParseRuleError, ParseRuleErrorKind, ParseSetError, ParseSetErrorKind, RuleEnd,
-    RulePart, SetLine, SetParts, parse_set, unfold,
+    DateOrTime, ParseRuleError, ParseRuleErrorKind, ParseSetError, ParseSetErrorKind, RulePart,
+    SetLine, SetParts, parse_set, unfold,
 };
 use cal_time::Date;
 use std::process::Abort;
@@ -63,8 +63,7 @@ fn times(rt: HostRuntime) {
     let parts = read_set(rt, text);
     let start = reading(rt, (1997_09_02, 9_00_00));
     same(rt, parts.start, DateOrTime::Local(start));
-    let is_once = matches!(parts.recurrence.end, RuleEnd::Count(count) if count.get() == 1);
-    same(rt, is_once, true);
+    same(rt, count_of(parts.recurrence.end), 1);
     let mut walk = parts.recurrence.readings(start);
     same(rt, walk.next(), Some(start));
     same(rt, walk.next(), None);

@@ -1,5 +1,5 @@
 //! Texts with errors, texts in any case and order, and the fields of recurrences.
-use crate::tests::recurrences::{holds, read};
+use crate::tests::recurrences::{count_of, holds, read};
 use crate::tests::{date, same, same_at};
 use cal_datetime::{midnight, with_hms};
 use cal_recurrence::{
@@ -267,8 +267,7 @@ fn check_parts(rt: &impl Abort, text: &str) {
     let is_from_sunday = matches!(pattern.week_start, Weekday::Sunday);
     holds(rt, text, is_from_sunday);
     check_lists(rt, text, pattern);
-    let is_counted = matches!(recurrence.end, RuleEnd::Count(count) if count.get() == 12);
-    holds(rt, text, is_counted);
+    holds(rt, text, count_of(recurrence.end) == 12);
 }
 
 /// Checks the lists of the same pattern.
