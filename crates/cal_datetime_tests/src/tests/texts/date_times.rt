@@ -5,6 +5,7 @@ use cal_datetime::{OffsetDateTime, PlainDateTime};
 use cal_text::ParseError::{UnexpectedByte, UnexpectedEnd};
 use cal_text::{offset_date_time, plain};
 use cal_time::Month;
+use std::alloc::Global;
 use std::process::Abort;
 
 #[test]
@@ -147,12 +148,12 @@ fn texts_of_no_moment_at_an_offset(rt: HostRuntime) {
 }
 
 /// Fails unless the texts that a date-time prints, also at some offsets, parse as the same value.
-fn reads_printed(rt: &HostRuntime, local: PlainDateTime) {
-    let text = format!(in rt.alloc(); "{local}").expect(rt, "no memory");
+fn reads_printed(rt: &impl Abort, alloc: Global, local: PlainDateTime) {
+    let text = format!(in alloc; "{local}").expect(rt, "no memory");
     reads(rt, local, &plain::parse(text.as_bytes()), &Ok(local));
     for &(hours, minutes, seconds) in &[(0, 0, 0), (5, 30, 0), (0, 0, -1), (-25, -59, -59)] {
         let moment = local.assume_offset(offset_of(rt, hours, minutes, seconds));
-        let text = format!(in rt.alloc(); "{moment}").expect(rt, "no memory");
+        let text = format!(in alloc; "{moment}").expect(rt, "no memory");
         let found = parts_of(offset_date_time::parse(text.as_bytes()));
         reads(rt, local, &found, &parts_of(Ok(moment)));
     }
@@ -160,10 +161,10 @@ fn reads_printed(rt: &HostRuntime, local: PlainDateTime) {
 
 #[test]
 fn date_times_printed_and_read(rt: HostRuntime) {
-    reads_printed(&rt, PlainDateTime::MIN);
-    reads_printed(&rt, PlainDateTime::MAX);
+    reads_printed(&rt, rt.alloc(), PlainDateTime::MIN);
+    reads_printed(&rt, rt.alloc(), PlainDateTime::MAX);
     let leap_day = date_time(&rt, (2024, Month::February, 29), (9, 5, 0, 0));
-    reads_printed(&rt, leap_day);
+    reads_printed(&rt, rt.alloc(), leap_day);
     let first = date_time(&rt, (-1, Month::January, 1), (0, 0, 0, 1));
-    reads_printed(&rt, first);
+    reads_printed(&rt, rt.alloc(), first);
 }
