@@ -18,8 +18,13 @@ fn read(rt: &impl Abort, text: &str) -> Recurrence {
     parse(text.as_bytes()).expect(rt, text)
 }
 
+/// Returns the number of a recurrence's `COUNT`, or 0 without one.
+fn count_of(recurrence: &Recurrence) -> u32 {
+    count_in(recurrence.end)
+}
+
 /// Returns the number of a `COUNT`, or 0 for another end.
-fn count_of(end: RuleEnd) -> u32 {
+fn count_in(end: RuleEnd) -> u32 {
     match end {
         RuleEnd::Count(count) => count.get(),
         RuleEnd::Never | RuleEnd::Until(_) => 0,

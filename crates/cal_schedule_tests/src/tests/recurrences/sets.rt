@@ -63,7 +63,7 @@ fn times(rt: HostRuntime) {
     let parts = read_set(rt, text);
     let start = reading(rt, (1997_09_02, 9_00_00));
     same(rt, parts.start, DateOrTime::Local(start));
-    same(rt, count_of(parts.recurrence.end), 1);
+    same(rt, count_of(&parts.recurrence), 1);
     let mut walk = parts.recurrence.readings(start);
     same(rt, walk.next(), Some(start));
     same(rt, walk.next(), None);

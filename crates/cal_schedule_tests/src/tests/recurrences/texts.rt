@@ -267,7 +267,7 @@ fn check_parts(rt: &impl Abort, text: &str) {
     let is_from_sunday = matches!(pattern.week_start, Weekday::Sunday);
     holds(rt, text, is_from_sunday);
     check_lists(rt, text, pattern);
-    holds(rt, text, count_of(recurrence.end) == 12);
+    holds(rt, text, count_of(&recurrence) == 12);
 }
 
 /// Checks the lists of the same pattern.
