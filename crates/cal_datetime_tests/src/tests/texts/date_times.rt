@@ -161,10 +161,13 @@ fn reads_printed(rt: &impl Abort, alloc: Global, local: PlainDateTime) {
 
 #[test]
 fn date_times_printed_and_read(rt: HostRuntime) {
-    reads_printed(&rt, rt.alloc(), PlainDateTime::MIN);
-    reads_printed(&rt, rt.alloc(), PlainDateTime::MAX);
-    let leap_day = date_time(&rt, (2024, Month::February, 29), (9, 5, 0, 0));
-    reads_printed(&rt, rt.alloc(), leap_day);
-    let first = date_time(&rt, (-1, Month::January, 1), (0, 0, 0, 1));
-    reads_printed(&rt, rt.alloc(), first);
+    for &(date, clock) in &[
+        ((-999_999, Month::January, 1), (0, 0, 0, 0)),
+        ((-1, Month::January, 1), (0, 0, 0, 1)),
+        ((2024, Month::February, 29), (9, 5, 0, 0)),
+        ((999_999, Month::December, 31), (23, 59, 59, 999_999_999)),
+    ] {
+        let local = date_time(&rt, date, clock);
+        reads_printed(&rt, rt.alloc(), local);
+    }
 }
