@@ -219,6 +219,16 @@ static void is_sound(const uint8_t *bytes, size_t length)
     }
 }
 
+/* Checks that instants can be written onto their readings, in a gap and in a fold. */
+static void instants_in_place(const fots_zone *zone)
+{
+    int64_t column[] = {1711850400, 1711852200, 1729996200}, found[3];
+    uint8_t statuses[3];
+    fots_zone_instants(zone, column, 3, FOTS_COMPATIBLE, found, 3, statuses, 3);
+    fots_zone_instants(zone, column, 3, FOTS_COMPATIBLE, column, 3, statuses, 3);
+    check(memcmp(found, column, sizeof found) == 0, "instants in place", column[1], found[1]);
+}
+
 /* Makes all calls with a struct that no call made. Only the sanitizers can see an error. */
 static void is_safe(const fots_zone *zone)
 {
@@ -327,6 +337,7 @@ int main(int count, char **arguments)
     lenient();
     equal_bytes();
     const fots_zone berlin = posix(CET);
+    instants_in_place(&berlin);
     hostile_struct(&berlin);
     if (count > 1) {
         const size_t length = read_file(arguments[1]);
