@@ -54,14 +54,40 @@ impl Month {
     pub fn previous(self) -> Self
         ensures { (index result + 1) % 12 ≡ index self }
     {
-        nth_back_in(self, 1)
+        match self {
+            Month::January => Month::December,
+            Month::February => Month::January,
+            Month::March => Month::February,
+            Month::April => Month::March,
+            Month::May => Month::April,
+            Month::June => Month::May,
+            Month::July => Month::June,
+            Month::August => Month::July,
+            Month::September => Month::August,
+            Month::October => Month::September,
+            Month::November => Month::October,
+            Month::December => Month::November,
+        }
     }
 
     /// Returns the month after this one. The month after December is January.
     pub fn next(self) -> Self
         ensures { index result ≡ (index self + 1) % 12 }
     {
-        nth_in(self, 1)
+        match self {
+            Month::January => Month::February,
+            Month::February => Month::March,
+            Month::March => Month::April,
+            Month::April => Month::May,
+            Month::May => Month::June,
+            Month::June => Month::July,
+            Month::July => Month::August,
+            Month::August => Month::September,
+            Month::September => Month::October,
+            Month::October => Month::November,
+            Month::November => Month::December,
+            Month::December => Month::January,
+        }
     }
 
     /// Returns the month `n` months later. January comes after December.

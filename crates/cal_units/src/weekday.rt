@@ -37,14 +37,30 @@ impl Weekday {
     pub fn previous(self) -> Self
         ensures { (index result + 1) % 7 ≡ index self }
     {
-        nth_back_in(self, 1)
+        match self {
+            Weekday::Monday => Weekday::Sunday,
+            Weekday::Tuesday => Weekday::Monday,
+            Weekday::Wednesday => Weekday::Tuesday,
+            Weekday::Thursday => Weekday::Wednesday,
+            Weekday::Friday => Weekday::Thursday,
+            Weekday::Saturday => Weekday::Friday,
+            Weekday::Sunday => Weekday::Saturday,
+        }
     }
 
     /// Returns the weekday after this one. The weekday after Sunday is Monday.
     pub fn next(self) -> Self
         ensures { index result ≡ (index self + 1) % 7 }
     {
-        nth_in(self, 1)
+        match self {
+            Weekday::Monday => Weekday::Tuesday,
+            Weekday::Tuesday => Weekday::Wednesday,
+            Weekday::Wednesday => Weekday::Thursday,
+            Weekday::Thursday => Weekday::Friday,
+            Weekday::Friday => Weekday::Saturday,
+            Weekday::Saturday => Weekday::Sunday,
+            Weekday::Sunday => Weekday::Monday,
+        }
     }
 
     /// Returns the weekday `n` days later. `Weekday::Sunday.nth_next(10)` is Wednesday.
