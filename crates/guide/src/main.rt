@@ -17,6 +17,7 @@ mod printing;
 mod recurrences;
 mod sets;
 mod texts;
+mod times;
 mod walking;
 mod zones;
 
@@ -36,6 +37,7 @@ fn main(rt: HostRuntime) -> io::Result<()> {
     callers::show(&rt)?;
     days::show(&rt)?;
     texts::show(&rt)?;
+    times::show(&rt)?;
     bills::show(&rt)?;
     recurrences::show(&rt)?;
     sets::show(&rt)?;
