@@ -8,6 +8,7 @@ mod callers;
 mod clauses;
 mod components;
 mod constructors;
+mod counts;
 mod datetimes;
 mod days;
 mod errors;
@@ -40,6 +41,7 @@ fn main(rt: HostRuntime) -> io::Result<()> {
     times::show(&rt)?;
     bills::show(&rt)?;
     recurrences::show(&rt)?;
+    counts::show(&rt)?;
     sets::show(&rt)?;
     zones::show(&rt)?;
     arrival::main(rt)

