@@ -1144,6 +1144,31 @@ fots_parse_date_result fots_date_parse(const char *text, size_t length);
 /* Parses a Julian day, such as "J2460370" or "J-1". Error: FOTS_JULIAN_DAY_OUT_OF_RANGE. */
 fots_parse_date_result fots_julian_day_parse(const char *text, size_t length);
 
+/* Parses a time of day, such as "9:05" or "23:59:59.25": one or two digits of the hour, a colon, and
+ * two digits of the minute; then optionally a colon and two digits of the second; and then
+ * optionally a point and one to nine digits. Errors: FOTS_HOUR_OUT_OF_RANGE,
+ * FOTS_MINUTE_OUT_OF_RANGE, FOTS_SECOND_OUT_OF_RANGE (also 60). "9:05:" is FOTS_UNEXPECTED_END, and
+ * "24:00" FOTS_HOUR_OUT_OF_RANGE. */
+fots_parse_time_result fots_time_parse(const char *text, size_t length);
+
+/* Parses an offset: Z, z, or a sign and two digits each of the hours, the minutes and optionally the
+ * seconds, such as "+05:30" or "-00:00:01". Errors: FOTS_OFFSET_HOUR_OUT_OF_RANGE above 25,
+ * FOTS_OFFSET_MINUTE_OUT_OF_RANGE, FOTS_OFFSET_SECOND_OUT_OF_RANGE. "+1:00" is FOTS_UNEXPECTED_BYTE
+ * at 2, and "+01" FOTS_UNEXPECTED_END. */
+fots_parse_offset_result fots_offset_parse(const char *text, size_t length);
+
+/* Parses a date and a time of day, such as "2024-02-29 23:59:59.25" or "2024-W09-4T9:05". The date is
+ * as for fots_date_parse, and the time as for fots_time_parse, with T, t or a space between them. The
+ * errors are as for the date, then as for the time, and the offset is 0. "2024-02-29" is
+ * FOTS_UNEXPECTED_END, and "2023-02-29T24:00" FOTS_DAY_OUT_OF_RANGE. */
+fots_parse_moment_result fots_pair_parse(const char *text, size_t length);
+
+/* Parses a date, a time of day and an offset, such as "2024-02-29 9:05 +01:00". The date and the time
+ * are as for fots_pair_parse, and the offset as for fots_offset_parse, with one space before it or
+ * none. The errors are as for fots_pair_parse, then as for the offset. "2024-02-29T9:05" is
+ * FOTS_UNEXPECTED_END, and "2024-02-29T24:00+26:00" FOTS_HOUR_OUT_OF_RANGE. */
+fots_parse_moment_result fots_offset_date_time_parse(const char *text, size_t length);
+
 /* Parses a moment of RFC 3339, such as "2024-02-29T23:59:59.25+01:00". T may be t or a space, and Z
  * may be z. Digits after the ninth of a fraction are ignored. Errors: FOTS_MONTH_OUT_OF_RANGE,
  * FOTS_DAY_OUT_OF_RANGE, FOTS_HOUR_OUT_OF_RANGE, FOTS_MINUTE_OUT_OF_RANGE, FOTS_SECOND_OUT_OF_RANGE

@@ -115,6 +115,12 @@ template <class Result> Result parsed_or_throw(Result result)
     return result;
 }
 
+inline fots_moment moment_or_throw(fots_parse_moment_result result)
+{
+    parsed_or_throw(result);
+    return {result.date, result.offset, result.time};
+}
+
 // Returns the result of a call that parses a recurrence, or throws a parse_rule_error.
 template <class Result> Result recurrence_or_throw(Result result)
 {
@@ -243,6 +249,8 @@ public:
         return Time(detail::value_or_throw(fots_time_from_hms_nano(hour, minute, second, nanosecond)).time, {});
     }
 
+    // Parses a time of day, such as "9:05" or "23:59:59.25".
+    static Time parse(std::string_view text) { return Time(detail::parsed_or_throw(fots_time_parse(detail::data(text), text.size())).time, {}); }
     // Parses the text of a value by a format, and no other text.
     static Time parse(std::string_view text, const Format &format)
     {
@@ -292,6 +300,11 @@ public:
         return UtcOffset(detail::value_or_throw(fots_offset_from_whole_seconds(seconds)).offset, {});
     }
 
+    // Parses an offset, such as "Z", "+05:30" or "-00:00:01".
+    static UtcOffset parse(std::string_view text)
+    {
+        return UtcOffset(detail::parsed_or_throw(fots_offset_parse(detail::data(text), text.size())).offset, {});
+    }
     // Parses the text of a value by a format, and no other text.
     static UtcOffset parse(std::string_view text, const Format &format)
     {
@@ -834,11 +847,12 @@ class Zone;
 class PlainDateTime : public detail::Ordered<PlainDateTime> {
 public:
     PlainDateTime(Date date, Time time) : value_(detail::value_or_throw(fots_moment_new(date.c(), time.c(), fots_offset{0})).moment) {}
+    // Parses a date and a time of day, such as "2024-02-29 23:59:59.25" or "2024-W09-4T9:05".
+    static PlainDateTime parse(std::string_view text) { return from(fots_pair_parse(detail::data(text), text.size())); }
     // Parses the text of a value by a format, and no other text.
     static PlainDateTime parse(std::string_view text, const Format &format)
     {
-        const fots_parse_moment_result found = detail::parsed_or_throw(fots_pair_parse_format(detail::data(text), text.size(), format.c()));
-        return {Date(found.date, {}), Time(found.time, {})};
+        return from(fots_pair_parse_format(detail::data(text), text.size(), format.c()));
     }
 
     Date date() const noexcept { return Date(value_.date, {}); }
@@ -879,6 +893,7 @@ public:
 private:
     explicit PlainDateTime(fots_moment value) noexcept : value_(value) {}
     static PlainDateTime from(fots_moment_result result) { return PlainDateTime(detail::value_or_throw(result).moment); }
+    static PlainDateTime from(fots_parse_moment_result result) { return PlainDateTime(detail::moment_or_throw(result)); }
     static std::optional<PlainDateTime> if_any(fots_moment_result result)
     {
         return detail::is_in_range(result) ? std::optional<PlainDateTime>(PlainDateTime(result.moment)) : std::nullopt;
@@ -901,11 +916,15 @@ public:
     static OffsetDateTime new_utc(Date date, Time time) { return new_in_offset(date, time, UtcOffset::utc()); }
     static OffsetDateTime from_unix_timestamp(std::int64_t seconds) { return from(fots_moment_from_unix_timestamp(seconds)); }
     static OffsetDateTime from_unix_duration(Duration duration) { return from(fots_moment_from_unix_time(duration.c())); }
+    // Parses a date, a time of day and an offset, such as "2024-02-29 9:05 +01:00".
+    static OffsetDateTime parse(std::string_view text)
+    {
+        return OffsetDateTime(detail::moment_or_throw(fots_offset_date_time_parse(detail::data(text), text.size())), {});
+    }
     // Parses the text of a value by a format, and no other text.
     static OffsetDateTime parse(std::string_view text, const Format &format)
     {
-        const fots_parse_moment_result found = detail::parsed_or_throw(fots_moment_parse_format(detail::data(text), text.size(), format.c()));
-        return OffsetDateTime(fots_moment{found.date, found.offset, found.time}, {});
+        return OffsetDateTime(detail::moment_or_throw(fots_moment_parse_format(detail::data(text), text.size(), format.c())), {});
     }
 
     Date date() const noexcept { return Date(value_.date, {}); }

@@ -93,7 +93,9 @@ static fots_moment any_fots_moment(void)
 /* ---- texts, and what is made from them */
 
 static const char *const texts[] = {"2024-02-29", "-004713-11-24", "2024-060", "2024-W09-4", "J2460370", "J-12", "@1709247599.25", "@-1",
-    "2024-02-29T23:59:59.25+01:00", "2024-02-29 12:00Z", "2016-12-31T23:59:60Z", "Thursday, 29 February 2024", "29.02.24 07:05:09 PM +0530"};
+    "2024-02-29T23:59:59.25+01:00", "2024-02-29 12:00Z", "2016-12-31T23:59:60Z", "Thursday, 29 February 2024", "29.02.24 07:05:09 PM +0530",
+    "9:05", "24:00", "23:59:59.25", "Z", "+05:30", "-00:00:01", "2024-W09-4T9:05", "2024-02-29 9:05 +01:00"};
+static const char *const printed[] = {"%H:%M:%S", "%-H:%M:%S%.f", "%:z", "%::z", "%F %R", "%FT%-H:%M:%S%.f", "%F %R %:z", "%G-W%V-%uT%T%::z"};
 static const char *const formats[] = {"%Y-%m-%d", "%A, %-d %B %Y", "%G-W%V-%u", "%Y-%j", "%H:%M:%S.%9f %z", "%d.%m.%y %I:%M:%S %p %z", "%s", "%Y-%m-%dT%H:%M:%S%:z", "%H:%M:%S", "%I:%M %p", "%:z", "%Y-%m-%d %H:%M"};
 static const char *const descriptions[] = {"[year]-[month]-[day]", "[weekday repr:short], [day padding:none] [month repr:long] [year]",
     "[hour repr:12]:[minute]:[second].[subsecond digits:3] [period]", "[offset_hour sign:mandatory]:[offset_minute]", "[year][ordinal]"};
@@ -117,18 +119,24 @@ static size_t text_of(const char *const *list, size_t count)
     return length;
 }
 
-/* Draws a text of a date or a moment that the library prints, or one of the list. */
+/* Draws a text of a date, a time, an offset or a moment that the library prints, or one of the list. */
 static size_t any_text(void)
 {
     const fots_moment moment = any_fots_moment();
+    const char *const format_text = printed[draw() % COUNT(printed)];
+    fots_format format;
     fots_text_result text;
-    switch (draw() % 8) {
+    switch (draw() % 10) {
     case 0: text = fots_date_calendar_text(moment.date); break;
     case 1: text = fots_date_ordinal_text(moment.date); break;
     case 2: text = fots_date_week_text(moment.date); break;
     case 3: text = fots_date_julian_text(moment.date); break;
     case 4: text = fots_moment_text(moment.date, moment.time, moment.offset); break;
     case 5: text = fots_unix_text(moment.date, moment.time, moment.offset); break;
+    case 6:
+    case 7:
+        format = fots_format_new(format_text, strlen(format_text)).format;
+        return fots_moment_format(moment, &format, drawn_text, sizeof drawn_text).length;
     default: return text_of(texts, COUNT(texts));
     }
     memcpy(drawn_text, text.bytes, sizeof text.bytes);

@@ -483,6 +483,95 @@ static void invalid_texts_of_days(void)
     }
 }
 
+/* A text with the result of a call. The date-time is at an offset. */
+typedef struct TextRow {
+    const char *text;
+    int32_t status;
+    size_t position;
+    fots_time time;
+    int32_t offset, year;
+    uint32_t month, day;
+} TextRow;
+
+#define END_AT(text, position) {text, FOTS_UNEXPECTED_END, position, 0, 0, 0, 0, 0}
+#define BYTE_AT(text, position) {text, FOTS_UNEXPECTED_BYTE, position, 0, 0, 0, 0, 0}
+#define OUT_OF_RANGE(text, status) {text, status, SIZE_MAX, 0, 0, 0, 0, 0}
+
+static void texts_of_times(void)
+{
+    static const TextRow rows[] = {
+        {"9:05", FOTS_OK, SIZE_MAX, 32700000000000, 0, 0, 0, 0}, {"09:05:07", FOTS_OK, SIZE_MAX, 32707000000000, 0, 0, 0, 0},
+        {"0:00", FOTS_OK, SIZE_MAX, 0, 0, 0, 0, 0}, {"23:59:59.25", FOTS_OK, SIZE_MAX, 86399250000000, 0, 0, 0, 0},
+        {"23:59:59.999999999", FOTS_OK, SIZE_MAX, 86399999999999, 0, 0, 0, 0},
+        OUT_OF_RANGE("24:60:60", FOTS_HOUR_OUT_OF_RANGE), OUT_OF_RANGE("23:60:60", FOTS_MINUTE_OUT_OF_RANGE), OUT_OF_RANGE("23:59:60", FOTS_SECOND_OUT_OF_RANGE),
+        END_AT("", 0), END_AT("9", 1), END_AT("9:", 2), END_AT("9:0", 3), END_AT("9:05:", 5), END_AT("9:05:0", 6), END_AT("9:05:00.", 8),
+        BYTE_AT("T9:05", 0), BYTE_AT("009:05", 2), BYTE_AT("0905", 2), BYTE_AT("9:5:00", 3), BYTE_AT("9:05x", 4), BYTE_AT("9:05:00Z", 7),
+        BYTE_AT("9:05:00,5", 7), BYTE_AT("9:05:00.1234567891", 17),
+    };
+    for (int k = 0; k < COUNT(rows); k++) {
+        const fots_parse_time_result found = fots_time_parse(rows[k].text, strlen(rows[k].text));
+        check(found.status == rows[k].status && found.position == rows[k].position && found.time == (found.status ? FOTS_NO_TIME : rows[k].time), rows[k].text,
+            found.status, (long long)found.position);
+    }
+}
+
+static void texts_of_offsets(void)
+{
+    static const TextRow rows[] = {
+        {"Z", FOTS_OK, SIZE_MAX, 0, 0, 0, 0, 0}, {"z", FOTS_OK, SIZE_MAX, 0, 0, 0, 0, 0}, {"-00:00", FOTS_OK, SIZE_MAX, 0, 0, 0, 0, 0},
+        {"+05:30", FOTS_OK, SIZE_MAX, 0, 19800, 0, 0, 0}, {"-05:30:15", FOTS_OK, SIZE_MAX, 0, -19815, 0, 0, 0}, {"-00:00:01", FOTS_OK, SIZE_MAX, 0, -1, 0, 0, 0},
+        {"+25:59:59", FOTS_OK, SIZE_MAX, 0, 93599, 0, 0, 0}, {"-25:59:59", FOTS_OK, SIZE_MAX, 0, -93599, 0, 0, 0},
+        OUT_OF_RANGE("+26:60:60", FOTS_OFFSET_HOUR_OUT_OF_RANGE), OUT_OF_RANGE("-25:60:60", FOTS_OFFSET_MINUTE_OUT_OF_RANGE),
+        OUT_OF_RANGE("+25:59:60", FOTS_OFFSET_SECOND_OUT_OF_RANGE),
+        END_AT("", 0), END_AT("+", 1), END_AT("+01", 3), END_AT("+01:0", 5), END_AT("+01:00:", 7), END_AT("+01:00:0", 8),
+        BYTE_AT("01:00", 0), BYTE_AT(" Z", 0), BYTE_AT("Zx", 1), BYTE_AT("+1:00", 2), BYTE_AT("+0100", 3), BYTE_AT("+01:00x", 6), BYTE_AT("+01:00:00.5", 9),
+    };
+    for (int k = 0; k < COUNT(rows); k++) {
+        const fots_parse_offset_result found = fots_offset_parse(rows[k].text, strlen(rows[k].text));
+        check(found.status == rows[k].status && found.position == rows[k].position && found.offset.seconds == (found.status ? FOTS_NO_VALUE : rows[k].offset),
+            rows[k].text, found.status, (long long)found.position);
+    }
+}
+
+/* Checks a date-time of a row, or its error. */
+static void is_date_time(fots_parse_moment_result found, const TextRow *row)
+{
+    if (row->status == FOTS_OK) {
+        is_moment(found, date_of(row->year, row->month, row->day), row->time, offset_at(row->offset), row->text);
+    } else {
+        is_no_moment(found, row->status, row->position, row->text);
+    }
+}
+
+static void texts_of_date_times(void)
+{
+    static const TextRow pairs[] = {
+        {"2024-02-29 23:59:59.25", FOTS_OK, SIZE_MAX, 86399250000000, 0, 2024, 2, 29}, {"2024-W09-4T9:05", FOTS_OK, SIZE_MAX, 32700000000000, 0, 2024, 2, 29},
+        {"2024-060t09:05:07", FOTS_OK, SIZE_MAX, 32707000000000, 0, 2024, 2, 29}, {"-0001-12-31 0:00", FOTS_OK, SIZE_MAX, 0, 0, -1, 12, 31},
+        {"+999999-12-31T23:59:59.999999999", FOTS_OK, SIZE_MAX, 86399999999999, 0, 999999, 12, 31},
+        OUT_OF_RANGE("2024-13-01T24:00", FOTS_MONTH_OUT_OF_RANGE), OUT_OF_RANGE("+1000000-01-01T24:00", FOTS_YEAR_OUT_OF_RANGE),
+        OUT_OF_RANGE("2023-02-29T24:00", FOTS_DAY_OUT_OF_RANGE), OUT_OF_RANGE("2024-02-29T24:60", FOTS_HOUR_OUT_OF_RANGE),
+        END_AT("", 0), END_AT("2024-02-29", 10), END_AT("2024-02-29T", 11), END_AT("2024-02-29T9", 12), END_AT("2023-02-29T9:0", 14),
+        BYTE_AT("2024-02-2T9:05", 9), BYTE_AT("2024-02-29_9:05", 10), BYTE_AT("2024-02-29  9:05", 11), BYTE_AT("2023-02-29T9:5:0", 14), BYTE_AT("2024-02-29T9:05Z", 15),
+    };
+    static const TextRow moments[] = {
+        {"2024-02-29 9:05 +01:00", FOTS_OK, SIZE_MAX, 32700000000000, 3600, 2024, 2, 29}, {"2024-02-29T23:59:59.25-25:59:59", FOTS_OK, SIZE_MAX, 86399250000000, -93599, 2024, 2, 29},
+        {"2024-W09-4t9:05z", FOTS_OK, SIZE_MAX, 32700000000000, 0, 2024, 2, 29}, {"-0001-365T00:00 Z", FOTS_OK, SIZE_MAX, 0, 0, -1, 12, 31},
+        OUT_OF_RANGE("2023-02-29T24:00+26:00", FOTS_DAY_OUT_OF_RANGE), OUT_OF_RANGE("2024-02-29T23:60+26:00", FOTS_MINUTE_OUT_OF_RANGE),
+        OUT_OF_RANGE("2024-02-29T23:59:60Z", FOTS_SECOND_OUT_OF_RANGE), OUT_OF_RANGE("2024-02-29T23:59+26:60", FOTS_OFFSET_HOUR_OUT_OF_RANGE),
+        OUT_OF_RANGE("2024-02-29T23:59 +25:60", FOTS_OFFSET_MINUTE_OUT_OF_RANGE), OUT_OF_RANGE("2024-02-29T23:59-00:00:60", FOTS_OFFSET_SECOND_OUT_OF_RANGE),
+        END_AT("", 0), END_AT("2024-02-29", 10), END_AT("2024-02-29T9:05", 15), END_AT("2024-02-29T9:05 ", 16), END_AT("2024-02-29T9:05+1", 17),
+        BYTE_AT("2024-02-29Z", 10), BYTE_AT("2024-02-29T9:05x", 15), BYTE_AT("2024-02-29T9:05  Z", 16), BYTE_AT("2024-02-29T9:05Zx", 16),
+        BYTE_AT("2024-02-29T9:05+1:00", 17), BYTE_AT("2024-02-29T00:00:00.1234567891Z", 29),
+    };
+    for (int k = 0; k < COUNT(pairs); k++) {
+        is_date_time(fots_pair_parse(pairs[k].text, strlen(pairs[k].text)), &pairs[k]);
+    }
+    for (int k = 0; k < COUNT(moments); k++) {
+        is_date_time(fots_offset_date_time_parse(moments[k].text, strlen(moments[k].text)), &moments[k]);
+    }
+}
+
 /* Moments of RFC 3339, with the examples of the standard first. */
 static void texts_of_moments(void)
 {
@@ -667,6 +756,9 @@ int main(void)
     cycles();
     texts_of_days();
     invalid_texts_of_days();
+    texts_of_times();
+    texts_of_offsets();
+    texts_of_date_times();
     texts_of_moments();
     unix_times();
     names_of_cycles();

@@ -476,6 +476,14 @@ static void moments(int32_t julian_day, fots_time time, int32_t seconds, fots_du
     }
 }
 
+static int is_date_status(int32_t status)
+{
+    return status == FOTS_MONTH_OUT_OF_RANGE || status == FOTS_YEAR_OUT_OF_RANGE || (status >= FOTS_DAY_OUT_OF_RANGE && status <= FOTS_WEEKDAY_OUT_OF_RANGE);
+}
+
+static int is_time_status(int32_t status) { return status >= FOTS_HOUR_OUT_OF_RANGE && status <= FOTS_SECOND_OUT_OF_RANGE; }
+static int is_offset_status(int32_t status) { return status >= FOTS_OFFSET_HOUR_OUT_OF_RANGE && status <= FOTS_OFFSET_SECOND_OUT_OF_RANGE; }
+
 /* Checks the status and the position of a text: a byte of it, its length, or SIZE_MAX. */
 static void reads(int32_t status, size_t position, size_t length, int is_listed, int has_value, const char *what)
 {
@@ -484,6 +492,13 @@ static void reads(int32_t status, size_t position, size_t length, int is_listed,
         (long long)position);
     check((status == FOTS_OK) == has_value, what, status, (long long)length);
 }
+
+/* Checks that the bytes before an unexpected one begin a text, and with it no longer do. */
+#define CHECK_POSITION(call, read) \
+    if (read.status == FOTS_UNEXPECTED_BYTE) { \
+        check(call(bytes, read.position).status != FOTS_UNEXPECTED_BYTE, "what a text begins with, " #call, (long long)read.position, (long long)length); \
+        check(call(bytes, read.position + 1).position == read.position, "the position, " #call, (long long)read.position, (long long)length); \
+    }
 
 static int is_this(fots_text_result text, const char *bytes, size_t length)
 {
@@ -500,14 +515,8 @@ static int reads_as_date(fots_text_result text, fots_date date)
 static void read_date(const char *bytes, size_t length)
 {
     fots_parse_date_result read = fots_date_parse(bytes, length);
-    reads(read.status, read.position, length, read.status == FOTS_MONTH_OUT_OF_RANGE || read.status == FOTS_YEAR_OUT_OF_RANGE
-        || (read.status >= FOTS_DAY_OUT_OF_RANGE && read.status <= FOTS_WEEKDAY_OUT_OF_RANGE), is_date(read.date), "date_read");
-    if (read.status == FOTS_UNEXPECTED_BYTE) {
-        check(fots_date_parse(bytes, read.position).status != FOTS_UNEXPECTED_BYTE, "what a date begins with",
-            (long long)read.position, (long long)length);
-        check(fots_date_parse(bytes, read.position + 1).position == read.position, "the position in a date",
-            (long long)read.position, (long long)length);
-    }
+    reads(read.status, read.position, length, is_date_status(read.status), is_date(read.date), "date_read");
+    CHECK_POSITION(fots_date_parse, read)
     if (read.status == FOTS_OK) {
         fots_text_result calendar = fots_date_calendar_text(read.date), ordinal = fots_date_ordinal_text(read.date);
         fots_text_result week = fots_date_week_text(read.date);
@@ -523,12 +532,7 @@ static void read_julian_day(const char *bytes, size_t length)
 {
     fots_parse_date_result read = fots_julian_day_parse(bytes, length);
     reads(read.status, read.position, length, read.status == FOTS_JULIAN_DAY_OUT_OF_RANGE, is_date(read.date), "julian_day_read");
-    if (read.status == FOTS_UNEXPECTED_BYTE) {
-        check(fots_julian_day_parse(bytes, read.position).status != FOTS_UNEXPECTED_BYTE, "what a Julian day begins with",
-            (long long)read.position, (long long)length);
-        check(fots_julian_day_parse(bytes, read.position + 1).position == read.position, "the position in a Julian day",
-            (long long)read.position, (long long)length);
-    }
+    CHECK_POSITION(fots_julian_day_parse, read)
     if (read.status == FOTS_OK) {
         check(is_this(fots_date_julian_text(read.date), bytes, length), "the text of a Julian day", read.date.julian_day,
             (long long)length);
@@ -550,14 +554,8 @@ static void read_moment(const char *bytes, size_t length)
 {
     fots_parse_moment_result read = fots_moment_parse(bytes, length);
     reads(read.status, read.position, length, read.status == FOTS_MONTH_OUT_OF_RANGE || read.status == FOTS_DAY_OUT_OF_RANGE
-        || (read.status >= FOTS_HOUR_OUT_OF_RANGE && read.status <= FOTS_SECOND_OUT_OF_RANGE) || read.status == FOTS_OFFSET_HOUR_OUT_OF_RANGE
-        || read.status == FOTS_OFFSET_MINUTE_OUT_OF_RANGE, is_moment(read), "moment_read");
-    if (read.status == FOTS_UNEXPECTED_BYTE) {
-        check(fots_moment_parse(bytes, read.position).status != FOTS_UNEXPECTED_BYTE, "what a moment begins with",
-            (long long)read.position, (long long)length);
-        check(fots_moment_parse(bytes, read.position + 1).position == read.position, "the position in a moment",
-            (long long)read.position, (long long)length);
-    }
+        || is_time_status(read.status) || read.status == FOTS_OFFSET_HOUR_OUT_OF_RANGE || read.status == FOTS_OFFSET_MINUTE_OUT_OF_RANGE, is_moment(read), "moment_read");
+    CHECK_POSITION(fots_moment_parse, read)
     if (read.status == FOTS_OK) {
         fots_text_result text = fots_moment_text(read.date, read.time, read.offset);
         check(is_same_moment(fots_moment_parse(text.bytes, text.length), read), "a moment read back", read.date.julian_day,
@@ -569,17 +567,29 @@ static void read_unix(const char *bytes, size_t length)
 {
     fots_parse_moment_result read = fots_unix_parse(bytes, length);
     reads(read.status, read.position, length, read.status == FOTS_TIMESTAMP_OUT_OF_RANGE, is_moment(read) && read.offset.seconds == 0, "unix_read");
-    if (read.status == FOTS_UNEXPECTED_BYTE) {
-        check(fots_unix_parse(bytes, read.position).status != FOTS_UNEXPECTED_BYTE, "what a Unix time begins with",
-            (long long)read.position, (long long)length);
-        check(fots_unix_parse(bytes, read.position + 1).position == read.position, "the position in a Unix time",
-            (long long)read.position, (long long)length);
-    }
+    CHECK_POSITION(fots_unix_parse, read)
     if (read.status == FOTS_OK) {
         fots_text_result text = fots_unix_text(read.date, read.time, offset_at(0));
         check(is_same_moment(fots_unix_parse(text.bytes, text.length), read), "a Unix time read back", read.date.julian_day,
             (long long)length);
     }
+}
+
+static void read_date_time(const char *bytes, size_t length)
+{
+    const fots_parse_time_result time = fots_time_parse(bytes, length);
+    const fots_parse_offset_result offset = fots_offset_parse(bytes, length);
+    const fots_parse_moment_result pair = fots_pair_parse(bytes, length), moment = fots_offset_date_time_parse(bytes, length);
+    reads(time.status, time.position, length, is_time_status(time.status), is_time(time.time), "time_parse");
+    reads(offset.status, offset.position, length, is_offset_status(offset.status), is_offset(offset.offset), "offset_parse");
+    reads(pair.status, pair.position, length, is_date_status(pair.status) || is_time_status(pair.status), is_moment(pair), "pair_parse");
+    reads(moment.status, moment.position, length, is_date_status(moment.status) || is_time_status(moment.status) || is_offset_status(moment.status), is_moment(moment),
+        "offset_date_time_parse");
+    CHECK_POSITION(fots_time_parse, time)
+    CHECK_POSITION(fots_offset_parse, offset)
+    CHECK_POSITION(fots_pair_parse, pair)
+    CHECK_POSITION(fots_offset_date_time_parse, moment)
+    check(pair.status != FOTS_OK || pair.offset.seconds == 0, "the offset of a pair", pair.offset.seconds, (long long)length);
 }
 
 static void read_all(const char *bytes, size_t length)
@@ -588,6 +598,7 @@ static void read_all(const char *bytes, size_t length)
     read_julian_day(bytes, length);
     read_moment(bytes, length);
     read_unix(bytes, length);
+    read_date_time(bytes, length);
 }
 
 #define LONGEST 64
@@ -597,7 +608,7 @@ static void nearly_texts(void)
 {
     static const char *const texts[] = {"2024-02-29", "+12024-02-29", "-999999-01-01", "2024-060", "+999999-365", "2024-W09-4",
         "-0001-W52-6", "J2460370", "J-363521074", "J0", "2024-02-29T23:59:59.25+01:00", "0000-01-01t00:00:00z",
-        "9999-12-31 23:59:59.999999999-23:59", "@0", "@1709164800.5", "@-0.000000001", "@-31619087596800"};
+        "9999-12-31 23:59:59.999999999-23:59", "9:05", "-25:59:59", "2024-W09-4T9:05 z", "@0", "@1709164800.5", "@-0.000000001", "@-31619087596800"};
     for (int k = 0; k < COUNT(texts); k++) {
         size_t length = strlen(texts[k]);
         for (size_t position = 0; position <= length; position++) {

@@ -87,6 +87,12 @@ void errors()
     throws([] { Date::parse("2024x"); }, FOTS_UNEXPECTED_BYTE, "unexpected byte at 4", "a wrong byte");
     throws([] { Date::parse(""); }, FOTS_UNEXPECTED_END, "unexpected end at 0", "no text");
     throws([] { Date::parse(std::string_view()); }, FOTS_UNEXPECTED_END, "unexpected end at 0", "no text at all");
+    throws([] { Time::parse("9:05x"); }, FOTS_UNEXPECTED_BYTE, "unexpected byte at 4", "a time with a letter");
+    throws([] { Time::parse("24:00"); }, FOTS_HOUR_OUT_OF_RANGE, "hour was not in range", "24:00");
+    throws([] { UtcOffset::parse("+01"); }, FOTS_UNEXPECTED_END, "unexpected end at 3", "an offset without minutes");
+    throws([] { PlainDateTime::parse("2024-02-29"); }, FOTS_UNEXPECTED_END, "unexpected end at 10", "a date without a time");
+    throws([] { PlainDateTime::parse("2023-02-29T9:05"); }, FOTS_DAY_OUT_OF_RANGE, "day was not in range", "29 February with a time");
+    throws([] { OffsetDateTime::parse("2024-02-29T9:05"); }, FOTS_UNEXPECTED_END, "unexpected end at 15", "a time without an offset");
     throws([] { Date::max() + Duration::days(1); }, FOTS_RESULT_OUT_OF_RANGE, "result out of range", "a day after the last one");
     throws([] { Date(fots_date{FOTS_NO_VALUE}); }, FOTS_INVALID_DATE, "invalid date", "no date");
     throws([] { Time::from_hms(24, 0, 0); }, FOTS_HOUR_OUT_OF_RANGE, "hour was not in range", "hour 24");
@@ -145,6 +151,9 @@ void moments()
     check(night < night.replace_offset(UtcOffset::utc()), "a later instant");
     check(night.replace_offset(UtcOffset::utc()) - night == Duration::hours(1), "an hour later");
     check(night.unix_timestamp() == 1709247599 && night.unix_duration() == Duration::of(1709247599, 250000000), "the Unix time");
+    check(Time::parse("23:59:59.25") == time && UtcOffset::parse("+01:00") == offset && UtcOffset::parse("Z") == UtcOffset::utc(), "parsed parts");
+    check(PlainDateTime::parse("2024-W09-4 23:59:59.25") == night.local(), "a parsed date-time");
+    check(OffsetDateTime::parse("2024-02-29T23:59:59.25 +01:00") == night && OffsetDateTime::parse("2024-060t22:59:59.250z") == night, "a parsed moment");
     check(OffsetDateTime::from_unix_duration(night.unix_duration()) == night, "of the Unix time");
     check(OffsetDateTime::from_unix_timestamp(-1) + Duration::seconds(1) == OffsetDateTime::from_unix_timestamp(0), "moves");
     check((OffsetDateTime::from_unix_timestamp(0) - Duration::milliseconds(500)).unix_timestamp() == -1, "rounded toward the past");

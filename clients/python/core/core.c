@@ -293,6 +293,8 @@ static PyObject *parts_of_recurrence(const State *state, const fots_recurrence *
             raise_position(state, result.status, result.position, part); \
     }
 OF_PARSED(parse_date, parse_date, 0, new_date(state, result.date))
+OF_PARSED(parse_time, parse_time, 0, new_time(state, result.time))
+OF_PARSED(parse_offset, parse_offset, 0, new_offset(state, result.offset))
 OF_PARSED(parse_moment, parse_moment, 0, Py_BuildValue("NNN", new_date(state, result.date),
     new_time(state, result.time), new_offset(state, result.offset)))
 OF_PARSED(parse_pair, parse_moment, 0,
@@ -301,6 +303,14 @@ OF_PARSED(parse_recurrence, parse_recurrence, result.part,
     parts_of_recurrence(state, &result.recurrence))
 OF_PARSED(recurrence_text, recurrence_text, result.part,
     PyUnicode_FromStringAndSize(result.bytes, (Py_ssize_t)result.length))
+
+static PyObject *of_parsed_moment(const State *state, PyTypeObject *type,
+    fots_parse_moment_result result)
+{
+    const fots_moment moment = {result.date, result.offset, result.time};
+    return !result.status ? new_moment(type, moment) :
+        raise_position(state, result.status, result.position, 0);
+}
 
 #define LIST_OF(field, parameter, type) \
     static PyObject *list_of_##field(parameter, const fots_##field *values, size_t length) \

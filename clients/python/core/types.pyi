@@ -12,9 +12,9 @@ from typing import Any, Callable, ClassVar, Iterable, SupportsIndex, overload
 from typing_extensions import Self
 
 from .choices import Convention, DayCount
-from .conversions import CLOCKS, OFFSET, PARTS_OF_TEXT, numbers_of, whole_microseconds, within
+from .conversions import CLOCKS, OFFSET, whole_microseconds
 from .enums import Month, Period, Weekday, YearFraction
-from .errors import ParseError, check
+from .errors import check
 from .formats import Format
 from .schedules import Days
 from .zones import Zone
@@ -214,13 +214,6 @@ class Time(_Value, _TimeParts, _Formatted):
         microsecond = whole_microseconds(self.nanosecond, "datetime.time")
         return datetime.time(self.hour, self.minute, self.second, microsecond)
 
-    def _parse(text) -> Time:
-        hours = 1 if text[1:2] == ":" else 2
-        lengths = [hours + 3, hours + 6, *range(hours + 8, hours + 17)]
-        numbers = numbers_of(text, "0" * hours + ":00:00.000000000", lengths)
-        hour, minute, second, fraction, *_ = *numbers, "0", "0"
-        return Time(int(hour), int(minute), int(second), int(fraction.ljust(9, "0")))
-
 class UtcOffset(_Value, _Formatted):
     """UtcOffset(hours=0, minutes=0, seconds=0): an offset from UTC, from -25:59:59 to +25:59:59,
     positive to the east."""
@@ -232,6 +225,8 @@ class UtcOffset(_Value, _Formatted):
         the sign of all."""
     def from_whole_seconds(seconds) -> UtcOffset:
         "Creates the offset of seconds, from -93599 to 93599."
+    def {parse,fromisoformat}(text) -> UtcOffset:
+        "Parses an offset, such as Z, +01:00 or -05:30:00, or raises ParseError or ComponentRange."
     def as_hms(self) -> tuple[int, int, int]: "Returns hours, minutes and seconds, with one sign."
     def whole_{hours,minutes,seconds}(self) -> int: "Returns the whole {}, truncated toward zero."
     def {minutes_past_hour,seconds_past_minute}(self) -> int:
@@ -251,16 +246,6 @@ class UtcOffset(_Value, _Formatted):
         if delta.microseconds:
             raise ValueError(f"expected an offset of whole seconds, not {delta}")
         return UtcOffset.from_whole_seconds(delta // timedelta(seconds=1))
-
-    def {parse,fromisoformat}(text) -> UtcOffset:
-        "Parses an offset, such as Z, +01:00 or -05:30:00, or raises ParseError or ComponentRange."
-        if check(text, str)[:1] in ("Z", "z"):
-            if len(text) > 1:
-                raise ParseError(1, False)
-            return UtcOffset.UTC
-        sign = "-" if text[:1] == "-" else "+"
-        numbers = numbers_of(text, sign + "00:00:00", (6, 9))
-        return UtcOffset(*(int(sign + number) for number in numbers))
 
 class _Unit:
     def __get__(self, instance: None, owner: Any) -> Callable[[SupportsIndex], SignedDuration]: ...
@@ -388,13 +373,6 @@ class PlainDateTime(_DateTime):
         # The text of a time of pandas has nanoseconds, too.
         return PlainDateTime.parse(value.isoformat())
 
-    def _parse(text) -> PlainDateTime:
-        parts: Any = PARTS_OF_TEXT.search(text)
-        date = within(Date.parse, text, 0, parts.end("date"))
-        if not parts["separator"]:
-            raise ParseError(len(text), True)
-        return PlainDateTime(date, within(Time.parse, text, parts.start("time")))
-
 class OffsetDateTime(_DateTime):
     """OffsetDateTime(date, time, offset): a date and a time of day at an offset from UTC.
 
@@ -445,11 +423,6 @@ class OffsetDateTime(_DateTime):
         seconds, rest = divmod(operator.index(timestamp), 10**9)
         seconds = max(-2**62, min(seconds, 2**62))
         return OffsetDateTime.from_unix_duration(SignedDuration.new(seconds, rest))
-
-    def _parse(text) -> OffsetDateTime:
-        parts: Any = PARTS_OF_TEXT.search(text)
-        local = within(PlainDateTime.parse, text, 0, parts.end("time"))
-        return local.assume_offset(within(UtcOffset.parse, text, parts.start("offset")))
 
 class Workdays:
     def __new__(cls, weekmask: int, holidays: bytes) -> Self: ...

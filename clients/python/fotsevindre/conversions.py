@@ -1,14 +1,11 @@
-"""Texts of ISO 8601 and units of durations, for the members in Python that types.pyi declares."""
+"""Formats and units of durations, for the members in Python that types.pyi declares."""
 
 import functools
-import itertools
-import re
 import types
-from typing import Any, Callable, Container, SupportsIndex
+from typing import Any, Callable, SupportsIndex
 
 from . import _core
 from ._core import OffsetDateTime, PlainDateTime, SignedDuration, Time
-from .errors import ParseError
 from .formats import Format
 
 
@@ -73,26 +70,3 @@ CLOCKS: dict[type, tuple[Format, Format]] = {
     kind: (Format(f"{date}%-H:%M:%S.0{offset}"), Format(f"{date}%-H:%M:%S%.f{offset}"))
     for kind, date, offset in (
         (Time, "", ""), (PlainDateTime, "%F ", ""), (OffsetDateTime, "%F ", " %::z"))}
-_ZEROS = str.maketrans("123456789", "000000000")
-PARTS_OF_TEXT = re.compile(
-    "(?P<date>[^Tt ]*)(?P<separator>[Tt ]?)(?P<time>[^ Zz+-]*) ?(?P<offset>.*)", re.DOTALL)
-
-
-def within(parse: Callable[[str], Any], text: str, start: int, end: int | None = None) -> Any:
-    """Parses a part of a text, with positions in the whole."""
-    try:
-        return parse(text[start:end])
-    except ParseError as error:
-        position = start + error.position
-        raise ParseError(position, position == len(text)) from None
-
-
-def numbers_of(text: str, pattern: str, lengths: Container[int]) -> list[str]:
-    """Returns the numbers of a text that a pattern begins with, in which 0 is any digit, and that
-    has one of the lengths; else raises `ParseError`."""
-    shape = text.translate(_ZEROS)
-    if not pattern.startswith(shape) or len(text) not in lengths:
-        pairs = itertools.takewhile(lambda pair: pair[0] == pair[1], zip(shape, pattern))
-        found = len(list(pairs))
-        raise ParseError(found, found == len(text))
-    return re.findall("[0-9]+", text)

@@ -303,13 +303,35 @@ class Texts(unittest.TestCase):
             self.assertEqual(OffsetDateTime.fromisoformat(aware.isoformat()).to_datetime(), aware)
         self.assertEqual(OffsetDateTime.parse("2024-W09-4t23:59:59.25z"), OffsetDateTime.new_utc(LEAP_DAY, Time(23, 59, 59, 250_000_000)))
         self.errors(PlainDateTime.parse, [("", 0, True), ("2024-02-29", 10, True), ("2024-02-29T", 11, True), ("2024-02-2T9:05", 9, False),
-            ("2024-02-29T9:05Z", 15, False), ("2024-02-29T9:0", 14, True), ("2024x02-29T9:05", 4, False)])
+            ("2024-02-29T9:05Z", 15, False), ("2024-02-29T9:0", 14, True), ("2024x02-29T9:05", 4, False), ("2023-02-29", 10, True),
+            ("2023-02-29T9:5:0", 14, False), ("2024-02-29T9:05\udc80", 15, False), ("2024-02-29 9:05é", 15, False)])
+        for text, name in (("2023-02-29T24:00", "day"), ("2024-02-29T24:60", "hour"), ("+1000000-01-01T0:00", "year"), ("2024-W53-1T0:00", "week")):
+            with self.assertRaisesRegex(ComponentRange, name):
+                PlainDateTime.parse(text)
+        for text, name in (("2024-02-29T24:00+26:00", "hour"), ("2024-02-29T23:00+26:60", "offset hour"), ("2024-02-29T23:00 -00:00:60", "offset second")):
+            with self.assertRaisesRegex(ComponentRange, f"^{name} "):
+                OffsetDateTime.parse(text)
         self.errors(OffsetDateTime.parse, [("", 0, True), ("2024-02-29", 10, True), ("2024-02-29T9:05", 15, True), ("2024-02-29T9:05+1", 17, True),
             ("2024-02-29T9:05 ", 16, True), ("2024-02-29T9:05:00Zx", 19, False), ("2024-02-29T00:00:00Zx", 20, False), ("2024-02-29T9:05x+01:00", 15, False),
             ("2024-02-29T00:00:00.1234567891Z", 29, False)])
         self.assertEqual(OffsetDateTime.parse("2024-02-29T00:00:00.123456789Z").nanosecond, 123456789)
         with self.assertRaisesRegex(TypeError, r"^PlainDateTime\.isoformat\(\)"):
             PlainDateTime(LEAP_DAY, Time()).isoformat(" ")
+
+
+    def test_texts_of_datetime(self):
+        """What `datetime` prints from the minute on is the same value here."""
+        draw = random.Random(92)
+        for _ in range(300):
+            zone = datetime.timezone(datetime.timedelta(seconds=draw.choice([1, 60]) * draw.randint(-1439, 1439)))
+            other = datetime.datetime.fromtimestamp(draw.randint(-62135510400, 253402214400), zone).replace(microsecond=draw.choice([0, draw.randrange(10**6)]))
+            for timespec, separator in itertools.product(("minutes", "seconds", "milliseconds", "microseconds", "auto"), "T "):
+                text = other.isoformat(separator, timespec)
+                local, time = other.replace(tzinfo=None).isoformat(separator, timespec), other.time().isoformat(timespec)
+                self.assertEqual(OffsetDateTime.parse(text).to_datetime(), datetime.datetime.fromisoformat(text), text)
+                self.assertEqual(PlainDateTime.parse(local).to_datetime(), datetime.datetime.fromisoformat(local), local)
+                self.assertEqual(Time.parse(time).to_time(), datetime.time.fromisoformat(time), time)
+                self.assertEqual(UtcOffset.parse(text[len(local):]).to_timezone(), zone, text)
 
 
 class WorkingDays(unittest.TestCase):

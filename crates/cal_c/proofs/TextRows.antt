@@ -10,7 +10,7 @@ use Rattle.cal_c.specs.Moments.{moment_ok, moment_error}
 use Rattle.cal_c.specs.Results.{date_ok, date_error, no_value}
 use Rattle.cal_c.specs.Statuses.{ok_status, component_status}
 use Rattle.cal_c.specs.TextColumns.{moment_row}
-use Rattle.cal_c.specs.Texts.{IsDateSyntaxError, IsMomentSyntaxError, StopsAt, no_position, parsed_date_ok, parsed_date_error, parsed_date_error_at, parsed_moment_ok, parsed_moment_error}
+use Rattle.cal_c.specs.Texts.{IsSyntaxError, StopsAt, no_position, parsed_date_ok, parsed_date_error, parsed_date_error_at, parsed_moment_ok, parsed_moment_error, parsed_moment_error_at}
 use Rattle.cal_c.specs.declared.texts.ParseDateResult.{ParseDateResult}
 use Rattle.cal_c.specs.declared.texts.ParseMomentResult.{ParseMomentResult}
 
@@ -67,7 +67,7 @@ pub date_of_refused : (r : ParseDateResult) (b : ℕ) (s : ℤ) → FitsSigned w
 date_of_refused r b s fits byte is e = date_of_refused_at r b s no_position fits byte is e
 
 pub date_of_unreadable : (IsText : List ℕ → Type 0) (bytes : List ℕ) (r : ParseDateResult) (b : ℕ) → FitsSigned w32 r.date → IsByteOf b r.status
-    → IsDateSyntaxError IsText bytes r → (at : ℕ) × (s : ℤ) × StopsAt IsText bytes at s × (date_row (to_z w32 (of_z w32 r.date)) b ≡ date_error s)
+    → IsSyntaxError IsText bytes parsed_date_error_at r → (at : ℕ) × (s : ℤ) × StopsAt IsText bytes at s × (date_row (to_z w32 (of_z w32 r.date)) b ≡ date_error s)
 date_of_unreadable IsText bytes r b fits byte its =
     (its.0, its.1, its.2, date-row r b its.1 no_value fits byte (stop_byte IsText bytes its.0 its.1 its.2) (ap (λ x. x.status) its.3) (ap (λ x. x.date) its.3))
 
@@ -92,7 +92,7 @@ moment_of_refused r b s fits fits_o byte is e =
     moment-row r b s _ _ _ fits fits_o byte is (ap (λ x. x.status) e) (ap (λ x. x.date) e) (ap (λ x. x.time) e) (ap (λ x. x.offset) e)
 
 pub moment_of_unreadable : (IsText : List ℕ → Type 0) (bytes : List ℕ) (r : ParseMomentResult) (b : ℕ) → FitsSigned w32 r.date → FitsSigned w32 r.offset
-    → IsByteOf b r.status → IsMomentSyntaxError IsText bytes r
+    → IsByteOf b r.status → IsSyntaxError IsText bytes parsed_moment_error_at r
     → (at : ℕ) × (s : ℤ) × StopsAt IsText bytes at s × (moment_row (to_z w32 (of_z w32 r.date)) r.time (to_z w32 (of_z w32 r.offset)) b ≡ moment_error s)
 moment_of_unreadable IsText bytes r b fits fits_o byte its = (
   its.0,

@@ -55,6 +55,10 @@ pub record StopsAt (IsText : List ℕ → Type 0) (bytes : List ℕ) (at : ℕ) 
   pub position : IsPosition IsText bytes at
   pub status : ((s ≡ unexpected_byte) × (at < length bytes)) ⊎ ((s ≡ unexpected_end) × (at ≡ length bytes))
 
+-- The result is an error at the position at which the bytes stop matching the form.
+abbrev pub IsSyntaxError : {R : Type 0} → (List ℕ → Type 0) → List ℕ → (ℤ → ℕ → R) → R → Type 0
+IsSyntaxError IsText bytes error_at r = (at : ℕ) × (s : ℤ) × StopsAt IsText bytes at s × (r ≡ error_at s at)
+
 -- ---- results of parsing: the position is the maximum u64 if the bytes have the form
 abbrev pub no_position : ℕ
 no_position = 18_446_744_073_709_551_615
@@ -68,9 +72,6 @@ parsed_date_error_at s at = record { status = s; date = no_value; position = at 
 abbrev pub parsed_date_error : ℤ → ParseDateResult
 parsed_date_error s = parsed_date_error_at s no_position
 
-abbrev pub IsDateSyntaxError : (List ℕ → Type 0) → List ℕ → ParseDateResult → Type 0
-IsDateSyntaxError IsText bytes r = (at : ℕ) × (s : ℤ) × StopsAt IsText bytes at s × (r ≡ parsed_date_error_at s at)
-
 abbrev pub parsed_moment_ok : LocalAndOffset → ParseMomentResult
 parsed_moment_ok m =
     record { status = ok_status; date = julian_day_at (date_at m.local); time = time_at m.local; offset = m.offset; position = no_position }
@@ -80,6 +81,3 @@ parsed_moment_error_at s at = record { status = s; date = no_value; time = 18_44
 
 abbrev pub parsed_moment_error : ℤ → ParseMomentResult
 parsed_moment_error s = parsed_moment_error_at s no_position
-
-abbrev pub IsMomentSyntaxError : (List ℕ → Type 0) → List ℕ → ParseMomentResult → Type 0
-IsMomentSyntaxError IsText bytes r = (at : ℕ) × (s : ℤ) × StopsAt IsText bytes at s × (r ≡ parsed_moment_error_at s at)

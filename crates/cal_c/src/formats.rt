@@ -6,7 +6,7 @@ mod items;
 mod making;
 mod names;
 pub mod one_pass;
-mod parse_results;
+pub mod parse_results;
 pub mod parsing;
 pub mod printing;
 pub mod results;

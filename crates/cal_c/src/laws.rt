@@ -1,17 +1,21 @@
 //! Laws: the cases of parsing are complete, so the clauses of the parsers allow only one result.
-ghost use Rattle.std.specs.Prelude.{◌≡◌, ◌⊎◌, ℕ};
+ghost use Rattle.std.specs.Prelude.{◌≡◌, ◌⊎◌, ℕ, ℤ};
 ghost use Rattle.cal_time.specs.Date.{IsDate};
 ghost use Rattle.cal_time.specs.declared.error.ComponentRange.{ComponentRange};
 ghost use Rattle.cal_datetime.specs.OffsetDateTime.{LocalAndOffset};
 ghost use Rattle.cal_text.specs.DateForms.{IsDateText};
 ghost use Rattle.cal_text.specs.JulianForm.{julian_text, IsJulianForm, IsJulianDayError};
+ghost use Rattle.cal_text.specs.OffsetDateTimeForm.{HasOffsetDateTimeForm, IsOffsetDateTimeError, IsOffsetDateTimeText};
+ghost use Rattle.cal_text.specs.OffsetForm.{HasOffsetForm, IsOffsetError, IsOffsetText};
+ghost use Rattle.cal_text.specs.PlainForm.{HasPlainForm, IsPlainError, IsPlainText};
 ghost use Rattle.cal_text.specs.Position.{HasSome};
 ghost use Rattle.cal_text.specs.Parsing.{HasError};
 ghost use Rattle.cal_text.specs.Rfc3339Form.{IsMomentText};
+ghost use Rattle.cal_text.specs.TimeForm.{HasTimeForm, IsTimeError, IsTimeText};
 ghost use Rattle.cal_text.specs.UnixText.{HasUnixForm, IsUnixText, IsUnixTimeError};
 ghost use Rattle.cal_c.specs.Texts.{HasDateSyntax, HasMomentSyntax, HasDateError, HasMomentError};
 
-use cal_text::{date, julian_day, rfc3339, unix};
+use cal_text::{date, julian_day, offset, offset_date_time, plain, rfc3339, time, unix};
 
 /// States that a text is a date, has no form of a date, or has a component out of range.
 pub fn date_cases(text: &[u8])
@@ -43,4 +47,39 @@ pub fn unix_cases(text: &[u8])
         ⊎ ((why : ComponentRange) × HasError HasUnixForm IsUnixTimeError text.now why) }
 {
     let _ = unix::parse(text);
+}
+
+/// States that a text is a time of day, has no such form, or has a component out of range.
+pub fn time_cases(text: &[u8])
+    ensures { ((t : ℕ) × IsTimeText text.now t) ⊎ (¬ HasSome HasTimeForm text.now)
+        ⊎ ((why : ComponentRange) × HasError HasTimeForm IsTimeError text.now why) }
+{
+    let _ = time::parse(text);
+}
+
+/// States that a text is an offset, has no such form, or has a component out of range.
+pub fn offset_cases(text: &[u8])
+    ensures { ((o : ℤ) × IsOffsetText text.now o) ⊎ (¬ HasSome HasOffsetForm text.now)
+        ⊎ ((why : ComponentRange) × HasError HasOffsetForm IsOffsetError text.now why) }
+{
+    let _ = offset::parse(text);
+}
+
+/// States that a text is a date-time, has no such form, or has a component out of range.
+pub fn pair_cases(text: &[u8])
+    ensures { ((p : ℤ) × IsPlainText text.now p) ⊎ (¬ HasSome HasPlainForm text.now)
+        ⊎ ((why : ComponentRange) × HasError HasPlainForm IsPlainError text.now why) }
+{
+    let _ = plain::parse(text);
+}
+
+/// States that a text is a date-time at an offset, has no such form, or has a component out of
+/// range.
+pub fn offset_date_time_cases(text: &[u8])
+    ensures { ((m : LocalAndOffset) × IsOffsetDateTimeText text.now m)
+        ⊎ (¬ HasSome HasOffsetDateTimeForm text.now)
+        ⊎ ((why : ComponentRange)
+        × HasError HasOffsetDateTimeForm IsOffsetDateTimeError text.now why) }
+{
+    let _ = offset_date_time::parse(text);
 }

@@ -46,6 +46,24 @@ macro_rules! ok_or_error {
     };
 }
 
+/// Returns the result of a parser's error: the status of a wrong form with its position, or the
+/// status of a component.
+macro_rules! parse_error_result {
+    ($error:expr) => {
+        match $error {
+            cal_text::ParseError::UnexpectedByte(position) => {
+                Self::error_at($crate::status::UNEXPECTED_BYTE, position)
+            }
+            cal_text::ParseError::UnexpectedEnd(position) => {
+                Self::error_at($crate::status::UNEXPECTED_END, position)
+            }
+            cal_text::ParseError::OutOfRange(error) => {
+                Self::error_at($crate::status::error_status(error), usize::MAX)
+            }
+        }
+    };
+}
+
 mod columns;
 mod cycle;
 mod date;

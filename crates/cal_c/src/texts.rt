@@ -1,14 +1,15 @@
 //! Texts and the results of parsing.
 ghost use Rattle.std.specs.Prelude.{◌≡◌, ◌≤◌, length};
 ghost use Rattle.cal_c.specs.Texts.{parsed_date_error_at, parsed_moment_error_at, parsed_date_ok, parsed_moment_ok, text_ok, text_error};
-ghost use Rattle.cal_c.specs.ParseErrors.{date_of_parse_error, moment_of_parse_error};
+ghost use Rattle.cal_c.specs.ParseErrors.{of_parse_error};
 
-use crate::status::{OK, UNEXPECTED_BYTE, UNEXPECTED_END, error_status};
+use crate::status::OK;
 use crate::values::nanoseconds_since_midnight;
 use cal_datetime::OffsetDateTime;
 use cal_text::ParseError;
 use cal_time::Date;
 
+pub mod date_times;
 mod formatting;
 pub mod parsing;
 
@@ -81,13 +82,9 @@ impl ParseDateResult {
     }
 
     pub fn error(error: ParseError) -> Self
-        ensures { result ≡ date_of_parse_error error }
+        ensures { result ≡ of_parse_error parsed_date_error_at error }
     {
-        match error {
-            ParseError::UnexpectedByte(position) => Self::error_at(UNEXPECTED_BYTE, position),
-            ParseError::UnexpectedEnd(position) => Self::error_at(UNEXPECTED_END, position),
-            ParseError::OutOfRange(error) => Self::error_at(error_status(error), usize::MAX),
-        }
+        parse_error_result!(error)
     }
 
     pub fn error_at(status: i32, position: usize) -> Self
@@ -115,13 +112,9 @@ impl ParseMomentResult {
     }
 
     pub fn error(error: ParseError) -> Self
-        ensures { result ≡ moment_of_parse_error error }
+        ensures { result ≡ of_parse_error parsed_moment_error_at error }
     {
-        match error {
-            ParseError::UnexpectedByte(position) => Self::error_at(UNEXPECTED_BYTE, position),
-            ParseError::UnexpectedEnd(position) => Self::error_at(UNEXPECTED_END, position),
-            ParseError::OutOfRange(error) => Self::error_at(error_status(error), usize::MAX),
-        }
+        parse_error_result!(error)
     }
 
     pub fn error_at(status: i32, position: usize) -> Self

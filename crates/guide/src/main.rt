@@ -8,6 +8,7 @@ mod callers;
 mod clauses;
 mod components;
 mod constructors;
+mod counts;
 mod datetimes;
 mod days;
 mod errors;
@@ -17,6 +18,7 @@ mod printing;
 mod recurrences;
 mod sets;
 mod texts;
+mod times;
 mod walking;
 mod zones;
 
@@ -36,8 +38,10 @@ fn main(rt: HostRuntime) -> io::Result<()> {
     callers::show(&rt)?;
     days::show(&rt)?;
     texts::show(&rt)?;
+    times::show(&rt)?;
     bills::show(&rt)?;
     recurrences::show(&rt)?;
+    counts::show(&rt)?;
     sets::show(&rt)?;
     zones::show(&rt)?;
     arrival::main(rt)

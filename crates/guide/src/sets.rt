@@ -41,6 +41,13 @@ fn next_days(set: &RecurrenceSet<'_>, date: Date) -> Option<(Date, Date)>
     Some((first, second))
 }
 
+/// Returns `true`: the days after a date begin with the next day of the set.
+fn begins_with_next(set: &RecurrenceSet<'_>, date: Date) -> bool
+    ensures { result ≡ true }
+{
+    set.days_after(date).next() == set.next_after(date)
+}
+
 /// Writes the set of a text to a buffer, in one order, and returns the number of bytes. They say the
 /// same set.
 fn respell(text: &[u8], buffer: &mut [u8]) -> Option<usize>
@@ -104,7 +111,8 @@ fn show_days(rt: &impl Print, first: Date) -> io::Result<()> {
         exceptions: &without,
     };
     let days = [is_day(&set, january), is_day(&set, july)];
-    println!(rt; "{days:?} {:?}", next_days(&set, first))
+    println!(rt; "{days:?} {:?}", next_days(&set, first))?;
+    println!(rt; "{}", begins_with_next(&set, first))
 }
 
 /// Prints the moment after 2024-03-31 0:00 UTC of 2:30 on each day of 2024 in Berlin.

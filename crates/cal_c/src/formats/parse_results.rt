@@ -1,5 +1,6 @@
-//! Results of parsing the text of a format.
+//! Times of day and offsets that are parsed, and the errors of a format.
 ghost use Rattle.std.specs.Prelude.{◌≡◌};
+ghost use Rattle.cal_c.specs.ParseErrors.{of_parse_error};
 ghost use Rattle.cal_c.specs.FormatParsing.{parse_status, parse_position, parsed_time_ok, parsed_time_error_at, parsed_offset_ok, parsed_offset_error_at};
 
 use crate::status::{
@@ -53,6 +54,12 @@ impl ParseTimeResult {
         }
     }
 
+    pub fn error(error: cal_text::ParseError) -> Self
+        ensures { result ≡ of_parse_error parsed_time_error_at error }
+    {
+        parse_error_result!(error)
+    }
+
     pub fn error_at(status: i32, position: usize) -> Self
         ensures { result ≡ parsed_time_error_at status position }
     {
@@ -73,6 +80,12 @@ impl ParseOffsetResult {
             offset: offset.whole_seconds(),
             position: usize::MAX,
         }
+    }
+
+    pub fn error(error: cal_text::ParseError) -> Self
+        ensures { result ≡ of_parse_error parsed_offset_error_at error }
+    {
+        parse_error_result!(error)
     }
 
     pub fn error_at(status: i32, position: usize) -> Self

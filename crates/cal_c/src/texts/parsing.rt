@@ -17,7 +17,7 @@ ghost use Rattle.cal_text.specs.Rfc3339Form.{IsMomentText};
 ghost use Rattle.cal_text.specs.UnixText.{HasUnixForm, IsUnixText, IsUnixTimeError};
 ghost use Rattle.cal_c.specs.Results.{duration_ok, duration_error, pair_at_local, pair_error};
 ghost use Rattle.cal_c.specs.Statuses.{invalid_date, invalid_time, invalid_offset, invalid_duration, result_out_of_range, component_status};
-ghost use Rattle.cal_c.specs.Texts.{parsed_date_ok, parsed_date_error, parsed_moment_ok, parsed_moment_error, HasDateSyntax, HasMomentSyntax, HasDateError, HasMomentError, IsDateSyntaxError, IsMomentSyntaxError};
+ghost use Rattle.cal_c.specs.Texts.{parsed_date_ok, parsed_date_error, parsed_date_error_at, parsed_moment_ok, parsed_moment_error, parsed_moment_error_at, HasDateSyntax, HasMomentSyntax, HasDateError, HasMomentError, IsSyntaxError};
 ghost use Rattle.cal_c.specs.Values.{need◌else◌then◌, IsDurationPair, IsJulianDay, moment_of, nanoseconds_in};
 
 use crate::results::{Duration, DurationResult, PairResult};
@@ -34,7 +34,7 @@ use cal_time::UtcOffset;
 #[unsafe(no_mangle)]
 pub extern "C" fn fots_date_parse(text: &[u8]) -> ParseDateResult
     ensures value { (n : ℕ) → IsDate n → IsDateText text.now n → result ≡ parsed_date_ok n }
-    ensures syntax_error { ¬ HasDateSyntax text.now → IsDateSyntaxError HasDateSyntax text.now result }
+    ensures syntax_error { ¬ HasDateSyntax text.now → IsSyntaxError HasDateSyntax text.now parsed_date_error_at result }
     ensures out_of_range { (why : ComponentRange) → HasDateError text.now why
         → result ≡ parsed_date_error (component_status why.component) }
 {
@@ -48,7 +48,7 @@ pub extern "C" fn fots_date_parse(text: &[u8]) -> ParseDateResult
 pub extern "C" fn fots_julian_day_parse(text: &[u8]) -> ParseDateResult
     ensures value { (n : ℕ) → IsDate n → text.now ≡ julian_text n → result ≡ parsed_date_ok n }
     ensures syntax_error { ¬ HasSome IsJulianForm text.now
-        → IsDateSyntaxError (HasSome IsJulianForm) text.now result }
+        → IsSyntaxError (HasSome IsJulianForm) text.now parsed_date_error_at result }
     ensures out_of_range { (why : ComponentRange) → HasError IsJulianForm IsJulianDayError text.now why
         → result ≡ parsed_date_error (component_status why.component) }
 {
@@ -60,7 +60,7 @@ pub extern "C" fn fots_julian_day_parse(text: &[u8]) -> ParseDateResult
 #[unsafe(no_mangle)]
 pub extern "C" fn fots_moment_parse(text: &[u8]) -> ParseMomentResult
     ensures value { (m : LocalAndOffset) → IsMomentText text.now m → result ≡ parsed_moment_ok m }
-    ensures syntax_error { ¬ HasMomentSyntax text.now → IsMomentSyntaxError HasMomentSyntax text.now result }
+    ensures syntax_error { ¬ HasMomentSyntax text.now → IsSyntaxError HasMomentSyntax text.now parsed_moment_error_at result }
     ensures out_of_range { (why : ComponentRange) → HasMomentError text.now why
         → result ≡ parsed_moment_error (component_status why.component) }
 {
@@ -74,7 +74,7 @@ pub extern "C" fn fots_moment_parse(text: &[u8]) -> ParseMomentResult
 pub extern "C" fn fots_unix_parse(text: &[u8]) -> ParseMomentResult
     ensures value { (m : LocalAndOffset) → IsUnixText text.now m → result ≡ parsed_moment_ok m }
     ensures syntax_error { ¬ HasSome HasUnixForm text.now
-        → IsMomentSyntaxError (HasSome HasUnixForm) text.now result }
+        → IsSyntaxError (HasSome HasUnixForm) text.now parsed_moment_error_at result }
     ensures out_of_range { (why : ComponentRange) → HasError HasUnixForm IsUnixTimeError text.now why
         → result ≡ parsed_moment_error (component_status why.component) }
 {
