@@ -10,6 +10,8 @@ pub mod laws;
 mod months;
 mod period;
 mod period_ends;
+mod period_error;
+mod period_moves;
 mod rule;
 mod until;
 mod weekdays;
@@ -18,6 +20,8 @@ mod year_fraction;
 
 pub use months::{checked_add_months, checked_add_years, saturating_add_months};
 pub use period::Period;
+pub use period_error::PeriodError;
+pub use period_moves::{checked_add_period, nth_period};
 pub use period_ends::{
     first_of_iso_week, first_of_month, first_of_quarter, first_of_year, last_of_iso_week,
     last_of_month, last_of_quarter, last_of_year, quarter,
