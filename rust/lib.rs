@@ -97,11 +97,10 @@ pub use cal_span::SignedDuration;
 pub use cal_span::SignedDuration as Duration;
 pub use cal_time::{add_to_pair, sub_from_pair};
 pub use cal_units::{Month, Weekday};
-pub use cal_zone::{Local, Zone};
+pub use cal_zone::{Local, Policy, Zone};
 pub use formats::FormatText;
 pub use schedule::{ByDay, Convention, DayCount, Frequency, Period, Rule, RuleDays, Workdays, YearFraction};
 pub use zone::{Gap, LocalType};
-pub use zones::Policy;
 
 /// Returns the version of the crate. `(0, 1, 0)` is 0.1.0.
 pub const fn version() -> (u32, u32, u32) {
@@ -184,8 +183,7 @@ pub mod util {
 /// Time zones.
 pub mod zone {
     pub use crate::cal_tzif::{ZoneError, ZoneErrorKind};
-    pub use crate::cal_zone::{Change, Gap, Local, LocalType, Yearly, Zone};
-    pub use crate::zones::Policy;
+    pub use crate::cal_zone::{Change, Gap, Local, LocalType, Policy, Yearly, Zone};
 }
 
 /// The pages for Rust, whose examples are tested.

@@ -108,6 +108,7 @@ const DERIVES: &[(&str, &[&str], &[&str])] = &[
     ("cal_recurrence", &["ZonedSet", "Occurrences", "CountedZonedSet"], &["Debug"]),
     ("cal_zone", &["Zone", "UncheckedZone", "Table"], &["Copy", "Debug", "PartialEq", "Eq"]),
     ("cal_zone", &["Gap", "Layout", "Local", "Rule", "Yearly"], &["Debug", "PartialEq", "Eq"]),
+    ("cal_zone", &["Policy"], &["Hash"]),
 ];
 
 /// Derives traits. A type that the kit drops can be cloned in Rust, unless it has a clone of its
