@@ -103,3 +103,7 @@ until_sign a b y m d forward backward =
       | inl back ↦ let h = backward back in inr (h.0, h.2, omega (arith, ints), h.3, omega (arith, ints))
       | inr on ↦ let h = forward on in inl (h.0, h.1, omega (arith, ints), h.3, omega (arith, ints))
     ]
+
+pub once : (z : ℤ) → pos 1 *ℤ z ≡ z
+once (pos n) = omega (arith, ints)
+once (negsuc n) = omega (arith, ints)

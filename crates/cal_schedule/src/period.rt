@@ -151,13 +151,7 @@ fn in_days(weeks: i32, days: i32) -> i64
 }
 
 /// Returns `true` if no part has another sign than another part.
-fn is_one_sign(
-    years: i32,
-    months: i32,
-    weeks: i32,
-    days: i32,
-    duration: SignedDuration,
-) -> bool
+fn is_one_sign(years: i32, months: i32, weeks: i32, days: i32, duration: SignedDuration) -> bool
     ensures { IsTrue result ↔ IsOneSign (parts years months weeks days duration) }
 {
     rises(years, months, weeks, days, duration) || falls(years, months, weeks, days, duration)

@@ -38,8 +38,19 @@ pub fn nth_period(start: Date, period: Period, n: i32) -> Result<Date, PeriodErr
     }
 }
 
-/// Adds the months and the days of a period `n` times at once. Returns `None` if the result is out
-/// of range.
+/// Adds the months and the days of a period, whatever its duration is. Returns `None` if the result
+/// is out of range.
+pub fn date_after(date: Date, period: Period) -> Option<Date>
+    ensures every { (r : ℕ) → IsDate r → IsDaysLater date (months_of period) (days_of period) r
+        → result ≡ Some r }
+    ensures value { IfSome result (λ r. IsDate r
+        × IsDaysLater date (months_of period) (days_of period) r) }
+{
+    nth_date(date, period, 1)
+}
+
+/// Adds the months and the days of a period `n` times at once, whatever its duration is. Returns
+/// `None` if the result is out of range.
 pub fn nth_date(start: Date, period: Period, n: i32) -> Option<Date>
     ensures every { (r : ℕ) → IsDate r
         → IsDaysLater start (n *ℤ months_of period) (n *ℤ days_of period) r → result ≡ Some r }

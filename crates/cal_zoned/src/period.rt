@@ -6,8 +6,7 @@ ghost use Rattle.cal_schedule.specs.Period.{days_of, months_of, IsDaysLater};
 ghost use Rattle.cal_zoned.specs.Period.{IsLater};
 
 use cal_datetime::PlainDateTime;
-use cal_schedule::{Period, nth_period};
-use cal_time::Date;
+use cal_schedule::{Period, date_after};
 
 /// Adds a period to a local date-time: its years and months and then its weeks and days to the
 /// date, as [`cal_schedule::checked_add_period`] does, and then its duration. Returns `None` if the

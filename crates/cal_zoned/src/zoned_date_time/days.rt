@@ -13,7 +13,7 @@ impl<'z> ZonedDateTime<'z> {
         ensures date { IfSome result (λ r.
             date_at r.moment.local ≡ date_at self.now.moment.local) }
     {
-        start_of_day(self.date(), self.zone)
+        start_of_day(self.local().date(), self.zone)
     }
 
     /// Returns the length of the day, from its start to the start of the next day. In Berlin it is

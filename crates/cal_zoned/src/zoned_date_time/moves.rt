@@ -11,7 +11,7 @@ ghost use Rattle.cal_zoned.specs.Zoned.{instant_in, IsSeen};
 
 use crate::ZonedDateTime;
 use cal_datetime::PlainDateTime;
-use cal_schedule::{Period, nth_period};
+use cal_schedule::{Period, date_after};
 use cal_time::{Date, SignedDuration, Time};
 use cal_zone::{LocalTimeError, Policy};
 
@@ -71,11 +71,7 @@ impl<'z> ZonedDateTime<'z> {
     ///
     /// Returns the errors of [`ZonedDateTime::from_local`], and `OutOfRange` if the date or the
     /// result is out of range.
-    pub fn checked_add_period(
-        &self,
-        period: Period,
-        policy: Policy,
-    ) -> Result<Self, LocalTimeError>
+    pub fn checked_add_period(&self, period: Period, policy: Policy) -> Result<Self, LocalTimeError>
         ensures { IsPeriodLater policy self.now period result }
     {
         if is_exact(period) {

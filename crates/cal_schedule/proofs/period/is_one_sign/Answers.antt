@@ -19,8 +19,7 @@ returns-else-rises c =
     let weeks = c.ranges.weeks in
     let days = c.ranges.days in
     let up = simp to_z-of_z at c.rises.ensures in
-    let down = simp to_z-of_z at c.falls.ensures in
-    (
+    let down = simp to_z-of_z at c.falls.ensures in (
       λ t. inr (down.0 t),
       λ h. elim h as (λ _. IsTrue c.falls.result) [
         | inl rising ↦ absurd (false_true (sym c.if-rises.false ∙ up.1 rising))
