@@ -2,7 +2,7 @@
 use Rattle.std.specs.Prelude.{◌≡◌, ℕ, ◌≤◌, ℤ, pos, ◌+ℤ◌, ◌*ℤ◌, ◌≤ℤ◌}
 use Rattle.cal_time.specs.Date.{IsDate}
 use Rattle.cal_schedule.specs.Months.{IsMonthsLater}
-use Rattle.cal_schedule.specs.Period.{Parts, months_of}
+use Rattle.cal_schedule.specs.Period.{date_period, months_of, Parts}
 
 -- The day `months` months after day n is in the range and not after day t.
 pub record IsMonthsUpTo (n t : ℕ) (months : ℤ) : Type 0 where
@@ -35,5 +35,4 @@ pub record IsPeriodUntil (n t : ℕ) (p : Parts) : Type 0 where
   pub date : IsDate day
   pub later : IsMonthsLater n (months_of p) day
   pub days : pos t ≡ pos day +ℤ p.days
-  pub no_weeks : p.weeks ≡ pos 0
-  pub no_clock : p.exact ≡ pos 0
+  pub only : p ≡ date_period p.years p.months p.days

@@ -10,7 +10,7 @@ use std::marker::Model;
 ///
 /// No part is negative if another one is positive. Parts are kept as they are given: 12 months
 /// aren't a year, and 7 days aren't a week, although they move a date alike.
-#[derive(Clone, Copy, Debug)]
+#[derive(Clone, Copy, Debug, PartialEq, Eq)]
 pub struct Period {
     years: i32,
     months: i32,
@@ -82,6 +82,45 @@ impl Period {
             weeks: 0,
             days: 0,
             duration: SignedDuration::ZERO,
+        }
+    }
+
+    /// Creates a period of weeks.
+    pub fn from_weeks(weeks: i32) -> Self
+        ensures { result ≡ parts (pos 0) (pos 0) weeks (pos 0) (pos 0) }
+    {
+        Period {
+            years: 0,
+            months: 0,
+            weeks,
+            days: 0,
+            duration: SignedDuration::ZERO,
+        }
+    }
+
+    /// Creates a period of days.
+    pub fn from_days(days: i32) -> Self
+        ensures { result ≡ parts (pos 0) (pos 0) (pos 0) days (pos 0) }
+    {
+        Period {
+            years: 0,
+            months: 0,
+            weeks: 0,
+            days,
+            duration: SignedDuration::ZERO,
+        }
+    }
+
+    /// Creates a period of an exact duration.
+    pub fn from_duration(duration: SignedDuration) -> Self
+        ensures { result ≡ parts (pos 0) (pos 0) (pos 0) (pos 0) duration }
+    {
+        Period {
+            years: 0,
+            months: 0,
+            weeks: 0,
+            days: 0,
+            duration,
         }
     }
 

@@ -15,8 +15,7 @@ returns-clause-value c = record {
   date = c.add_months-day.ensures.range;
   later = subst (λ m. IsMonthsLater c.args.from m c.add_months-day.result) (omega (arith, ints, c.years_and_months-years.ensures.value)) c.add_months-day.ensures.value;
   days = omega (arith, ints);
-  no_weeks = refl;
-  no_clock = refl;
+  only = refl;
 }
 
 pub returns-clause-forward : goal.returns-clause-forward
