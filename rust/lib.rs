@@ -97,11 +97,11 @@ pub use cal_span::SignedDuration;
 pub use cal_span::SignedDuration as Duration;
 pub use cal_time::{add_to_pair, sub_from_pair};
 pub use cal_units::{Month, Weekday};
-pub use cal_zone::{Local, Zone};
+pub use cal_zone::{Local, Policy, Zone};
+pub use cal_zoned::ZonedDateTime;
 pub use formats::FormatText;
 pub use schedule::{ByDay, Convention, DayCount, Frequency, Period, Rule, RuleDays, Workdays, YearFraction};
 pub use zone::{Gap, LocalType};
-pub use zones::Policy;
 
 /// Returns the version of the crate. `(0, 1, 0)` is 0.1.0.
 pub const fn version() -> (u32, u32, u32) {
@@ -122,9 +122,11 @@ const fn number(digits: &str) -> u32 {
 pub mod error {
     pub use crate::cal_format::FormatError;
     pub use crate::cal_recurrence::{ParseRuleError, ParseRuleErrorKind, ParseSetError, ParseSetErrorKind};
+    pub use crate::cal_schedule::PeriodError;
     pub use crate::cal_text::ParseError;
     pub use crate::cal_tzif::{ZoneError, ZoneErrorKind};
     pub use crate::cal_units::error::{Component, ComponentRange, ConversionRange, InvalidVariant};
+    pub use crate::cal_zone::LocalTimeError;
     pub use crate::formats::UnsupportedItem;
     #[cfg(feature = "std")]
     pub use crate::std_zones::NamedZoneError;
@@ -184,8 +186,8 @@ pub mod util {
 /// Time zones.
 pub mod zone {
     pub use crate::cal_tzif::{ZoneError, ZoneErrorKind};
-    pub use crate::cal_zone::{Change, Gap, Local, LocalType, Yearly, Zone};
-    pub use crate::zones::Policy;
+    pub use crate::cal_zone::{Change, Gap, Local, LocalType, Policy, Yearly, Zone};
+    pub use crate::cal_zoned::{ZonedDateTime, start_of_day};
 }
 
 /// The pages for Rust, whose examples are tested.

@@ -99,6 +99,7 @@ const HIDDEN: &[(&str, &[&str])] = &[
     ("Scanner", &["byte_from"]),
     ("Layout", &["kind"]),
     ("Table", &["new", "time", "kind", "change"]),
+    ("Instants", &["select"]),
     ("Span", &["single"]),
     ("Rule", &["from_changes", "single_after"]),
     ("UncheckedZone", &["single_in_table", "instants_of", "instants_near_change"]),
@@ -112,8 +113,13 @@ const HIDDEN: &[(&str, &[&str])] = &[
 
 /// Functions without a condition that only the crate calls, because Rust has a trait for each, or
 /// another function with the name.
-const REPLACED: &[(&str, &[&str])] =
-    &[("DateIter", &["clone"]), ("CycleIter", &["clone"]), ("Rev", &["clone"]), ("SignedDuration", &["unsigned_abs"])];
+const REPLACED: &[(&str, &[&str])] = &[
+    ("DateIter", &["clone"]),
+    ("CycleIter", &["clone"]),
+    ("Rev", &["clone"]),
+    ("SignedDuration", &["unsigned_abs"]),
+    ("Local", &["select"]),
+];
 
 /// Private functions whose results are in a table in Rust: the crate, the owner, the name, and the
 /// look-up. The function of the source computes the table, by the name with `computed_`.

@@ -108,6 +108,9 @@ const DERIVES: &[(&str, &[&str], &[&str])] = &[
     ("cal_recurrence", &["ZonedSet", "Occurrences", "CountedZonedSet"], &["Debug"]),
     ("cal_zone", &["Zone", "UncheckedZone", "Table"], &["Copy", "Debug", "PartialEq", "Eq"]),
     ("cal_zone", &["Gap", "Layout", "Local", "Rule", "Yearly"], &["Debug", "PartialEq", "Eq"]),
+    ("cal_zone", &["Policy"], &["Hash"]),
+    ("cal_zoned", &["ZonedDateTime"], &["Copy", "Debug"]),
+    ("cal_schedule", &["Period"], &["Hash"]),
 ];
 
 /// Derives traits. A type that the kit drops can be cloned in Rust, unless it has a clone of its

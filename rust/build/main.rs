@@ -17,7 +17,7 @@ use std::process::ExitCode;
 use strip::{Edits, Fault, Options, Source};
 
 /// The libraries, as modules of the crate.
-const CRATES: [&str; 13] = [
+const CRATES: [&str; 14] = [
     "cal_units",
     "cal_span",
     "cal_clock",
@@ -28,6 +28,7 @@ const CRATES: [&str; 13] = [
     "cal_text",
     "cal_format",
     "cal_zone",
+    "cal_zoned",
     "cal_tzif",
     "cal_recurrence",
     "cal_c",

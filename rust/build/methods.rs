@@ -3,7 +3,7 @@
 
 use crate::contracts;
 use crate::definitions::Definitions;
-use crate::strip::{Edits, Item, Source, TokenKind};
+use crate::strip::{Edits, Item, Kind, Source, TokenKind};
 
 /// The functions by crate and by the type that has them as methods. Their first parameter becomes
 /// `self` if it has this type.
@@ -33,9 +33,12 @@ const METHODS: &[(&str, &str, &[&str])] = &[
             "day_count",
             "nth_weekday_of_month",
             "last_weekday_of_month",
+            "checked_add_period",
+            "nth_period",
         ],
     ),
     ("cal_zone", "OffsetDateTime", &["in_zone"]),
+    ("cal_zoned", "PlainDateTime", &["checked_add_period"]),
 ];
 
 /// Makes links to functions that are methods in Rust links to these.
@@ -77,7 +80,9 @@ fn documentation(source: &Source, item: &Item) -> String {
 pub fn add(source: &Source, item: &Item, definitions: &Definitions, edits: &mut Edits) {
     let name = item.name.as_str();
     let Some((_, owner, _)) = METHODS.iter().find(|row| row.0 == source.krate && row.2.contains(&name)) else { return };
-    if !source.part(&item.head).starts_with("pub fn") {
+    let is_inside =
+        |other: &Item| other.kind == Kind::Impl && other.body.as_ref().is_some_and(|body| body.contains(&item.head.start));
+    if !source.part(&item.head).starts_with("pub fn") || source.items.iter().any(is_inside) {
         return;
     }
     let head: String =

@@ -13,4 +13,5 @@ mod schedule;
 mod texts;
 mod walks;
 mod workdays;
+mod zoned;
 mod zones;

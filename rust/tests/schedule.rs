@@ -1,6 +1,6 @@
 //! Months, ends of periods, weekdays of a month and day counts, by rows of calendars and of the memorandum of the ISDA.
 
-use fotsevindre::{Date, DayCount, Month, Period, Weekday, YearFraction};
+use fotsevindre::{Date, DayCount, Month, Period, SignedDuration, Weekday, YearFraction};
 
 fn day(year: i32, month: Month, day: u8) -> Date {
     Date::from_calendar_date(year, month, day).unwrap()
@@ -19,7 +19,7 @@ fn months() {
     assert_eq!(born.years_until(day(2024, Month::June, 1)), 44);
     assert_eq!(day(2023, Month::January, 31).months_until(day(2022, Month::December, 30)), -1);
     let period = day(2023, Month::January, 31).period_until(day(2024, Month::March, 2));
-    assert_eq!(period, Period { years: 1, months: 1, days: 2 });
+    assert_eq!(Some(period), Period::new(1, 1, 0, 2, SignedDuration::ZERO));
 }
 
 #[test]

@@ -2,7 +2,7 @@
 use Rattle.std.specs.Prelude.{◌≡◌, ℕ, ◌≤◌, ℤ, pos, neg_ℤ}
 use Rattle.cal_schedule.specs.declared.year_fraction.DayCount.{DayCount}
 use Rattle.cal_schedule.specs.declared.year_fraction.DayCount.TheVariants.{Actual360, Actual365Fixed, Thirty360, ThirtyE360, ActualActual}
-use Rattle.cal_schedule.specs.declared.period.Period.{Period}
+use Rattle.cal_schedule.specs.Period.{date_period, Parts}
 use Rattle.cal_c.specs.Results.{no_value}
 use Rattle.cal_c.specs.Statuses.{ok_status}
 use Rattle.cal_c.specs.declared.results.NumberResult.{NumberResult}
@@ -15,16 +15,16 @@ pub record IsNumberWith (Has : ℤ → Type 0) (r : NumberResult) : Type 0 where
   pub has : Has r.number
 
 -- ---- periods
-abbrev pub period_ok : Period → PeriodResult
+abbrev pub period_ok : Parts → PeriodResult
 period_ok p = record { status = ok_status; years = p.years; months = p.months; days = p.days }
 
 abbrev pub period_error : ℤ → PeriodResult
 period_error s = record { status = s; years = no_value; months = no_value; days = no_value }
 
 -- The result is a period with a property.
-pub record IsPeriodWith (Has : Period → Type 0) (r : PeriodResult) : Type 0 where
+pub record IsPeriodWith (Has : Parts → Type 0) (r : PeriodResult) : Type 0 where
   pub status_is : r.status ≡ ok_status
-  pub has : Has (record { years = r.years; months = r.months; days = r.days })
+  pub has : Has (date_period r.years r.months r.days)
 
 -- ---- day counts
 abbrev pub year_fraction_ok : ℤ → ℕ → YearFractionResult

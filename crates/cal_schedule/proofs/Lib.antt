@@ -16,3 +16,4 @@ pub mod MoneyDays
 pub mod OneAnswer
 pub mod WorkdaysSearch
 pub mod WorkdaysWeeks
+pub mod Periods

@@ -8,8 +8,8 @@ use Rattle.std.proofs.lemmas.List.{reverse-append}
 use Rattle.cal_time.specs.declared.error.ComponentRange.{ComponentRange}
 use Rattle.cal_time.specs.Date.{first_year, last_year, last_day, IsDate}
 use Rattle.cal_schedule.specs.Months.{month_number_at, IsMonthNumber, IsMonthsLater}
-use Rattle.cal_schedule.specs.Until.{IsPeriodUntil, IsGreatest, IsLeast, months_of}
-use Rattle.cal_schedule.specs.declared.period.Period.{Period}
+use Rattle.cal_schedule.specs.Period.{date_period, months_of, Parts}
+use Rattle.cal_schedule.specs.Until.{IsPeriodUntil, IsGreatest, IsLeast}
 use Rattle.cal_schedule.proofs.MonthMoves.{one_later}
 
 -- The day with a property, or none if no day has it.
@@ -53,12 +53,13 @@ until-one a b Up Back y z on back more less =
     ]
 
 -- years and months of one sign, of one number of months, and the days that are left
-pub period-one : (a b : ℕ) (p q : Period) → IsPeriodUntil a b p → IsPeriodUntil a b q → months_of p ≡ months_of q
+pub period-one : (a b : ℕ) (p q : Parts) → IsPeriodUntil a b p → IsPeriodUntil a b q → months_of p ≡ months_of q
     → p.years ≡ q.years → p.months ≡ q.months → p ≡ q
 period-one a b p q h k e years months =
     let day : h.day ≡ k.day = one_later a h.day k.day (months_of q) (subst (λ m. IsMonthsLater a m h.day) e h.later) k.later in
     let days : p.days ≡ q.days = omega (arith, ints, h.days, k.days, ap pos day) in
-    λ i. record { years = years i; months = months i; days = days i }
+    h.only ∙ ap (λ (y : ℤ). date_period y p.months p.days) years ∙ ap (λ (m : ℤ). date_period q.years m p.days) months
+    ∙ ap (λ (d : ℤ). date_period q.years q.months d) days ∙ sym k.only
 
 -- the last item of a list, which a step from the back takes
 pub last_is : (days rest : List ℕ) (r : Option ℕ) → YieldsLast (λ l. l) days r rest → r ≡ slice_get (reverse days) 0

@@ -1,6 +1,8 @@
 pub mod Months
 pub mod MonthLaws
 pub mod Pattern
+pub mod Period
+pub mod PeriodFields
 pub mod Previous
 pub mod Rule
 pub mod Ranks

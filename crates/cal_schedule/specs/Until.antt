@@ -1,8 +1,8 @@
 -- The number of months from one day to another that doesn't pass it.
 use Rattle.std.specs.Prelude.{◌≡◌, ℕ, ◌≤◌, ℤ, pos, ◌+ℤ◌, ◌*ℤ◌, ◌≤ℤ◌}
 use Rattle.cal_time.specs.Date.{IsDate}
-use Rattle.cal_schedule.specs.declared.period.Period.{Period}
 use Rattle.cal_schedule.specs.Months.{IsMonthsLater}
+use Rattle.cal_schedule.specs.Period.{date_period, months_of, Parts}
 
 -- The day `months` months after day n is in the range and not after day t.
 pub record IsMonthsUpTo (n t : ℕ) (months : ℤ) : Type 0 where
@@ -28,13 +28,11 @@ pub record IsLeast (Holds : ℤ → Type 0) (z : ℤ) : Type 0 where
   pub holds : Holds z
   pub least : (k : ℤ) → Holds k → z ≤ℤ k
 
--- The months of a period, with 12 for each year.
-abbrev pub months_of : Period → ℤ
-months_of p = pos 12 *ℤ p.years +ℤ p.months
-
--- Day t is a period after day n: its years and months at once, and then its days.
-pub record IsPeriodUntil (n t : ℕ) (p : Period) : Type 0 where
+-- Day t is a period of years, months and days after day n: the years and months at once, and then
+-- the days.
+pub record IsPeriodUntil (n t : ℕ) (p : Parts) : Type 0 where
   pub day : ℕ
   pub date : IsDate day
   pub later : IsMonthsLater n (months_of p) day
   pub days : pos t ≡ pos day +ℤ p.days
+  pub only : p ≡ date_period p.years p.months p.days

@@ -10,6 +10,8 @@ pub mod laws;
 mod months;
 mod period;
 mod period_ends;
+mod period_error;
+mod period_moves;
 mod rule;
 mod until;
 mod weekdays;
@@ -22,6 +24,8 @@ pub use period_ends::{
     first_of_iso_week, first_of_month, first_of_quarter, first_of_year, last_of_iso_week,
     last_of_month, last_of_quarter, last_of_year, quarter,
 };
+pub use period_error::PeriodError;
+pub use period_moves::{checked_add_period, date_after, nth_date, nth_period};
 pub use rule::{ByDay, Frequency, Pattern, PeriodUnit, Rule, RuleDays, Values};
 pub use until::{months_until, period_until, years_until};
 pub use weekdays::{last_weekday_of_month, nth_weekday_of_month, on_or_after, on_or_before};

@@ -2,11 +2,12 @@
 ghost use Rattle.std.specs.Prelude.{◌≡◌, ◌<◌, ◌≤◌, ◌^◌, pos, neg_ℤ, ◌+ℤ◌, ◌-ℤ◌, ◌*ℤ◌, ◌<ℤ◌, ◌≤ℤ◌};
 ghost use Rattle.cal_time.specs.Date.{IsDate};
 ghost use Rattle.cal_schedule.specs.Months.{month_number_at, IsMonthNumber, IsMonthsLater};
-ghost use Rattle.cal_schedule.specs.Until.{months_of, IsGreatest, IsLeast, IsPeriodUntil, IsMonthsUpTo, IsMonthsBackTo};
+ghost use Rattle.cal_schedule.specs.Period.{date_period, months_of};
+ghost use Rattle.cal_schedule.specs.Until.{IsGreatest, IsLeast, IsPeriodUntil, IsMonthsUpTo, IsMonthsBackTo};
 
 use crate::months::checked_add_months;
 use crate::period::Period;
-use cal_time::Date;
+use cal_time::{Date, SignedDuration};
 
 /// Returns the months from the month of one date to the month of another.
 pub(crate) fn month_difference(from: Date, to: Date) -> i32
@@ -105,6 +106,25 @@ pub fn years_until(from: Date, to: Date) -> i32
     years
 }
 
+/// Returns the years, months and days from one date to another.
+fn parts_until(from: Date, to: Date) -> (i32, i32, i32)
+    ensures value { IsPeriodUntil from to (date_period result.0 result.1 result.2) }
+    ensures value_forward { from ≤ to
+        → IsGreatest (IsMonthsUpTo from to) (pos 12 *ℤ result.0 +ℤ result.1) }
+    ensures value_backward { to < from
+        → IsLeast (IsMonthsBackTo from to) (pos 12 *ℤ result.0 +ℤ result.1) }
+    ensures forward { from ≤ to → (pos 0 ≤ℤ result.0) × (pos 0 ≤ℤ result.1)
+        × (result.1 ≤ℤ pos 11) × (pos 0 ≤ℤ result.2) }
+    ensures backward { to < from → (result.0 ≤ℤ pos 0) × (neg_ℤ (pos 11) ≤ℤ result.1)
+        × (result.1 ≤ℤ pos 0) × (result.2 ≤ℤ pos 0) }
+    ensures in_range { IsDate from × IsDate to }
+{
+    let whole = months_until(from, to);
+    let day = add_months(from, whole);
+    let (years, months) = years_and_months(whole);
+    (years, months, to.to_julian_day() - day.to_julian_day())
+}
+
 /// Returns the years, months and days from one date to another: as many whole months as
 /// [`months_until`] returns, then the remaining days. Adding the years and months at once, and then
 /// the days, gives `to`. All three are positive or 0, or all three are negative or 0.
@@ -121,12 +141,9 @@ pub fn period_until(from: Date, to: Date) -> Period
         × (result.months ≤ℤ pos 0) × (result.days ≤ℤ pos 0) }
     ensures in_range { IsDate from × IsDate to }
 {
-    let whole = months_until(from, to);
-    let day = add_months(from, whole);
-    let (years, months) = years_and_months(whole);
-    Period {
-        years,
-        months,
-        days: to.to_julian_day() - day.to_julian_day(),
+    let (years, months, days) = parts_until(from, to);
+    match Period::new(years, months, 0, days, SignedDuration::ZERO) {
+        Some(period) => period,
+        None => unreachable!(),
     }
 }

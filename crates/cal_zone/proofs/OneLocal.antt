@@ -35,13 +35,13 @@ not_in_both : (L p x y E q u v : ℤ) → L <ℤ (p +ℤ y) → (p +ℤ int_max 
 not_in_both L p x y E q u v h i j k = omega (arith, ints, clamps)
 
 -- ---- a gap over a reading is that of the change with an index
-record IsGapOf (zone : Timeline) (L a b f : ℤ) (k : ℕ) : Type 0 where
-  inside : k < length zone.changes
-  at_is : a ≡ at zone.changes k
-  before_is : b ≡ after zone k
-  after_is : f ≡ after zone (suc k)
-  starts : (a +ℤ b) ≤ℤ L
-  ends : L <ℤ (a +ℤ f)
+pub record IsGapOf (zone : Timeline) (L a b f : ℤ) (k : ℕ) : Type 0 where
+  pub inside : k < length zone.changes
+  pub at_is : a ≡ at zone.changes k
+  pub before_is : b ≡ after zone k
+  pub after_is : f ≡ after zone (suc k)
+  pub starts : (a +ℤ b) ≤ℤ L
+  pub ends : L <ℤ (a +ℤ f)
 
 index_of : (zone : Timeline) → IsOrdered zone.first.offset zone.changes → (L a b f : ℤ) → IsGap zone L a b f → (m : ℕ) → m ≤ length zone.changes
     → ((k : ℕ) → k < m → at zone.changes k ≤ℤ a) → ((k : ℕ) → m ≤ k → k < length zone.changes → a <ℤ at zone.changes k) → (k : ℕ) × IsGapOf zone L a b f k
@@ -72,7 +72,7 @@ index_of zone order L a b f gap (suc m) within below above =
       },
     ))
 
-gap_index : (zone : Timeline) → IsOrdered zone.first.offset zone.changes → (L a b f : ℤ) → IsGap zone L a b f → (k : ℕ) × IsGapOf zone L a b f k
+pub gap_index : (zone : Timeline) → IsOrdered zone.first.offset zone.changes → (L a b f : ℤ) → IsGap zone L a b f → (k : ℕ) × IsGapOf zone L a b f k
 gap_index zone order L a b f gap =
     let count = some_count zone order a (length zone.changes) (omega arith) in
     index_of zone order L a b f gap count.0 count.1 count.2 count.3

@@ -10,3 +10,4 @@ pub mod Table
 pub mod Changes
 pub mod Local
 pub mod Abbreviation
+pub mod Policy

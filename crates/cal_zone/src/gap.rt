@@ -3,7 +3,10 @@ ghost use Rattle.std.specs.Prelude.{◌≡◌, ℤ, pos, ◌+ℤ◌, ◌-ℤ◌,
 ghost use Rattle.cal_time.specs.SignedDuration.{second};
 ghost use Rattle.cal_datetime.specs.DateTime.{IsDateTime};
 ghost use Rattle.cal_datetime.specs.OffsetDateTime.{unix_epoch};
+ghost use Rattle.cal_zone.specs.Local.{moved_back, moved_forward};
+ghost use Rattle.cal_zone.specs.Policy.{in_gap, in_range};
 
+use crate::{LocalTimeError, Policy};
 use cal_datetime::{OffsetDateTime, PlainDateTime};
 use cal_time::{SignedDuration, UtcOffset};
 
@@ -89,5 +92,17 @@ impl Gap {
         self.reading
             .assume_offset(self.before)
             .checked_to_offset(self.after)
+    }
+
+    /// Returns the reading moved by a policy, or an error.
+    pub(crate) fn select(self, policy: Policy) -> Result<OffsetDateTime, LocalTimeError>
+        ensures { result ≡ in_gap policy (in_range (moved_back self)) (in_range (moved_forward self)) }
+    {
+        let moved = match policy {
+            Policy::Compatible | Policy::Later => self.later(),
+            Policy::Earlier => self.earlier(),
+            Policy::Reject => return Err(LocalTimeError::Skipped),
+        };
+        moved.ok_or(LocalTimeError::OutOfRange)
     }
 }

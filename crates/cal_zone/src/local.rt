@@ -1,8 +1,9 @@
 //! The date-times that a reading names in a zone.
 ghost use Rattle.std.specs.Prelude.{◌≡◌};
 ghost use Rattle.cal_zone.specs.Local.{IsCompatible, IsEarlier, IsLater, reject};
+ghost use Rattle.cal_zone.specs.Policy.{moment_by};
 
-use crate::Gap;
+use crate::{Gap, LocalTimeError, Policy};
 use cal_datetime::OffsetDateTime;
 
 /// The date-times at which the clocks of a zone show a reading: one, none or two.
@@ -20,6 +21,26 @@ pub enum Local {
 }
 
 impl Local {
+    /// Returns the date-time that a reading means by a policy.
+    ///
+    /// # Errors
+    ///
+    /// Returns `Skipped` or `Repeated` by [`Policy::Reject`] in a gap or in a fold, and
+    /// `OutOfRange` if the reading of a gap leaves the range as it moves.
+    pub fn select(self, policy: Policy) -> Result<OffsetDateTime, LocalTimeError>
+        ensures { result ≡ moment_by policy self }
+    {
+        match self {
+            Local::Single(moment) => Ok(moment),
+            Local::Gap(gap) => gap.select(policy),
+            Local::Fold { earlier, later } => match policy {
+                Policy::Compatible | Policy::Earlier => Ok(earlier),
+                Policy::Later => Ok(later),
+                Policy::Reject => Err(LocalTimeError::Repeated),
+            },
+        }
+    }
+
     /// Returns the date-time that RFC 5545 and most calendars mean. A reading in a gap moves
     /// forward by the length of the gap, and in a fold the earlier date-time is meant. Returns
     /// `None` if the result is out of range. In Berlin 2024-03-31 2:30 becomes 3:30 +02:00:00, and
@@ -27,11 +48,7 @@ impl Local {
     pub fn compatible(self) -> Option<OffsetDateTime>
         ensures { IsCompatible self result }
     {
-        match self {
-            Local::Single(moment) => Some(moment),
-            Local::Gap(gap) => gap.later(),
-            Local::Fold { earlier, .. } => Some(earlier),
-        }
+        self.select(Policy::Compatible).ok()
     }
 
     /// Returns the earlier date-time. A reading in a gap moves back by the length of the gap.
@@ -40,11 +57,7 @@ impl Local {
     pub fn earlier(self) -> Option<OffsetDateTime>
         ensures { IsEarlier self result }
     {
-        match self {
-            Local::Single(moment) => Some(moment),
-            Local::Gap(gap) => gap.earlier(),
-            Local::Fold { earlier, .. } => Some(earlier),
-        }
+        self.select(Policy::Earlier).ok()
     }
 
     /// Returns the later date-time. A reading in a gap moves forward by the length of the gap.
@@ -53,21 +66,13 @@ impl Local {
     pub fn later(self) -> Option<OffsetDateTime>
         ensures { IsLater self result }
     {
-        match self {
-            Local::Single(moment) => Some(moment),
-            Local::Gap(gap) => gap.later(),
-            Local::Fold { later, .. } => Some(later),
-        }
+        self.select(Policy::Later).ok()
     }
 
     /// Returns the date-time if the clocks show the reading exactly once, and `None` otherwise.
     pub fn reject(self) -> Option<OffsetDateTime>
         ensures { result ≡ reject self }
     {
-        match self {
-            Local::Single(moment) => Some(moment),
-            Local::Gap(_) => None,
-            Local::Fold { .. } => None,
-        }
+        self.select(Policy::Reject).ok()
     }
 }

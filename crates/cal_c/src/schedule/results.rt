@@ -53,9 +53,9 @@ impl PeriodResult {
     {
         PeriodResult {
             status: OK,
-            years: period.years,
-            months: period.months,
-            days: period.days,
+            years: period.years(),
+            months: period.months(),
+            days: period.days(),
         }
     }
 

@@ -1,6 +1,7 @@
 //! The months, the years and the period from one date to another.
 ghost use Rattle.std.specs.Prelude.{◌≡◌, pos, neg_ℤ, ◌*ℤ◌, ◌<ℤ◌, ◌≤ℤ◌};
-ghost use Rattle.cal_schedule.specs.Until.{months_of, IsGreatest, IsLeast, IsPeriodUntil, IsMonthsUpTo, IsMonthsBackTo};
+ghost use Rattle.cal_schedule.specs.Period.{months_of};
+ghost use Rattle.cal_schedule.specs.Until.{IsGreatest, IsLeast, IsPeriodUntil, IsMonthsUpTo, IsMonthsBackTo};
 ghost use Rattle.cal_c.specs.Results.{number_error};
 ghost use Rattle.cal_c.specs.Schedule.{period_error, IsNumberWith, IsPeriodWith};
 ghost use Rattle.cal_c.specs.Statuses.{invalid_date};

@@ -7,7 +7,7 @@ use cal_schedule::{
     on_or_after, on_or_before, period_until, quarter, saturating_add_months, years_until,
 };
 use cal_time::error::ComponentRange;
-use cal_time::{Date, Month, Weekday};
+use cal_time::{Date, Month, SignedDuration, Weekday};
 
 /// A year, the number of a month, and a day of it.
 type Parts = (i32, u8, u8);
@@ -110,15 +110,11 @@ fn months_years_and_periods_until(rt: HostRuntime) {
         (MIN, MAX, 23_999_987, (1_999_998, 11, 30)),
         (MAX, MIN, -23_999_987, (-1_999_998, -11, -30)),
     ] {
-        let period = Period {
-            years,
-            months: past_years,
-            days,
-        };
+        let period = Period::new(years, past_years, 0, days, SignedDuration::ZERO);
         let (from, to) = (date(rt, from), date(rt, to));
         same_at(rt, to, months_until(from, to), months);
         same_at(rt, to, years_until(from, to), years);
-        same_at(rt, to, period_until(from, to), period);
+        same_at(rt, to, Some(period_until(from, to)), period);
     }
 }
 

@@ -1,0 +1,4 @@
+pub mod Instants
+pub mod Firsts
+pub mod OneResult
+pub mod Periods

@@ -1,0 +1,5 @@
+pub mod Zoned
+pub mod Resolved
+pub mod Day
+pub mod Period
+pub mod Hash

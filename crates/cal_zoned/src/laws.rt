@@ -1,0 +1,26 @@
+//! Laws: each definition leaves one result.
+ghost use Rattle.std.specs.Prelude.{◌≡◌, ℤ, Option, Result};
+ghost use Rattle.cal_zone.specs.declared.local_time_error.LocalTimeError.{LocalTimeError};
+ghost use Rattle.cal_zone.specs.declared.policy.Policy.{Policy};
+ghost use Rattle.cal_zoned.specs.Day.{IsStart};
+ghost use Rattle.cal_zoned.specs.Resolved.{IsResolved};
+ghost use Rattle.cal_zoned.specs.Zoned.{InZone};
+
+use cal_zone::Zone;
+use cal_zone::laws::one_local;
+
+/// Proves that a local date-time means one result by a policy.
+pub fn one_resolved(zone: &Zone<'_>)
+    ensures { (p : Policy) (reading : ℤ) (a b : Result InZone LocalTimeError)
+        → IsResolved p zone.now reading a → IsResolved p zone.now reading b → a ≡ b }
+{
+    one_local(zone);
+}
+
+/// Proves that a day has one start.
+pub fn one_start(zone: &Zone<'_>)
+    ensures { (reading : ℤ) (a b : Option InZone)
+        → IsStart zone.now reading a → IsStart zone.now reading b → a ≡ b }
+{
+    one_local(zone);
+}

@@ -1,0 +1,13 @@
+//! Date-times in a zone: an instant and a zone, seen as what its clocks show.
+//!
+//! Days, weeks, months and years move what the clocks show, and durations move the instant.
+#![tactic(auto)]
+
+mod day;
+pub mod laws;
+mod period;
+mod zoned_date_time;
+
+pub use day::start_of_day;
+pub use period::checked_add_period;
+pub use zoned_date_time::ZonedDateTime;

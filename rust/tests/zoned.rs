@@ -1,0 +1,119 @@
+//! Date-times in a zone: rows of the documentation of Temporal and of Python's `zoneinfo`.
+
+use fotsevindre::error::{LocalTimeError, PeriodError};
+use fotsevindre::zone::start_of_day;
+use fotsevindre::{Date, Month, Period, PlainDateTime, Policy, SignedDuration, Time, Zone, ZonedDateTime};
+
+const CET: &str = "CET-1CEST,M3.5.0,M10.5.0/3";
+const POLICIES: [Policy; 4] = [Policy::Compatible, Policy::Earlier, Policy::Later, Policy::Reject];
+
+fn reading(text: &str) -> PlainDateTime {
+    text.parse().unwrap()
+}
+
+fn period(years: i32, months: i32, weeks: i32, days: i32, hours: i64) -> Period {
+    Period::new(years, months, weeks, days, SignedDuration::hours(hours)).unwrap()
+}
+
+fn shown(value: Result<ZonedDateTime<'_>, LocalTimeError>) -> Result<String, LocalTimeError> {
+    value.map(|value| value.to_offset_date_time().to_string())
+}
+
+#[test]
+fn local_date_times_by_policy() {
+    let berlin = Zone::parse_posix(CET).unwrap();
+    use LocalTimeError::{Repeated, Skipped};
+    for (text, wanted) in [
+        (
+            "2024-03-31 2:30:00",
+            [
+                Ok("2024-03-31 3:30:00.0 +02:00:00"),
+                Ok("2024-03-31 1:30:00.0 +01:00:00"),
+                Ok("2024-03-31 3:30:00.0 +02:00:00"),
+                Err(Skipped),
+            ],
+        ),
+        (
+            "2024-10-27 2:30:00",
+            [
+                Ok("2024-10-27 2:30:00.0 +02:00:00"),
+                Ok("2024-10-27 2:30:00.0 +02:00:00"),
+                Ok("2024-10-27 2:30:00.0 +01:00:00"),
+                Err(Repeated),
+            ],
+        ),
+    ] {
+        for (policy, wanted) in POLICIES.into_iter().zip(wanted) {
+            let found = ZonedDateTime::from_local(reading(text), &berlin, policy);
+            assert_eq!(shown(found), wanted.map(String::from), "{text} by {policy:?}");
+        }
+    }
+}
+
+#[test]
+fn periods_keep_the_clock() {
+    let berlin = Zone::parse_posix(CET).unwrap();
+    for (start, added, wanted) in [
+        ("2024-03-15 12:00:00", period(0, 1, 0, 0, 0), "2024-04-15 12:00:00.0 +02:00:00"),
+        ("2024-03-30 12:00:00", period(0, 0, 0, 1, 0), "2024-03-31 12:00:00.0 +02:00:00"),
+        ("2024-03-30 12:00:00", period(0, 0, 0, 0, 24), "2024-03-31 13:00:00.0 +02:00:00"),
+        // The months and the days move the date, and one reading is resolved.
+        ("2024-01-31 2:30:00", period(0, 2, 0, 1, 0), "2024-04-01 2:30:00.0 +02:00:00"),
+        ("2024-01-31 2:30:00", period(0, 1, 0, 31, 0), "2024-03-31 3:30:00.0 +02:00:00"),
+        ("2024-01-31 2:30:00", period(0, 1, 0, 31, 1), "2024-03-31 4:30:00.0 +02:00:00"),
+        ("2024-02-29 2:30:00", period(1, 0, 1, 0, 0), "2025-03-07 2:30:00.0 +01:00:00"),
+        ("2024-03-31 12:00:00", period(0, -1, 0, -1, 0), "2024-02-28 12:00:00.0 +01:00:00"),
+    ] {
+        let moment = ZonedDateTime::from_local(reading(start), &berlin, Policy::Compatible).unwrap();
+        assert_eq!(shown(moment.checked_add_period(added, Policy::Compatible)).as_deref(), Ok(wanted), "{start} and {added:?}");
+    }
+    // The second 2:30 of a fold stays the second one if nothing moves its reading.
+    let later = ZonedDateTime::from_local(reading("2024-10-27 2:30:00"), &berlin, Policy::Later).unwrap();
+    for same in [later.checked_add_period(period(0, 0, 0, 0, 0), Policy::Earlier), later.with_time(later.time(), Policy::Earlier)] {
+        assert_eq!(shown(same).as_deref(), Ok("2024-10-27 2:30:00.0 +01:00:00"));
+    }
+    let next = later.checked_add_period(Period::from_weeks(52), Policy::Reject);
+    assert_eq!(shown(next), Err(LocalTimeError::Repeated));
+}
+
+#[test]
+fn days_in_zones() {
+    let berlin = Zone::parse_posix(CET).unwrap();
+    for (text, hours) in [("2024-03-31 12:00:00", 23), ("2024-10-27 12:00:00", 25), ("2024-10-28 12:00:00", 24)] {
+        let moment = ZonedDateTime::from_local(reading(text), &berlin, Policy::Compatible).unwrap();
+        assert_eq!(moment.day_length(), Some(SignedDuration::hours(hours)), "{text}");
+        assert_eq!(moment.start_of_day().map(|start| start.time()), Some(Time::MIDNIGHT));
+    }
+    // Clocks that go from midnight to 1:00.
+    let skipped = Zone::parse_posix("<-03>3<-02>,M9.1.0/0,M4.1.0/0").unwrap();
+    let start = start_of_day(Date::from_calendar_date(2024, Month::September, 1).unwrap(), &skipped).unwrap();
+    assert_eq!(start.to_offset_date_time().to_string(), "2024-09-01 1:00:00.0 -02:00:00");
+}
+
+#[test]
+fn instants_compare_in_all_zones() {
+    let berlin = Zone::parse_posix(CET).unwrap();
+    let utc = Zone::parse_posix("UTC0").unwrap();
+    let noon = ZonedDateTime::from_local(reading("2024-07-01 12:00:00"), &berlin, Policy::Reject).unwrap();
+    let there = noon.in_zone(&utc).unwrap();
+    assert_eq!((noon, there.local()), (there, reading("2024-07-01 10:00:00")));
+    let hour = SignedDuration::HOUR;
+    assert_eq!(noon.checked_add(hour).unwrap().duration_since(&there), hour);
+    assert!(noon.checked_sub(hour).unwrap() < there);
+    let last = ZonedDateTime::from_offset_date_time(PlainDateTime::MAX.assume_utc(), &utc).unwrap();
+    assert_eq!((last.in_zone(&berlin), last.checked_add(SignedDuration::NANOSECOND)), (None, None));
+}
+
+#[test]
+fn periods_of_dates() {
+    let january = Date::from_calendar_date(2024, Month::January, 31).unwrap();
+    let month = Period::from_months(1);
+    let steps = (0..4).map(|n| january.nth_period(month, n).unwrap().to_string()).collect::<Vec<_>>();
+    assert_eq!(steps, ["2024-01-31", "2024-02-29", "2024-03-31", "2024-04-30"]);
+    assert_eq!(january.checked_add_period(period(0, 1, 0, 1, 0)).unwrap().to_string(), "2024-03-01");
+    assert_eq!(january.checked_add_period(period(0, 0, 0, 0, 1)), Err(PeriodError::HasDuration));
+    assert_eq!(Date::MAX.checked_add_period(Period::from_days(1)), Err(PeriodError::OutOfRange));
+    assert_eq!(Period::new(1, -1, 0, 0, SignedDuration::ZERO), None);
+    let start = reading("2024-01-31 23:30:00");
+    assert_eq!(start.checked_add_period(period(0, 1, 0, 0, 1)), Some(reading("2024-03-01 0:30:00")));
+}
