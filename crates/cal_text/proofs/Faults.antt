@@ -6,8 +6,6 @@ use Rattle.cal_time.specs.ComponentError.{FailsWith}
 use Rattle.cal_time.specs.declared.error.ComponentRange.{ComponentRange}
 use Rattle.cal_text.specs.Parsing.{HasError, component_of}
 use Rattle.cal_text.specs.declared.error.ParseError.{ParseError}
-use Rattle.cal_text.specs.Shape.{Shape}
-use Rattle.cal_text.proofs.Positions.{IsShapeOf}
 use Rattle.cal_text.proofs.Results.{one, not_ok}
 
 -- ---- one of several components
@@ -40,15 +38,6 @@ all {V} {R} (Err e) faults reason why = (λ h. faults.found why h (subst R h rea
 -- ---- a text has at most one form, so it has the errors of this form only
 abbrev pub IsOnly : {F : Type 0} → (List ℕ → F → Type 0) → List ℕ → F → Type 0
 IsOnly {F} Has text form = (other : F) → Has text other → ◌≡◌ {A = Result F ℕ} (Ok form) (Ok other)
-
--- the same of the form of a shape
-pub one_only : {F : Type 0} (Has : List ℕ → F → Type 0) (f : Shape) (text : List ℕ) (form : F) → IsShapeOf Has f → Has text form → IsOnly Has text form
-one_only Has f text form shape has other h = ap Ok (shape.one text form other has h)
-
--- A value of the text has the form of the text.
-pub of_only : {F V : Type 0} (Has : List ℕ → F → Type 0) (f : Shape) (Of : F → V → Type 0) (text : List ℕ) (form : F) (v : V) → IsShapeOf Has f → Has text form
-    → (other : F) × Has text other × Of other v → Of form v
-of_only Has f Of text form v shape has h = subst (λ x. Of x v) (shape.one text h.0 form h.1 has) h.2
 
 only : {F : Type 0} (Has : List ℕ → F → Type 0) (Of : F → ComponentRange → Type 0) (text : List ℕ) (form : F) (why : ComponentRange)
     → IsOnly Has text form → HasError Has Of text why → Of form why

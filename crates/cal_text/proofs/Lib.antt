@@ -3,7 +3,6 @@ pub mod YearTexts
 pub mod Ranges
 pub mod DayForms
 pub mod NumberTexts
-mod MomentReads
 mod PrintedDecimals
 mod PrintedMoments
 mod UnixReads
@@ -27,6 +26,7 @@ pub mod Stops
 pub mod Positions
 pub mod Parts
 mod Faults
+mod Parsed
 mod PlainReads
 mod OffsetDateTimeReads
 mod AnyForms
