@@ -100,7 +100,7 @@ two_digits = number_part 2 (lit≤ tt) (lit≤ tt)
 abbrev pub IsCount : ℕ → ℕ → List ℕ → Type 0
 IsCount k more ds = AllDigits 10 ds × (k ≤ length ds) × (length ds ≤ k + more)
 
-counted-each : (k more : ℕ) (f : Shape) (ds rest : List ℕ) → IsCount k more ds → BeginsOutside 48 9 rest → unmatched_bytes (Digits k (UpTo more f)) (ds ++ rest) ≡ unmatched_bytes f rest
+pub counted-each : (k more : ℕ) (f : Shape) (ds rest : List ℕ) → IsCount k more ds → BeginsOutside 48 9 rest → unmatched_bytes (Digits k (UpTo more f)) (ds ++ rest) ≡ unmatched_bytes f rest
 counted-each zero zero f [] rest h out = refl
 counted-each zero zero f (x ∷ xs) rest h out = absurd (omega (arith, h.2))
 counted-each zero (suc m) f [] rest h out = unmatched_bytes-outside 48 9 (UpTo m f) f rest out
@@ -116,7 +116,7 @@ Counted k more f bytes = Splits (IsCount k more) (λ ds. ds) f bytes
 no_digits : (m : ℕ) (f : Shape) (bytes : List ℕ) → unmatched_bytes f bytes ≡ 0 → Counted 0 m f bytes
 no_digits m f bytes e = record { value = []; rest = bytes; valid = (tt, omega arith, omega arith); bytes_are = refl; next = e }
 
-counted-only : (k more : ℕ) (f : Shape) (bytes : List ℕ) → unmatched_bytes (Digits k (UpTo more f)) bytes ≡ 0 → Counted k more f bytes
+pub counted-only : (k more : ℕ) (f : Shape) (bytes : List ℕ) → unmatched_bytes (Digits k (UpTo more f)) bytes ≡ 0 → Counted k more f bytes
 counted-only zero zero f bytes e = no_digits 0 f bytes e
 counted-only zero (suc m) f [] e = no_digits (suc m) f [] (sym (unmatched_bytes-branch_end 48 9 (UpTo m f) f) ∙ e)
 counted-only zero (suc m) f (x ∷ xs) e =
@@ -147,7 +147,7 @@ counted-only (suc k) m f (x ∷ xs) e =
       | inr out ↦ absurd (omega (arith, e, unmatched_bytes-out 48 9 (Digits k (UpTo m f)) x xs out))
     ]
 
-counted-one : (ds es r s : List ℕ) → AllDigits 10 ds → AllDigits 10 es → BeginsOutside 48 9 r → BeginsOutside 48 9 s → ds ++ r ≡ es ++ s → (ds ≡ es) × (r ≡ s)
+pub counted-one : (ds es r s : List ℕ) → AllDigits 10 ds → AllDigits 10 es → BeginsOutside 48 9 r → BeginsOutside 48 9 s → ds ++ r ≡ es ++ s → (ds ≡ es) × (r ≡ s)
 counted-one [] [] r s h k a b e = (refl, e)
 counted-one [] (y ∷ ys) r s h k a b e = absurd (a y (ys ++ s) e (is_digit y k.0))
 counted-one (x ∷ xs) [] r s h k a b e = absurd (b x (xs ++ r) (sym e) (is_digit x h.0))

@@ -25,6 +25,8 @@ pub mod OffsetDateTimeShapes
 pub mod Stops
 pub mod Positions
 pub mod Parts
+pub mod Forms
+pub mod DigitForms
 mod Faults
 mod Parsed
 mod PlainReads
