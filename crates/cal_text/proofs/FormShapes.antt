@@ -12,7 +12,9 @@ use Rattle.cal_text.proofs.DigitTexts.{digits_at_least-length}
 use Rattle.cal_text.proofs.DigitParts.{IsTwo, two_digits, number_part, is_digit}
 use Rattle.cal_text.proofs.FormReads.{three_digits-split}
 use Rattle.cal_text.proofs.NumberTexts.{one_digit}
-use Rattle.cal_text.proofs.Parts.{IsPart, Told, IsOther, text_other, byte_part, from_part, both, renamed, other, last, retold}
+use Rattle.cal_text.proofs.Parts.{IsPart, Told, IsOther, text_other, byte_part, from_part, both, renamed, other}
+use Rattle.cal_text.proofs.DigitForms.{told}
+use Rattle.cal_text.proofs.Forms.{IsForm, always, retold, whole}
 use Rattle.cal_text.proofs.Positions.{IsShapeOf}
 use Rattle.cal_text.proofs.Stops.{IsIn}
 use Rattle.cal_text.proofs.YearParts.{year_part, year_hyphen}
@@ -151,7 +153,8 @@ here (Week y w d) h =
 pub date_part : IsPart DigitsFit form_text Date
 date_part = renamed AreParts parts_text Date DigitsFit form_text (both _ _ _ _ _ _ year_part after_part) into there here
 
+pub date_form : IsForm Date HasForm always
+date_form = retold HasForm (told date_part) (λ f. f) (λ bytes f h. record { form = h.0; bytes_are = h.1 }) (λ bytes f h. (f, (h.form, h.bytes_are), refl))
+
 pub date_shape : IsShapeOf HasForm date
-date_shape =
-    retold _ date HasForm (last DigitsFit form_text Date date_part) (λ f. f) (λ bytes f h. record { form = h.0; bytes_are = h.1 })
-    (λ bytes f h. (f, (h.form, h.bytes_are), refl))
+date_shape = whole date_form refl

@@ -42,6 +42,10 @@ pub second_true : (a b : Bool) → IsTrue (a && b) → IsTrue b
 second_true true b h = h
 second_true false b h = absurd cc
 
+pub twice : (a : Bool) → IsTrue a → IsTrue (a && (a && true))
+twice true h = refl
+twice false h = absurd cc
+
 distinct : (low above l a x : ℕ) → IsTrue (nat_lt (low + above) l || nat_lt (l + a) low) → IsIn l a x → ¬ IsIn low above x
 distinct low above l a x h here there = let a1 = here.0 in let a2 = here.1 in let b1 = there.0 in let b2 = there.1 in grind (arith, nat_tests)
 
@@ -152,6 +156,15 @@ retold Has' p into there here = record {
       let x = here b w hw in
       let found = p.one f v.0 x.0 a b r s can v.1 x.1 er es e in
       (sym v.2 ∙ ap into found.0 ∙ x.2, found.1, found.2);
+}
+
+-- the same part before less
+pub weakened : {V : Type 0} {part : Shape → Shape} {Has : List ℕ → V → Type 0} {follows : Shape → Bool} (follows' : Shape → Bool) → IsForm part Has follows
+    → ((f : Shape) → IsTrue (follows' f) → IsTrue (follows f)) → IsForm part Has follows'
+weakened follows' p less = record {
+  each = λ f v front rest can h e. p.each f v front rest (less f can) h e;
+  only = p.only;
+  one = λ f v w a b r s can h k er es e. p.one f v w a b r s (less f can) h k er es e;
 }
 
 -- a byte, and then a part
