@@ -28,7 +28,7 @@ digit_is x h = omega (arith, has_value x h, h.1)
 abbrev pub IsExact : ℕ → List ℕ → Type 0
 IsExact k ds = AllDigits 10 ds × (length ds ≡ k)
 
-exact-each : (k : ℕ) (f : Shape) (ds rest : List ℕ) → IsExact k ds → unmatched_bytes (Digits k f) (ds ++ rest) ≡ unmatched_bytes f rest
+pub exact-each : (k : ℕ) (f : Shape) (ds rest : List ℕ) → IsExact k ds → unmatched_bytes (Digits k f) (ds ++ rest) ≡ unmatched_bytes f rest
 exact-each zero f [] rest h = refl
 exact-each zero f (x ∷ xs) rest h = absurd (omega (arith, h.1))
 exact-each (suc k) f [] rest h = absurd (omega (arith, h.1))
@@ -52,7 +52,7 @@ exact-only (suc k) f (x ∷ xs) e =
       | inr out ↦ absurd (omega (arith, e, unmatched_bytes-out 48 9 (Digits k f) x xs out))
     ]
 
-exact-one : (k : ℕ) (ds es r s : List ℕ) → length ds ≡ k → length es ≡ k → ds ++ r ≡ es ++ s → (ds ≡ es) × (r ≡ s)
+pub exact-one : (k : ℕ) (ds es r s : List ℕ) → length ds ≡ k → length es ≡ k → ds ++ r ≡ es ++ s → (ds ≡ es) × (r ≡ s)
 exact-one k [] [] r s a b e = (refl, e)
 exact-one k [] (y ∷ ys) r s a b e = absurd (omega (arith, a, b))
 exact-one k (x ∷ xs) [] r s a b e = absurd (omega (arith, a, b))
