@@ -3,7 +3,7 @@ use Rattle.std.proofs.Common.{◌≡◌, ℕ, ◌+◌, ◌≤◌, ◌⊎◌, inl
 use Rattle.std.proofs.lemmas.Bool.Decides.{nat_tests}
 use Rattle.std.proofs.lemmas.List.{append_assoc, append-nil}
 use Rattle.cal_text.specs.Shape.{Shape, End, ByteRange, Branch, Byte, unmatched_bytes}
-use Rattle.cal_text.proofs.Parts.{BeginsOutside, unmatched_bytes-outside, done_then, at_end, same_pair}
+use Rattle.cal_text.proofs.Parts.{BeginsOutside, unmatched_bytes-outside, taken, chosen, clashing, done_then, at_end, same_pair}
 use Rattle.cal_text.proofs.Positions.{IsShapeOf}
 use Rattle.cal_text.proofs.Stops.{IsIn, in_or_out, unmatched_bytes-in, unmatched_bytes-out, unmatched_bytes-end, unmatched_bytes-branch_in, unmatched_bytes-branch_out, unmatched_bytes-branch_end, unmatched_bytes-done, unmatched_bytes-more}
 
@@ -183,26 +183,6 @@ led {V} {part} {Has} {follows} b p = retold (IsLed b Has) (both (byte_from b 0) 
 abbrev pub IsEither : {V W : Type 0} → (List ℕ → V → Type 0) → (List ℕ → W → Type 0) → List ℕ → V ⊎ W → Type 0
 IsEither Has Has' bytes (inl v) = Has bytes v
 IsEither Has Has' bytes (inr w) = Has' bytes w
-
-taken : (low above : ℕ) (f g : Shape) (bytes : List ℕ) → unmatched_bytes (ByteRange low above f) bytes ≡ 0 → unmatched_bytes (Branch low above f g) bytes ≡ 0
-taken low above f g [] e = absurd (omega (arith, e, unmatched_bytes-end low above f))
-taken low above f g (x ∷ xs) e =
-    elim (in_or_out low above x) as (λ _. unmatched_bytes (Branch low above f g) (x ∷ xs) ≡ 0) [
-      | inl here ↦ unmatched_bytes-branch_in low above f g x xs here ∙ sym (unmatched_bytes-in low above f x xs here) ∙ e
-      | inr out ↦ absurd (omega (arith, e, unmatched_bytes-out low above f x xs out))
-    ]
-
-chosen : (low above : ℕ) (f g : Shape) (bytes : List ℕ) → unmatched_bytes (Branch low above f g) bytes ≡ 0 → (unmatched_bytes (ByteRange low above f) bytes ≡ 0) ⊎ (unmatched_bytes g bytes ≡ 0)
-chosen low above f g [] e = inr (sym (unmatched_bytes-branch_end low above f g) ∙ e)
-chosen low above f g (x ∷ xs) e =
-    elim (in_or_out low above x) as (λ _. (unmatched_bytes (ByteRange low above f) (x ∷ xs) ≡ 0) ⊎ (unmatched_bytes g (x ∷ xs) ≡ 0)) [
-      | inl here ↦ inl (unmatched_bytes-in low above f x xs here ∙ sym (unmatched_bytes-branch_in low above f g x xs here) ∙ e)
-      | inr out ↦ inr (sym (unmatched_bytes-branch_out low above f g x xs out) ∙ e)
-    ]
-
-clashing : (low above : ℕ) (f : Shape) (bytes : List ℕ) → BeginsOutside low above bytes → unmatched_bytes (ByteRange low above f) bytes ≡ 0 → ⊥
-clashing low above f [] out e = absurd (omega (arith, e, unmatched_bytes-end low above f))
-clashing low above f (x ∷ xs) out e = absurd (omega (arith, e, unmatched_bytes-out low above f x xs (out x xs refl)))
 
 pub either : {V W : Type 0} (low above : ℕ) {part : Shape → Shape} {Has : List ℕ → V → Type 0} {follows : Shape → Bool} {part' : Shape → Shape} {Has' : List ℕ → W → Type 0} {follows' : Shape → Bool}
     → IsForm (λ f. ByteRange low above (part f)) Has follows → IsForm part' Has' follows'
