@@ -1,5 +1,5 @@
 -- The value and the error of a text of one shape: only the form of this shape is left.
-use Rattle.std.proofs.Common.{◌≡◌, ◌⊎◌, ℕ, ℤ, List, get_or, ap, inl, inr, arith}
+use Rattle.std.proofs.Common.{◌≡◌, ◌⊎◌, ◌↔◌, ℕ, ℤ, List, get_or, ap, inl, inr, arith}
 use Rattle.cal_time.specs.Date.{IsDate}
 use Rattle.cal_time.specs.declared.error.ComponentRange.{ComponentRange}
 use Rattle.cal_datetime.specs.OffsetDateTime.{LocalAndOffset}
@@ -24,6 +24,13 @@ of_four (inl h) a b c d = a h
 of_four (inr (inl h)) a b c d = b h
 of_four (inr (inr (inl h))) a b c d = c h
 of_four (inr (inr (inr h))) a b c d = d h
+
+-- What is said of one form is said of any, if the text has no other.
+pub no_any : {F Any N : Type 0} {Has : F → Type 0} → N ↔ ((f : F) → ¬ Has f) → (Any → (f : F) × Has f) → ((f : F) × Has f → Any) → N ↔ ¬ Any
+no_any is to from = (λ n any. let h = to any in is.0 n h.0 h.1, λ none. is.1 (λ f h. none (from (f, h))))
+
+pub same_fault : {P A B : Type 0} → P ↔ A → (B → A) → (A → B) → P ↔ B
+same_fault is to from = (λ p. from (is.0 p), λ b. is.1 (to b))
 
 -- ---- the forms
 abbrev SomeForm : List ℕ → Type 0

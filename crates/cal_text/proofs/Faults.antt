@@ -35,6 +35,13 @@ pub all : {V : Type 0} {R P : ComponentRange → Type 0} (r : Result V Component
 all (Ok v) faults reason why = (λ h. absurd h, λ fault. faults.back why fault)
 all {V} {R} (Err e) faults reason why = (λ h. faults.found why h (subst R h reason), λ fault. faults.back why fault)
 
+-- ---- two parts: the errors of the first, and those of the second if the first has a value
+pub sooner : {X P Q Value : Type 0} → ¬ Value → X ↔ P → X ↔ (P ⊎ (Value × Q))
+sooner {X} none is = (λ x. inl (is.0 x), λ h. elim h as (λ _. X) [ inl p ↦ is.1 p | inr q ↦ absurd (none q.0) ])
+
+pub later : {X P Q Value : Type 0} → (X → Value) → ⊥ ↔ P → X ↔ Q → X ↔ (P ⊎ (Value × Q))
+later {X} value never is = (λ x. inr (value x, is.0 x), λ h. elim h as (λ _. X) [ inl p ↦ absurd (never.1 p) | inr q ↦ is.1 q.1 ])
+
 -- ---- a text has at most one form, so it has the errors of this form only
 abbrev pub IsOnly : {F : Type 0} → (List ℕ → F → Type 0) → List ℕ → F → Type 0
 IsOnly {F} Has text form = (other : F) → Has text other → ◌≡◌ {A = Result F ℕ} (Ok form) (Ok other)
