@@ -27,7 +27,7 @@ pub mod Positions
 pub mod Parts
 pub mod Forms
 pub mod DigitForms
-mod Faults
+mod Errors
 mod Parsed
 mod PlainReads
 mod OffsetDateTimeReads

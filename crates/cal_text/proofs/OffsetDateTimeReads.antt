@@ -6,7 +6,7 @@ use Rattle.cal_time.specs.declared.error.ComponentRange.{ComponentRange}
 use Rattle.cal_datetime.specs.OffsetDateTime.{LocalAndOffset}
 use Rattle.cal_text.specs.declared.offset.numbers.OffsetNumbers.{OffsetNumbers}
 use Rattle.cal_text.specs.OffsetForm.{IsOffsetError}
-use Rattle.cal_text.proofs.Faults.{all, last, more}
+use Rattle.cal_text.proofs.Errors.{all, last, more}
 
 abbrev IsOffsetComponent : ComponentRange → Type 0
 IsOffsetComponent e = (e ≡ offset_hour_out_of_range) ⊎ (e ≡ offset_minute_out_of_range) ⊎ (e ≡ offset_second_out_of_range)

@@ -8,7 +8,7 @@ use Rattle.cal_text.specs.Parsing.{HasError, FailsWithComponent, FailsWithSyntax
 use Rattle.cal_text.specs.Position.{HasSome, IsErrorAtStop}
 use Rattle.cal_text.specs.declared.error.ParseError.{ParseError}
 use Rattle.cal_text.specs.declared.error.ParseError.TheVariants.{UnexpectedByte, UnexpectedEnd, OutOfRange}
-use Rattle.cal_text.proofs.Faults.{not_refused, refused_for, no_form}
+use Rattle.cal_text.proofs.Errors.{not_refused, refused_for, no_form}
 use Rattle.cal_text.proofs.Positions.{Stopped, named}
 use Rattle.cal_text.proofs.Results.{one, not_ok}
 

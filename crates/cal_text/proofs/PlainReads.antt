@@ -5,7 +5,7 @@ use Rattle.cal_time.specs.Time.{hour_out_of_range, minute_out_of_range, second_o
 use Rattle.cal_time.specs.declared.error.ComponentRange.{ComponentRange}
 use Rattle.cal_text.specs.declared.time.numbers.TimeNumbers.{TimeNumbers}
 use Rattle.cal_text.specs.TimeForm.{IsTimeError}
-use Rattle.cal_text.proofs.Faults.{all, last, more}
+use Rattle.cal_text.proofs.Errors.{all, last, more}
 
 abbrev IsTimeComponent : ComponentRange → Type 0
 IsTimeComponent e = (e ≡ hour_out_of_range) ⊎ (e ≡ minute_out_of_range) ⊎ (e ≡ second_out_of_range)

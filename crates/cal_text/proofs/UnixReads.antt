@@ -9,7 +9,7 @@ use Rattle.cal_datetime.specs.OffsetDateTime.{LocalAndOffset, instant, unix_epoc
 use Rattle.cal_time.specs.ComponentError.{FailsWith}
 use Rattle.cal_time.specs.declared.error.ComponentRange.{ComponentRange}
 use Rattle.cal_text.specs.UnixText.{HasUnixForm, IsUnixText, IsUnixTimeError, timestamp_out_of_range}
-use Rattle.cal_text.proofs.Faults.{all, last}
+use Rattle.cal_text.proofs.Errors.{all, last}
 use Rattle.cal_text.proofs.Parsed.{IsMade}
 use Rattle.cal_text.proofs.Results.{one}
 

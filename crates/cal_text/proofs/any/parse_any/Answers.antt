@@ -3,7 +3,7 @@ use Rattle.std.specs.Prelude.{get_or}
 use Rattle.cal_text.specs.declared.any.DateOrMoment.TheVariants.{Date, Moment}
 use Rattle.cal_text.specs.declared.any.DateForm.TheVariants.{JulianDay}
 use Rattle.cal_text.specs.declared.any.MomentForm.TheVariants.{Rfc3339, Unix}
-use Rattle.cal_text.proofs.AnyForms.{julian-found, julian-any, julian-fault, moment-found, moment-any, moment-fault, unix-found, unix-any, unix-fault, no_any, same_fault}
+use Rattle.cal_text.proofs.AnyForms.{julian-found, julian-any, julian-error, moment-found, moment-any, moment-error, unix-found, unix-any, unix-error, no_any, same_error}
 use Rattle.cal_text.proofs.Results.{same_mapped, not_ok}
 use Rattle.cal_text.proofs.AnyPositions as positions
 use Rattle.cal_text.proofs.any.parse_any.Goals as goal
@@ -16,7 +16,7 @@ returns-in-Ok-clause-every c =
 
 pub returns-in-Ok-clause-out_of_range : goal.returns-in-Ok-clause-out_of_range
 returns-in-Ok-clause-out_of_range c why =
-    let first = (c.if-begins_with.ensures.0 refl).1 in same_fault (c.in-Ok.ensures.out_of_range why) (julian-fault c.args.text.now why first) (λ h. inr (inl h))
+    let first = (c.if-begins_with.ensures.0 refl).1 in same_error (c.in-Ok.ensures.out_of_range why) (julian-error c.args.text.now why first) (λ h. inr (inl h))
 
 pub returns-in-Err : goal.returns-in-Err
 returns-in-Err c =
@@ -28,7 +28,7 @@ returns-in-Err c =
       value = tt;
       syntax_error = no_any e.syntax_error (julian-any text first) (λ h. inr (inl h));
       position = positions.julian text c.in-Err.error first e.position;
-      out_of_range = λ why. same_fault (e.out_of_range why) (julian-fault text why first) (λ h. inr (inl h));
+      out_of_range = λ why. same_error (e.out_of_range why) (julian-error text why first) (λ h. inr (inl h));
     }
 
 -- a Unix time
@@ -39,7 +39,7 @@ returns-in-Ok-parse-clause-every c =
 
 pub returns-in-Ok-parse-clause-out_of_range : goal.returns-in-Ok-parse-clause-out_of_range
 returns-in-Ok-parse-clause-out_of_range c why =
-    let first = (c.if-begins_with-2.ensures.0 refl).1 in same_fault (c.in-Ok-parse.ensures.out_of_range why) (unix-fault c.args.text.now why first) (λ h. inr (inr (inr h)))
+    let first = (c.if-begins_with-2.ensures.0 refl).1 in same_error (c.in-Ok-parse.ensures.out_of_range why) (unix-error c.args.text.now why first) (λ h. inr (inr (inr h)))
 
 pub returns-in-Err-parse : goal.returns-in-Err-parse
 returns-in-Err-parse c =
@@ -51,7 +51,7 @@ returns-in-Err-parse c =
       value = tt;
       syntax_error = no_any e.syntax_error (unix-any text first) (λ h. inr (inr (inr h)));
       position = positions.unix text c.in-Err-parse.error first e.position;
-      out_of_range = λ why. same_fault (e.out_of_range why) (unix-fault text why first) (λ h. inr (inr (inr h)));
+      out_of_range = λ why. same_error (e.out_of_range why) (unix-error text why first) (λ h. inr (inr (inr h)));
     }
 
 -- a moment
@@ -65,7 +65,7 @@ pub returns-in-Ok-parse-2-clause-out_of_range : goal.returns-in-Ok-parse-2-claus
 returns-in-Ok-parse-2-clause-out_of_range c why =
     let first : (get_or c.args.text.now 0 0 ≢ 74) × (get_or c.args.text.now 0 0 ≢ 64) = search rules in
     let separator = c.if-is_separator.ensures.0 refl in
-    same_fault (c.in-Ok-parse-2.ensures.out_of_range why) (moment-fault c.args.text.now why first separator) (λ h. inr (inr (inl h)))
+    same_error (c.in-Ok-parse-2.ensures.out_of_range why) (moment-error c.args.text.now why first separator) (λ h. inr (inr (inl h)))
 
 pub returns-in-Err-parse-2 : goal.returns-in-Err-parse-2
 returns-in-Err-parse-2 c =
@@ -81,6 +81,6 @@ returns-in-Err-parse-2 c =
       syntax_error = (λ h. syntax.0 (sym same ∙ h), λ none. same ∙ syntax.1 none);
       position = c.furthest_error.ensures.position;
       out_of_range = λ why.
-          let fault = same_fault (e.out_of_range why) (moment-fault text why first separator) (λ h. inr (inr (inl h))) in
-          (λ h. fault.0 (sym same ∙ h), λ is. same ∙ fault.1 is);
+          let error = same_error (e.out_of_range why) (moment-error text why first separator) (λ h. inr (inr (inl h))) in
+          (λ h. error.0 (sym same ∙ h), λ is. same ∙ error.1 is);
     }

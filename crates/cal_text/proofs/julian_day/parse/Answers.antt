@@ -6,7 +6,7 @@ use Rattle.cal_time.specs.DateErrors.{julian_day_out_of_range}
 use Rattle.cal_time.specs.declared.error.ComponentRange.{ComponentRange}
 use Rattle.cal_text.specs.JulianForm.{julian_form, julian_text, IsJulianForm, IsJulianDayError}
 use Rattle.cal_text.specs.Shape.{julian_day}
-use Rattle.cal_text.proofs.Faults.{all, last}
+use Rattle.cal_text.proofs.Errors.{all, last}
 use Rattle.cal_text.proofs.NumberShapes.{julian_shape}
 use Rattle.cal_text.proofs.Parsed.{IsMade, made, refused, unmatched}
 use Rattle.cal_text.proofs.Positions.{stopped}

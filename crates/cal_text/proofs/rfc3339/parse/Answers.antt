@@ -7,7 +7,7 @@ use Rattle.cal_time.specs.declared.error.ComponentRange.{ComponentRange}
 use Rattle.cal_datetime.specs.OffsetDateTime.{LocalAndOffset}
 use Rattle.cal_text.specs.Rfc3339Form.{HasMomentForm, IsMomentError, IsMomentOf}
 use Rattle.cal_text.specs.Shape.{moment}
-use Rattle.cal_text.proofs.Faults.{all, last, more}
+use Rattle.cal_text.proofs.Errors.{all, last, more}
 use Rattle.cal_text.proofs.MomentShapes.{moment_shapes}
 use Rattle.cal_text.proofs.Parsed.{made, refused, unmatched}
 use Rattle.cal_text.proofs.Positions.{stopped_large}

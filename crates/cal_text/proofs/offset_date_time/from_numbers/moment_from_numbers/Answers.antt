@@ -1,6 +1,6 @@
 use Rattle.std.proofs.Common.{Ok, Err, ap, subst, sym, ◌∙◌}
 use Rattle.cal_text.specs.OffsetDateTimeForm.{IsOffsetDateTimeOf}
-use Rattle.cal_text.proofs.Faults.{later, sooner}
+use Rattle.cal_text.proofs.Errors.{later, sooner}
 use Rattle.cal_text.proofs.OffsetDateTimeReads.{offset_errors, joined}
 use Rattle.cal_text.proofs.Results.{one, not_ok}
 use Rattle.cal_text.proofs.offset_date_time.from_numbers.moment_from_numbers.Goals as goal

@@ -3,7 +3,7 @@ use Rattle.cal_datetime.specs.DateTime.{date_time, date_at, time_at}
 use Rattle.cal_datetime.specs.DateTimeLaws.{date_time-parts, IsDate-date_at}
 use Rattle.cal_text.specs.Parsing.{IsOnDay}
 use Rattle.cal_text.specs.TimeForm.{IsTimeOf}
-use Rattle.cal_text.proofs.Faults.{later, sooner}
+use Rattle.cal_text.proofs.Errors.{later, sooner}
 use Rattle.cal_text.proofs.PlainReads.{time_errors}
 use Rattle.cal_text.proofs.Results.{one, not_ok}
 use Rattle.cal_text.proofs.plain.from_numbers.plain_from_numbers.Goals as goal
