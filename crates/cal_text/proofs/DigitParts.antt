@@ -180,9 +180,6 @@ pub value-most : (n : ℕ) (ds : List ℕ) → n ≤ digits_value_after 10 n ds
 value-most n [] = omega arith
 value-most n (x ∷ xs) = omega (arith, value-most (n * 10 + digit_value x) xs)
 
-abbrev pub IsSome : ℕ → List ℕ → Type 0
-IsSome k ds = IsExact (suc k) ds × (0 < digits_value 10 ds)
-
 pub zero_byte : (x : ℕ) → IsIn 48 9 x → ¬ IsIn 49 8 x → x ≡ 48
 zero_byte x here out =
     elim (cases_lt 48 x) as (λ _. x ≡ 48) [ inl more ↦ absurd (out (omega arith, omega (arith, here.1))) | inr few ↦ omega (arith, here.0, few) ]

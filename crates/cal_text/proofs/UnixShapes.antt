@@ -8,13 +8,11 @@ use Rattle.cal_text.specs.Rfc3339Form.{IsFraction, HasFractionBefore, nanosecond
 use Rattle.cal_text.specs.Shape.{Shape, Byte, Fraction, SomeUpTo, unix_time, ParsesPositiveDecimals}
 use Rattle.cal_text.specs.UnixText.{HasUnixForm, HasSeconds}
 use Rattle.cal_text.proofs.Decimals.{nanoseconds, nanoseconds-some, value-some, fraction-below}
-use Rattle.cal_text.proofs.DigitForms.{IsRun, run}
-use Rattle.cal_text.proofs.DigitParts.{is_digit, digit_is, zero_byte, has_value, value-most}
+use Rattle.cal_text.proofs.DigitForms.{IsRun, run, IsSome, AreSome, some_up_to, longer}
 use Rattle.cal_text.proofs.Forms.{IsForm, IsNothing, IsByteFrom, IsLed, IsThen, IsEither, always, avoids, nothing, byte_from, led, both, either, retold, weakened, twice, whole, put}
 use Rattle.cal_text.proofs.NumberShapes.{IsNumeral, numeral, zero_text}
 use Rattle.cal_text.proofs.Parts.{at_end}
 use Rattle.cal_text.proofs.Positions.{IsShapeOf}
-use Rattle.cal_text.proofs.Stops.{IsIn, in_or_out}
 
 -- ---- a fraction
 abbrev pub IsFractionUpTo : ℕ → List ℕ → ℕ → Type 0
@@ -45,76 +43,20 @@ fraction more = retold (IsFractionUpTo more) (either 46 0 (led 46 (run 1 more na
     here bytes n (inl none, short) = (inr tt, none.0, sym none.1)
     here bytes n (inr (ds, is), short) = (inl n, (ds, ((is.all, is.some, omega (arith, short, ap length is.bytes_are)), is.value), is.bytes_are), refl)
 
--- ---- digits of which one is not 0
-abbrev IsSome : ℕ → List ℕ → Type 0
-IsSome more ds = AllDigits 10 ds × (1 ≤ length ds) × (length ds ≤ more + 1) × (0 < digits_value 10 ds)
-
-abbrev AreSome : ℕ → List ℕ → List ℕ → Type 0
-AreSome more bytes ds = IsSome more bytes × (bytes ≡ ds)
-
-longer : (ds : List ℕ) → 0 < digits_value 10 ds → 0 < length ds
-longer [] value = absurd (omega arith)
-longer (d ∷ ds) value = omega arith
-
-first-some : (more b : ℕ) (ds : List ℕ) → IsIn 49 8 b → AllDigits 10 ds → length ds ≤ more → IsSome more (b ∷ ds)
-first-some more b ds here all few =
-    let digit : IsIn 48 9 b = (omega (arith, here.0), omega (arith, here.1)) in
-    ((digit_is b digit, all), omega arith, omega (arith, few), omega (arith, value-most (0 * 10 + digit_value b) ds, has_value b digit, here.0))
-
-some : (more : ℕ) → IsForm (SomeUpTo more) (AreSome more) (avoids 48 9)
-some zero = weakened (avoids 48 9) (retold (AreSome 0) (byte_from 49 8) (λ b. b ∷ []) (λ bytes b h. (subst (IsSome 0) (sym h.1) (first-some 0 b [] h.0 tt (lit≤ tt)), h.1)) here) (λ f h. refl)
-  where
-    here : (bytes ds : List ℕ) → AreSome 0 bytes ds → (b : ℕ) × IsByteFrom 49 8 bytes b × (b ∷ [] ≡ ds)
-    here [] ds h = absurd (omega (arith, h.0.1))
-    here (x ∷ []) ds h =
-        let digit = is_digit x h.0.0.0 in
-        (x, ((omega (arith, h.0.3, has_value x digit), omega (arith, digit.1)), refl), h.1)
-    here (x ∷ y ∷ ys) ds h = absurd (omega (arith, h.0.2))
-some (suc k) = weakened (avoids 48 9) (retold (AreSome (suc k)) (either 49 8 (both (byte_from 49 8) (run 0 (suc k) (λ ds. ds))) (led 48 (some k))) into there here) (λ f h. twice (avoids 48 9 f) h)
-  where
-    Raw : Type 0
-    Raw = (ℕ × List ℕ) ⊎ List ℕ
-
-    IsRaw : List ℕ → Raw → Type 0
-    IsRaw = IsEither (IsThen (IsByteFrom 49 8) (IsRun 0 (suc k) (λ ds. ds))) (IsLed 48 (AreSome k))
-
-    into : Raw → List ℕ
-    into (inl v) = v.0 ∷ v.1
-    into (inr ds) = 48 ∷ ds
-
-    there : (bytes : List ℕ) (v : Raw) → IsRaw bytes v → AreSome (suc k) bytes (into v)
-    there bytes (inl v) h =
-        let whole = put h.bytes_are h.first.1 refl in (
-          subst (IsSome (suc k)) (sym whole) (first-some (suc k) v.0 h.back h.first.0 h.second.0.0 (omega (arith, h.second.0.2))),
-          whole ∙ ap (λ ds. v.0 ∷ ds) (sym h.second.1),
-        )
-    there bytes (inr ds) h =
-        let is = h.1.0 in
-        (subst (IsSome (suc k)) (sym h.2) ((lit< tt, is.0), omega arith, omega (arith, is.2), is.3), h.2 ∙ ap (λ r. 48 ∷ r) h.1.1)
-
-    here : (bytes ds : List ℕ) → AreSome (suc k) bytes ds → (v : Raw) × IsRaw bytes v × (into v ≡ ds)
-    here [] ds h = absurd (omega (arith, h.0.1))
-    here (x ∷ xs) ds h = elim (in_or_out 49 8 x) as (λ _. (v : Raw) × IsRaw (x ∷ xs) v × (into v ≡ ds)) [
-      | inl first ↦ (inl (x, xs), record { front = x ∷ []; back = xs; first = (first, refl); second = ((h.0.0.1, omega arith, omega (arith, h.0.2)), refl); bytes_are = refl }, h.1)
-      | inr out ↦
-          let is : x ≡ 48 = zero_byte x (is_digit x h.0.0.0) out in
-          let value : 0 < digits_value 10 xs = subst (λ b. 0 < digits_value 10 (b ∷ xs)) is h.0.3 in
-          (inr xs, (xs, ((h.0.0.1, longer xs value, omega (arith, h.0.2), value), refl), ap (λ b. b ∷ xs) is), ap (λ b. b ∷ xs) (sym is) ∙ h.1)
-    ]
-
+-- ---- a fraction that is not 0
 abbrev IsFractionAbove0 : List ℕ → ℕ → Type 0
 IsFractionAbove0 bytes n = IsFraction bytes n × (length bytes ≤ 10) × (0 < n)
 
 fraction_above_0 : IsForm (λ f. Byte 46 (SomeUpTo 8 f)) IsFractionAbove0 (avoids 48 9)
-fraction_above_0 = retold IsFractionAbove0 (led 46 (some 8)) nanoseconds_of there here
+fraction_above_0 = retold IsFractionAbove0 (led 46 (some_up_to 8)) nanoseconds_of there here
   where
-    there : (bytes ds : List ℕ) → IsLed 46 (AreSome 8) bytes ds → IsFractionAbove0 bytes (nanoseconds_of ds)
+    there : (bytes ds : List ℕ) → IsLed 46 (AreSome 1 9) bytes ds → IsFractionAbove0 bytes (nanoseconds_of ds)
     there bytes ds h =
-        let is : IsSome 8 ds = subst (IsSome 8) h.1.1 h.1.0 in
+        let is : IsSome 1 9 ds = subst (IsSome 1 9) h.1.1 h.1.0 in
         let text : bytes ≡ 46 ∷ ds = h.2 ∙ ap (λ r. 46 ∷ r) h.1.1 in
         (inr (ds, record { some = omega (arith, is.1); all = is.0; bytes_are = text; value = refl }), omega (arith, ap length text, is.2), nanoseconds-some ds (omega (arith, is.2)) is.3)
 
-    here : (bytes : List ℕ) (n : ℕ) → IsFractionAbove0 bytes n → (ds : List ℕ) × IsLed 46 (AreSome 8) bytes ds × (nanoseconds_of ds ≡ n)
+    here : (bytes : List ℕ) (n : ℕ) → IsFractionAbove0 bytes n → (ds : List ℕ) × IsLed 46 (AreSome 1 9) bytes ds × (nanoseconds_of ds ≡ n)
     here bytes n (inl none, few, more) = absurd (omega (arith, more, none.1))
     here bytes n (inr (ds, is), few, more) =
         let short : length ds ≤ 9 = omega (arith, few, ap length is.bytes_are) in

@@ -8,8 +8,8 @@ use Rattle.cal_time.specs.DateText.{digits_at_least}
 use Rattle.cal_time.proofs.DistinctTexts.{digits_at_least-digits, digits_at_least-value, year-minus, year-plain, year-plus}
 use Rattle.cal_text.specs.DateForms.{year_text, IsPrintableYear}
 use Rattle.cal_text.specs.Shape.{ByteRange, Byte, DigitsAtLeast, YearAfterPlus, YearAfterMinus, ZeroAndThree, Year}
-use Rattle.cal_text.proofs.DigitForms.{IsRun, run, AreSome, some_digits}
-use Rattle.cal_text.proofs.DigitParts.{IsCount, IsSome, is_digit, digit_is}
+use Rattle.cal_text.proofs.DigitForms.{IsRun, run, IsSome, AreSome, some_digits}
+use Rattle.cal_text.proofs.DigitParts.{IsCount, is_digit, digit_is}
 use Rattle.cal_text.proofs.DigitTexts.{digits_at_least-magnitude, digits_at_least-length}
 use Rattle.cal_text.proofs.Forms.{IsForm, IsNothing, IsByteFrom, IsLed, IsThen, IsEither, always, nothing, byte_from, led, both, either, retold, put}
 use Rattle.cal_text.proofs.Stops.{in_or_out}
@@ -61,13 +61,13 @@ zeroed : IsForm (λ f. ZeroAndThree (Byte 45 f)) (AreDigits IsZeroed) always
 zeroed = retold (AreDigits IsZeroed) (led 48 (both (some_digits 2) (led 45 nothing))) (λ v. 48 ∷ v.0) there here
   where
     IsRaw : List ℕ → List ℕ × Unit {0} → Type 0
-    IsRaw = IsLed 48 (IsThen (AreSome 2) (IsLed 45 IsNothing))
+    IsRaw = IsLed 48 (IsThen (AreSome 3 3) (IsLed 45 IsNothing))
 
     there : (bytes : List ℕ) (v : List ℕ × Unit {0}) → IsRaw bytes v → AreDigits IsZeroed bytes (48 ∷ v.0)
     there bytes v h =
         let t = h.1 in
-        let is : IsSome 2 v.0 = subst (IsSome 2) t.first.1 t.first.0 in
-        (((lit< tt, is.0.0), omega (arith, is.0.1), refl, is.1), h.2 ∙ ap (λ r. 48 ∷ r) (put t.bytes_are t.first.1 (t.second.2 ∙ ap (λ r. 45 ∷ r) t.second.1)))
+        let is : IsSome 3 3 v.0 = subst (IsSome 3 3) t.first.1 t.first.0 in
+        (((lit< tt, is.0), omega (arith, is.1, is.2), refl, is.3), h.2 ∙ ap (λ r. 48 ∷ r) (put t.bytes_are t.first.1 (t.second.2 ∙ ap (λ r. 45 ∷ r) t.second.1)))
 
     here : (bytes ds : List ℕ) → AreDigits IsZeroed bytes ds → (v : List ℕ × Unit {0}) × IsRaw bytes v × (48 ∷ v.0 ≡ ds)
     here bytes [] h = absurd (omega (arith, h.0.1))
@@ -76,7 +76,7 @@ zeroed = retold (AreDigits IsZeroed) (led 48 (both (some_digits 2) (led 45 nothi
           (xs, tt),
           (
             xs ++ 45 ∷ [],
-            record { front = xs; back = 45 ∷ []; first = (((h.0.0.1, omega (arith, h.0.1)), value), refl); second = ([], refl, refl); bytes_are = refl },
+            record { front = xs; back = 45 ∷ []; first = ((h.0.0.1, omega (arith, h.0.1), omega (arith, h.0.1), value), refl); second = ([], refl, refl); bytes_are = refl },
             h.1 ∙ ap (λ b. b ∷ (xs ++ 45 ∷ [])) h.0.2,
           ),
           ap (λ b. b ∷ xs) (sym h.0.2),
