@@ -1,12 +1,12 @@
 -- Digits as forms.
-use Rattle.std.proofs.Common.{Bool, true, ◌&&◌, ◌≡◌, ℕ, zero, suc, ◌+◌, ◌*◌, ◌<◌, ◌≤◌, ◌^◌, ◌⊎◌, inl, inr, List, [], ◌∷◌, ◌++◌, length, refl, sym, ap, subst, ◌∙◌, arith, lit<, lit≤}
+use Rattle.std.proofs.Common.{Bool, true, ◌&&◌, ◌≡◌, ℕ, zero, suc, ◌+◌, ◌*◌, ◌<◌, ◌≤◌, ◌^◌, ◌⊎◌, inl, inr, List, [], ◌∷◌, length, refl, sym, ap, subst, ◌∙◌, arith, lit<}
 use Rattle.std.specs.Char.{digit_value}
 use Rattle.std.specs.Str.Parse.{AllDigits, digits_value}
 use Rattle.std.proofs.Math.Nat.{pow-le-pow_right}
 use Rattle.std.proofs.lemmas.Int.Digits.{digits_value-lt}
 use Rattle.cal_time.specs.DateText.{digits_at_least}
 use Rattle.cal_time.proofs.DistinctTexts.{digits_at_least-digits, digits_at_least-value}
-use Rattle.cal_text.specs.Shape.{Shape, ByteRange, Branch, Byte, Digits, UpTo, SomeDigits, SomeUpTo, unmatched_bytes}
+use Rattle.cal_text.specs.Shape.{Shape, ByteRange, Branch, Byte, Digits, UpTo, SomeDigits, SomeUpTo}
 use Rattle.cal_text.proofs.DigitParts.{IsCount, IsExact, exact-each, exact-one, counted-each, counted-only, counted-one, is_digit, digit_is, has_value, value-most, zero_byte}
 use Rattle.cal_text.proofs.DigitTexts.{digits-printed, digits_at_least-length}
 use Rattle.cal_text.proofs.Forms.{IsForm, IsByteFrom, IsLed, IsThen, IsEither, always, avoids, avoided, byte_from, led, both, either, retold, weakened, twice, put}

@@ -1,17 +1,16 @@
 -- Digits as parts of a shape.
-use Rattle.std.proofs.Common.{◌≡◌, ℕ, zero, suc, ◌+◌, ◌*◌, ◌<◌, ◌≤◌, ◌^◌, List, [], ◌∷◌, ◌++◌, length, refl, sym, ap, subst, ◌∙◌, arith, inl, inr, lit<, lit≤}
+use Rattle.std.proofs.Common.{◌≡◌, ℕ, zero, suc, ◌+◌, ◌*◌, ◌<◌, ◌≤◌, ◌^◌, List, [], ◌∷◌, ◌++◌, length, refl, sym, ap, subst, ◌∙◌, arith, inl, inr, lit≤}
 use Rattle.std.specs.Char.{digit_value}
 use Rattle.std.specs.Str.Parse.{AllDigits, digits_value, digits_value_after}
 use Rattle.std.proofs.lemmas.Bool.{cases_lt}
 use Rattle.std.proofs.lemmas.Int.Digits.{digits_value-lt}
-use Rattle.std.proofs.lemmas.List.{append_assoc}
 use Rattle.std.proofs.lemmas.Str.{digit_value_digit}
 use Rattle.std.proofs.lemmas.Str.Parse.{digit_from_value}
 use Rattle.cal_time.specs.DateText.{digits_at_least}
 use Rattle.cal_time.proofs.DistinctTexts.{digits_at_least-digits, digits_at_least-value}
-use Rattle.cal_text.specs.Shape.{Shape, unmatched_bytes, Byte, Digits, UpTo, SomeDigits, DigitsAtLeast, ParsesDigits}
+use Rattle.cal_text.specs.Shape.{Shape, unmatched_bytes, Digits, UpTo, ParsesDigits}
 use Rattle.cal_text.proofs.DigitTexts.{below-nine, digits-printed, digits_at_least-length}
-use Rattle.cal_text.proofs.Parts.{IsPart, Splits, HasAfter, BeginsOutside, unmatched_bytes-outside, same_pair, renamed, byte_part}
+use Rattle.cal_text.proofs.Parts.{IsPart, Splits, HasAfter, BeginsOutside, unmatched_bytes-outside, same_pair, renamed}
 use Rattle.cal_text.proofs.Positions.{IsShapeOf}
 use Rattle.cal_text.proofs.Stops.{IsIn, in_or_out, unmatched_bytes-in, unmatched_bytes-out, unmatched_bytes-end, unmatched_bytes-branch_in, unmatched_bytes-branch_out, unmatched_bytes-branch_end}
 

@@ -1,11 +1,11 @@
 -- Forms: the texts of a part of a shape, each with one value, and how parts are put together.
-use Rattle.std.proofs.Common.{◌≡◌, ℕ, ◌+◌, ◌≤◌, ◌⊎◌, inl, inr, Bool, true, false, IsTrue, ◌&&◌, ◌||◌, nat_lt, List, [], ◌∷◌, ◌++◌, refl, sym, ap, subst, ◌∙◌, arith}
+use Rattle.std.proofs.Common.{◌≡◌, ℕ, ◌+◌, ◌⊎◌, inl, inr, Bool, true, false, IsTrue, ◌&&◌, ◌||◌, nat_lt, List, [], ◌∷◌, ◌++◌, refl, sym, ap, subst, ◌∙◌, arith}
 use Rattle.std.proofs.lemmas.Bool.Decides.{nat_tests}
 use Rattle.std.proofs.lemmas.List.{append_assoc, append-nil}
 use Rattle.cal_text.specs.Shape.{Shape, End, ByteRange, Branch, Byte, unmatched_bytes}
 use Rattle.cal_text.proofs.Parts.{BeginsOutside, unmatched_bytes-outside, taken, chosen, clashing, done_then, at_end, same_pair}
 use Rattle.cal_text.proofs.Positions.{IsShapeOf}
-use Rattle.cal_text.proofs.Stops.{IsIn, in_or_out, unmatched_bytes-in, unmatched_bytes-out, unmatched_bytes-end, unmatched_bytes-branch_in, unmatched_bytes-branch_out, unmatched_bytes-branch_end, unmatched_bytes-done, unmatched_bytes-more}
+use Rattle.cal_text.proofs.Stops.{IsIn, in_or_out, unmatched_bytes-in, unmatched_bytes-out, unmatched_bytes-end, unmatched_bytes-branch_out, unmatched_bytes-done, unmatched_bytes-more}
 
 -- The bytes are a text of a value, and then come bytes of the shape f.
 pub record Divides {V : Type 0} (Has : List ℕ → V → Type 0) (f : Shape) (bytes : List ℕ) : Type 0 where

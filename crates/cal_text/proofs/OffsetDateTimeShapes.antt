@@ -1,5 +1,5 @@
 -- The shape of a moment, and what a scanner read of one.
-use Rattle.std.proofs.Common.{◌≡◌, ◌⊎◌, inl, inr, ◌&&◌, true, List, ℕ, refl}
+use Rattle.std.proofs.Common.{◌≡◌, ◌⊎◌, inl, inr, List, ℕ, refl}
 use Rattle.cal_text.specs.declared.offset.numbers.OffsetNumbers.{OffsetNumbers}
 use Rattle.cal_text.specs.declared.plain.numbers.PlainNumbers.{PlainNumbers}
 use Rattle.cal_text.specs.OffsetDateTimeForm.{IsSpacedOffset, HasOffsetDateTimeForm}

@@ -1,5 +1,5 @@
 -- The shapes of an offset from UTC, and what a scanner read of one.
-use Rattle.std.proofs.Common.{Bool, true, false, ◌≡◌, ℕ, ◌+◌, ◌≤◌, ◌⊎◌, inl, inr, ◌&&◌, List, [], ◌∷◌, ◌++◌, refl, sym, ap, ◌∙◌, arith, lit≤}
+use Rattle.std.proofs.Common.{Bool, true, false, ◌≡◌, ℕ, ◌⊎◌, inl, inr, ◌&&◌, List, [], ◌∷◌, ◌++◌, refl, sym, ap, ◌∙◌, lit≤}
 use Rattle.cal_time.specs.DateText.{digits_at_least}
 use Rattle.cal_text.specs.declared.offset.numbers.OffsetNumbers.{OffsetNumbers}
 use Rattle.cal_text.specs.OffsetForm.{utc, IsAfterMinutes, HasSignedForm, HasOffsetForm}

@@ -1,15 +1,14 @@
 -- The shapes of a fraction and of a Unix time.
-use Rattle.std.proofs.Common.{◌≡◌, ℕ, zero, suc, ◌+◌, ◌*◌, ◌/◌, ◌%◌, ◌<◌, ◌≤◌, ◌^◌, ◌⊎◌, inl, inr, ℤ, pos, negsuc, neg_ℤ, Bool, ◌&&◌, IsTrue, List, [], ◌∷◌, ◌++◌, length, refl, sym, ap, subst, ◌∙◌, arith, lit<, lit≤}
+use Rattle.std.proofs.Common.{◌≡◌, ℕ, zero, suc, ◌+◌, ◌*◌, ◌/◌, ◌%◌, ◌<◌, ◌≤◌, ◌^◌, ◌⊎◌, inl, inr, ℤ, pos, negsuc, neg_ℤ, Bool, ◌&&◌, List, [], ◌∷◌, ◌++◌, length, refl, sym, ap, subst, ◌∙◌, arith, lit<, lit≤}
 use Rattle.std.specs.Prelude.{decimal}
-use Rattle.std.specs.Char.{digit_value}
-use Rattle.std.specs.Str.Parse.{AllDigits, digits_value}
+use Rattle.std.specs.Str.Parse.{digits_value}
 use Rattle.cal_time.specs.SignedDuration.{second}
 use Rattle.cal_text.specs.Rfc3339Form.{IsFraction, HasFractionBefore, nanoseconds_of}
 use Rattle.cal_text.specs.Shape.{Shape, Byte, Fraction, SomeUpTo, unix_time, ParsesPositiveDecimals}
 use Rattle.cal_text.specs.UnixText.{HasUnixForm, HasSeconds}
 use Rattle.cal_text.proofs.Decimals.{nanoseconds, nanoseconds-some, value-some, fraction-below}
 use Rattle.cal_text.proofs.DigitForms.{IsRun, run, IsSome, AreSome, some_up_to, longer}
-use Rattle.cal_text.proofs.Forms.{IsForm, IsNothing, IsByteFrom, IsLed, IsThen, IsEither, always, avoids, nothing, byte_from, led, both, either, retold, weakened, twice, whole, put}
+use Rattle.cal_text.proofs.Forms.{IsForm, IsNothing, IsLed, IsThen, IsEither, avoids, nothing, led, both, either, retold, whole, put}
 use Rattle.cal_text.proofs.NumberShapes.{IsNumeral, numeral, zero_text}
 use Rattle.cal_text.proofs.Parts.{at_end}
 use Rattle.cal_text.proofs.Positions.{IsShapeOf}

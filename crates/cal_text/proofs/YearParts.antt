@@ -8,7 +8,7 @@ use Rattle.cal_time.specs.DateText.{digits_at_least}
 use Rattle.cal_time.proofs.DistinctTexts.{digits_at_least-digits, digits_at_least-value, year-minus, year-plain, year-plus}
 use Rattle.cal_text.specs.DateForms.{year_text, IsPrintableYear}
 use Rattle.cal_text.specs.Shape.{ByteRange, Byte, DigitsAtLeast, YearAfterPlus, YearAfterMinus, ZeroAndThree, Year}
-use Rattle.cal_text.proofs.DigitForms.{IsRun, run, IsSome, AreSome, some_digits}
+use Rattle.cal_text.proofs.DigitForms.{run, IsSome, AreSome, some_digits}
 use Rattle.cal_text.proofs.DigitParts.{IsCount, is_digit, digit_is}
 use Rattle.cal_text.proofs.DigitTexts.{digits_at_least-magnitude, digits_at_least-length}
 use Rattle.cal_text.proofs.Forms.{IsForm, IsNothing, IsByteFrom, IsLed, IsThen, IsEither, always, nothing, byte_from, led, both, either, retold, put}
