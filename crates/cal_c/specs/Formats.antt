@@ -11,7 +11,7 @@ use Rattle.cal_format.specs.declared.item.Name.TheVariants as name
 use Rattle.cal_format.specs.declared.item.Padding.{Padding}
 use Rattle.cal_format.specs.declared.item.Padding.TheVariants as padding
 use Rattle.cal_format.specs.declared.item.Syntax.{Syntax}
-use Rattle.cal_format.specs.Format.{Spells, IsFaultOf}
+use Rattle.cal_format.specs.Format.{Spells, IsFormatError}
 use Rattle.cal_format.specs.Reading.{index}
 use Rattle.cal_c.specs.Statuses.{ok_status, unexpected_byte, unknown_item, too_many_items}
 use Rattle.cal_c.specs.Texts.{no_position}
@@ -88,4 +88,4 @@ SpellsFormat s bytes items = Spells s bytes items [] × (length items ≤ 64)
 pub record IsFormatOf (s : Syntax) (bytes : List ℕ) (r : FormatResult) : Type 0 where
   pub not_utf8 : (IsUtf8 bytes → ⊥) → r ≡ format_error_at unexpected_byte (utf8_valid_len bytes)
   pub value : IsUtf8 bytes → (items : List Item) → SpellsFormat s bytes items → r ≡ format_ok items
-  pub fault : IsUtf8 bytes → (((items : List Item) × SpellsFormat s bytes items) → ⊥) → (e : FormatError) × IsFaultOf s 0 0 bytes e × (r ≡ format_error e)
+  pub fault : IsUtf8 bytes → (((items : List Item) × SpellsFormat s bytes items) → ⊥) → (e : FormatError) × IsFormatError s 0 0 bytes e × (r ≡ format_error e)

@@ -36,7 +36,7 @@ pub data Spells (s : Syntax) : List ℕ → List Item → List ℕ → Type 0 wh
 
 -- Why a text that begins at `at`, after `had` items, is not a format: after bytes that spell items,
 -- at most 64 in all, the bytes from a position on spell no item; or there are more than 64 items.
-abbrev pub IsFaultOf : Syntax → ℕ → ℕ → List ℕ → FormatError → Type 0
-IsFaultOf s at had text (UnknownItem p) =
+abbrev pub IsFormatError : Syntax → ℕ → ℕ → List ℕ → FormatError → Type 0
+IsFormatError s at had text (UnknownItem p) =
     (items : List Item) × (rest : List ℕ) × Spells s text items rest × (had + length items ≤ 64) × (rest ≢ []) × ((front s rest).items ≡ []) × (p + length rest ≡ at + length text)
-IsFaultOf s at had text TooLong = (items : List Item) × (rest : List ℕ) × Spells s text items rest × (64 < had + length items)
+IsFormatError s at had text TooLong = (items : List Item) × (rest : List ℕ) × Spells s text items rest × (64 < had + length items)

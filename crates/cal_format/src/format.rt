@@ -5,7 +5,7 @@ ghost use Rattle.cal_format.specs.declared.item.Syntax.TheVariants.{Percent, Bra
 ghost use Rattle.cal_format.specs.declared.format.FormatError.TheVariants.{UnknownItem, TooLong};
 ghost use Rattle.cal_format.specs.ErrorText.{format_error_text};
 ghost use Rattle.cal_format.specs.Reading.{are_apart, show_within};
-ghost use Rattle.cal_format.specs.Format.{Spells, IsFaultOf, escape, spelled, front};
+ghost use Rattle.cal_format.specs.Format.{Spells, IsFormatError, escape, spelled, front};
 
 use crate::description::description_front;
 use crate::determines::are_apart;
@@ -70,7 +70,7 @@ impl Format {
         ensures every { (items : List Item) → Spells Percent text.now items [] → length items ≤ 64
             → result ≡ Ok items }
         ensures value { IfOk result (λ items. Spells Percent text.now items [] × (length items ≤ 64)) }
-        ensures error { IfErr result (IsFaultOf Percent 0 0 text.now) }
+        ensures error { IfErr result (IsFormatError Percent 0 0 text.now) }
     {
         Format::from_bytes(text.as_bytes(), Syntax::Percent)
     }
@@ -84,7 +84,7 @@ impl Format {
         ensures every { (items : List Item) → Spells Brackets text.now items [] → length items ≤ 64
             → result ≡ Ok items }
         ensures value { IfOk result (λ items. Spells Brackets text.now items [] × (length items ≤ 64)) }
-        ensures error { IfErr result (IsFaultOf Brackets 0 0 text.now) }
+        ensures error { IfErr result (IsFormatError Brackets 0 0 text.now) }
     {
         Format::from_bytes(text.as_bytes(), Syntax::Brackets)
     }
@@ -93,7 +93,7 @@ impl Format {
         ensures every { (items : List Item) → Spells syntax text.now items [] → length items ≤ 64
             → result ≡ Ok items }
         ensures value { IfOk result (λ items. Spells syntax text.now items [] × (length items ≤ 64)) }
-        ensures error { IfErr result (IsFaultOf syntax 0 0 text.now) }
+        ensures error { IfErr result (IsFormatError syntax 0 0 text.now) }
     {
         let mut format = Format::empty();
         format.add(text, 0, syntax)?;
@@ -143,7 +143,7 @@ impl Format {
             → (result ≡ Ok tt) × (self.new ≡ self.old ++ items) }
         ensures value { OnOk result ((items : List Item) × Spells syntax text.now items []
             × (self.new ≡ self.old ++ items)) }
-        ensures error { IfErr result (IsFaultOf syntax at (length self.old) text.now) }
+        ensures error { IfErr result (IsFormatError syntax at (length self.old) text.now) }
         ensures few { length self.new ≤ 64 }
     {
         if text.is_empty() {

@@ -6,7 +6,7 @@ ghost use Rattle.cal_time.specs.Time.{IsTime};
 ghost use Rattle.cal_datetime.specs.DateTime.{IsDateTime, time_at};
 ghost use Rattle.cal_format.specs.declared.item.Syntax.{Syntax};
 ghost use Rattle.cal_format.specs.declared.format.FormatError.{FormatError};
-ghost use Rattle.cal_format.specs.Format.{IsFaultOf};
+ghost use Rattle.cal_format.specs.Format.{IsFormatError};
 ghost use Rattle.cal_format.specs.Moment.{moment_of_date, moment_of_time, moment_of_date_time};
 ghost use Rattle.cal_format.specs.Text.{text_of};
 ghost use Rattle.cal_format.specs.Reading.{holds_time};
@@ -20,8 +20,8 @@ use cal_time::{Date, Time};
 
 /// States that a text has at most one error as a format, in either syntax.
 pub(crate) fn one_error(text: &str) -> Result<Format, FormatError>
-    ensures { (s : Syntax) (e f : FormatError) → IsFaultOf s 0 0 text.now e
-        → IsFaultOf s 0 0 text.now f → e ≡ f }
+    ensures { (s : Syntax) (e f : FormatError) → IsFormatError s 0 0 text.now e
+        → IsFormatError s 0 0 text.now f → e ≡ f }
 {
     Format::new(text)
 }

@@ -1,5 +1,5 @@
 -- The value and the error of a text of one shape: only the form of this shape is left.
-use Rattle.std.proofs.Common.{◌≡◌, ◌⊎◌, ℕ, ℤ, List, get_or, ap, inl, inr, arith}
+use Rattle.std.proofs.Common.{◌≡◌, ◌⊎◌, ◌↔◌, ℕ, ℤ, List, get_or, ap, inl, inr, arith}
 use Rattle.cal_time.specs.Date.{IsDate}
 use Rattle.cal_time.specs.declared.error.ComponentRange.{ComponentRange}
 use Rattle.cal_datetime.specs.OffsetDateTime.{LocalAndOffset}
@@ -24,6 +24,13 @@ of_four (inl h) a b c d = a h
 of_four (inr (inl h)) a b c d = b h
 of_four (inr (inr (inl h))) a b c d = c h
 of_four (inr (inr (inr h))) a b c d = d h
+
+-- What is said of one form is said of any, if the text has no other.
+pub no_any : {F Any N : Type 0} {Has : F → Type 0} → N ↔ ((f : F) → ¬ Has f) → (Any → (f : F) × Has f) → ((f : F) × Has f → Any) → N ↔ ¬ Any
+no_any is to from = (λ n any. let h = to any in is.0 n h.0 h.1, λ none. is.1 (λ f h. none (from (f, h))))
+
+pub same_error : {P A B : Type 0} → P ↔ A → (B → A) → (A → B) → P ↔ B
+same_error is to from = (λ p. from (is.0 p), λ b. is.1 (to b))
 
 -- ---- the forms
 abbrev SomeForm : List ℕ → Type 0
@@ -60,8 +67,8 @@ julian-found bytes P first at (Moment Unix m) is = julian-unix bytes _ first is.
 pub julian-any : (bytes : List ℕ) → get_or bytes 0 0 ≡ 74 → HasAnyForm bytes → SomeJulian bytes
 julian-any bytes first is = of_four is (julian-date bytes first) (λ h. h) (julian-moment bytes first) (λ h. julian-unix bytes h.0 first h.1)
 
-pub julian-fault : (bytes : List ℕ) (why : ComponentRange) → get_or bytes 0 0 ≡ 74 → IsDateOrMomentError bytes why → HasError IsJulianForm IsJulianDayError bytes why
-julian-fault bytes why first is = of_four is (λ h. julian-date bytes first (h.0, h.1)) (λ h. h) (λ h. julian-moment bytes first (h.0, h.1)) (λ h. julian-unix bytes h.0 first h.1)
+pub julian-error : (bytes : List ℕ) (why : ComponentRange) → get_or bytes 0 0 ≡ 74 → IsDateOrMomentError bytes why → HasError IsJulianForm IsJulianDayError bytes why
+julian-error bytes why first is = of_four is (λ h. julian-date bytes first (h.0, h.1)) (λ h. h) (λ h. julian-moment bytes first (h.0, h.1)) (λ h. julian-unix bytes h.0 first h.1)
 
 -- ---- an @ at the front
 unix-date : {R : Type 0} (bytes : List ℕ) → get_or bytes 0 0 ≡ 64 → SomeForm bytes → R
@@ -88,8 +95,8 @@ unix-found bytes P first at (Moment Unix m) is = at m is
 pub unix-any : (bytes : List ℕ) → get_or bytes 0 0 ≡ 64 → HasAnyForm bytes → SomeUnix bytes
 unix-any bytes first is = of_four is (unix-date bytes first) (λ h. unix-julian bytes h.0 first h.1) (unix-moment bytes first) (λ h. h)
 
-pub unix-fault : (bytes : List ℕ) (why : ComponentRange) → get_or bytes 0 0 ≡ 64 → IsDateOrMomentError bytes why → HasError HasUnixForm IsUnixTimeError bytes why
-unix-fault bytes why first is = of_four is (λ h. unix-date bytes first (h.0, h.1)) (λ h. unix-julian bytes h.0 first h.1) (λ h. unix-moment bytes first (h.0, h.1)) (λ h. h)
+pub unix-error : (bytes : List ℕ) (why : ComponentRange) → get_or bytes 0 0 ≡ 64 → IsDateOrMomentError bytes why → HasError HasUnixForm IsUnixTimeError bytes why
+unix-error bytes why first is = of_four is (λ h. unix-date bytes first (h.0, h.1)) (λ h. unix-julian bytes h.0 first h.1) (λ h. unix-moment bytes first (h.0, h.1)) (λ h. h)
 
 -- ---- a separator at 10
 moment-date : {R : Type 0} (bytes : List ℕ) → IsSeparator (get_or bytes 10 0) → SomeForm bytes → R
@@ -116,8 +123,8 @@ moment-found bytes P first sep at (Moment Unix m) is = other-unix bytes _ first 
 pub moment-any : (bytes : List ℕ) → IsNoOther bytes → IsSeparator (get_or bytes 10 0) → HasAnyForm bytes → SomeMoment bytes
 moment-any bytes first sep is = of_four is (moment-date bytes sep) (λ h. other-julian bytes h.0 first h.1) (λ h. h) (λ h. other-unix bytes h.0 first h.1)
 
-pub moment-fault : (bytes : List ℕ) (why : ComponentRange) → IsNoOther bytes → IsSeparator (get_or bytes 10 0) → IsDateOrMomentError bytes why → HasError HasMomentForm IsMomentError bytes why
-moment-fault bytes why first sep is = of_four is (λ h. moment-date bytes sep (h.0, h.1)) (λ h. other-julian bytes h.0 first h.1) (λ h. h) (λ h. other-unix bytes h.0 first h.1)
+pub moment-error : (bytes : List ℕ) (why : ComponentRange) → IsNoOther bytes → IsSeparator (get_or bytes 10 0) → IsDateOrMomentError bytes why → HasError HasMomentForm IsMomentError bytes why
+moment-error bytes why first sep is = of_four is (λ h. moment-date bytes sep (h.0, h.1)) (λ h. other-julian bytes h.0 first h.1) (λ h. h) (λ h. other-unix bytes h.0 first h.1)
 
 -- ---- none of these
 date-moment : {R : Type 0} (bytes : List ℕ) → ¬ IsSeparator (get_or bytes 10 0) → SomeMoment bytes → R
@@ -135,5 +142,5 @@ date-found bytes P first none at (Moment Unix m) is = other-unix bytes _ first i
 pub date-any : (bytes : List ℕ) → IsNoOther bytes → ¬ IsSeparator (get_or bytes 10 0) → HasAnyForm bytes → SomeForm bytes
 date-any bytes first none is = of_four is (λ h. h) (λ h. other-julian bytes h.0 first h.1) (date-moment bytes none) (λ h. other-unix bytes h.0 first h.1)
 
-pub date-fault : (bytes : List ℕ) (why : ComponentRange) → IsNoOther bytes → ¬ IsSeparator (get_or bytes 10 0) → IsDateOrMomentError bytes why → HasError HasForm IsDateError bytes why
-date-fault bytes why first none is = of_four is (λ h. h) (λ h. other-julian bytes h.0 first h.1) (λ h. date-moment bytes none (h.0, h.1)) (λ h. other-unix bytes h.0 first h.1)
+pub date-error : (bytes : List ℕ) (why : ComponentRange) → IsNoOther bytes → ¬ IsSeparator (get_or bytes 10 0) → IsDateOrMomentError bytes why → HasError HasForm IsDateError bytes why
+date-error bytes why first none is = of_four is (λ h. h) (λ h. other-julian bytes h.0 first h.1) (λ h. date-moment bytes none (h.0, h.1)) (λ h. other-unix bytes h.0 first h.1)

@@ -1,17 +1,16 @@
 -- Digits as parts of a shape.
-use Rattle.std.proofs.Common.{◌≡◌, ℕ, zero, suc, ◌+◌, ◌*◌, ◌<◌, ◌≤◌, ◌^◌, List, [], ◌∷◌, ◌++◌, length, refl, sym, ap, subst, ◌∙◌, arith, inl, inr, lit<, lit≤}
+use Rattle.std.proofs.Common.{◌≡◌, ℕ, zero, suc, ◌+◌, ◌*◌, ◌<◌, ◌≤◌, ◌^◌, List, [], ◌∷◌, ◌++◌, length, refl, sym, ap, subst, ◌∙◌, arith, inl, inr, lit≤}
 use Rattle.std.specs.Char.{digit_value}
 use Rattle.std.specs.Str.Parse.{AllDigits, digits_value, digits_value_after}
 use Rattle.std.proofs.lemmas.Bool.{cases_lt}
 use Rattle.std.proofs.lemmas.Int.Digits.{digits_value-lt}
-use Rattle.std.proofs.lemmas.List.{append_assoc}
 use Rattle.std.proofs.lemmas.Str.{digit_value_digit}
 use Rattle.std.proofs.lemmas.Str.Parse.{digit_from_value}
 use Rattle.cal_time.specs.DateText.{digits_at_least}
 use Rattle.cal_time.proofs.DistinctTexts.{digits_at_least-digits, digits_at_least-value}
-use Rattle.cal_text.specs.Shape.{Shape, unmatched_bytes, Byte, Digits, UpTo, SomeDigits, DigitsAtLeast, ParsesDigits}
+use Rattle.cal_text.specs.Shape.{Shape, unmatched_bytes, Digits, UpTo, ParsesDigits}
 use Rattle.cal_text.proofs.DigitTexts.{below-nine, digits-printed, digits_at_least-length}
-use Rattle.cal_text.proofs.Parts.{IsPart, Splits, HasAfter, BeginsOutside, unmatched_bytes-outside, same_pair, renamed, byte_part}
+use Rattle.cal_text.proofs.Parts.{IsPart, Splits, HasAfter, BeginsOutside, unmatched_bytes-outside, same_pair, renamed}
 use Rattle.cal_text.proofs.Positions.{IsShapeOf}
 use Rattle.cal_text.proofs.Stops.{IsIn, in_or_out, unmatched_bytes-in, unmatched_bytes-out, unmatched_bytes-end, unmatched_bytes-branch_in, unmatched_bytes-branch_out, unmatched_bytes-branch_end}
 
@@ -28,7 +27,7 @@ digit_is x h = omega (arith, has_value x h, h.1)
 abbrev pub IsExact : ℕ → List ℕ → Type 0
 IsExact k ds = AllDigits 10 ds × (length ds ≡ k)
 
-exact-each : (k : ℕ) (f : Shape) (ds rest : List ℕ) → IsExact k ds → unmatched_bytes (Digits k f) (ds ++ rest) ≡ unmatched_bytes f rest
+pub exact-each : (k : ℕ) (f : Shape) (ds rest : List ℕ) → IsExact k ds → unmatched_bytes (Digits k f) (ds ++ rest) ≡ unmatched_bytes f rest
 exact-each zero f [] rest h = refl
 exact-each zero f (x ∷ xs) rest h = absurd (omega (arith, h.1))
 exact-each (suc k) f [] rest h = absurd (omega (arith, h.1))
@@ -52,7 +51,7 @@ exact-only (suc k) f (x ∷ xs) e =
       | inr out ↦ absurd (omega (arith, e, unmatched_bytes-out 48 9 (Digits k f) x xs out))
     ]
 
-exact-one : (k : ℕ) (ds es r s : List ℕ) → length ds ≡ k → length es ≡ k → ds ++ r ≡ es ++ s → (ds ≡ es) × (r ≡ s)
+pub exact-one : (k : ℕ) (ds es r s : List ℕ) → length ds ≡ k → length es ≡ k → ds ++ r ≡ es ++ s → (ds ≡ es) × (r ≡ s)
 exact-one k [] [] r s a b e = (refl, e)
 exact-one k [] (y ∷ ys) r s a b e = absurd (omega (arith, a, b))
 exact-one k (x ∷ xs) [] r s a b e = absurd (omega (arith, a, b))
@@ -100,7 +99,7 @@ two_digits = number_part 2 (lit≤ tt) (lit≤ tt)
 abbrev pub IsCount : ℕ → ℕ → List ℕ → Type 0
 IsCount k more ds = AllDigits 10 ds × (k ≤ length ds) × (length ds ≤ k + more)
 
-counted-each : (k more : ℕ) (f : Shape) (ds rest : List ℕ) → IsCount k more ds → BeginsOutside 48 9 rest → unmatched_bytes (Digits k (UpTo more f)) (ds ++ rest) ≡ unmatched_bytes f rest
+pub counted-each : (k more : ℕ) (f : Shape) (ds rest : List ℕ) → IsCount k more ds → BeginsOutside 48 9 rest → unmatched_bytes (Digits k (UpTo more f)) (ds ++ rest) ≡ unmatched_bytes f rest
 counted-each zero zero f [] rest h out = refl
 counted-each zero zero f (x ∷ xs) rest h out = absurd (omega (arith, h.2))
 counted-each zero (suc m) f [] rest h out = unmatched_bytes-outside 48 9 (UpTo m f) f rest out
@@ -116,7 +115,7 @@ Counted k more f bytes = Splits (IsCount k more) (λ ds. ds) f bytes
 no_digits : (m : ℕ) (f : Shape) (bytes : List ℕ) → unmatched_bytes f bytes ≡ 0 → Counted 0 m f bytes
 no_digits m f bytes e = record { value = []; rest = bytes; valid = (tt, omega arith, omega arith); bytes_are = refl; next = e }
 
-counted-only : (k more : ℕ) (f : Shape) (bytes : List ℕ) → unmatched_bytes (Digits k (UpTo more f)) bytes ≡ 0 → Counted k more f bytes
+pub counted-only : (k more : ℕ) (f : Shape) (bytes : List ℕ) → unmatched_bytes (Digits k (UpTo more f)) bytes ≡ 0 → Counted k more f bytes
 counted-only zero zero f bytes e = no_digits 0 f bytes e
 counted-only zero (suc m) f [] e = no_digits (suc m) f [] (sym (unmatched_bytes-branch_end 48 9 (UpTo m f) f) ∙ e)
 counted-only zero (suc m) f (x ∷ xs) e =
@@ -147,7 +146,7 @@ counted-only (suc k) m f (x ∷ xs) e =
       | inr out ↦ absurd (omega (arith, e, unmatched_bytes-out 48 9 (Digits k (UpTo m f)) x xs out))
     ]
 
-counted-one : (ds es r s : List ℕ) → AllDigits 10 ds → AllDigits 10 es → BeginsOutside 48 9 r → BeginsOutside 48 9 s → ds ++ r ≡ es ++ s → (ds ≡ es) × (r ≡ s)
+pub counted-one : (ds es r s : List ℕ) → AllDigits 10 ds → AllDigits 10 es → BeginsOutside 48 9 r → BeginsOutside 48 9 s → ds ++ r ≡ es ++ s → (ds ≡ es) × (r ≡ s)
 counted-one [] [] r s h k a b e = (refl, e)
 counted-one [] (y ∷ ys) r s h k a b e = absurd (a y (ys ++ s) e (is_digit y k.0))
 counted-one (x ∷ xs) [] r s h k a b e = absurd (b x (xs ++ r) (sym e) (is_digit x h.0))
@@ -175,106 +174,11 @@ counted {W} k more Has f p apart = record {
     outside : (rest : List ℕ) (w : W) → Has rest w → BeginsOutside 48 9 rest
     outside rest w h x xs e here = apart x xs w here (subst (λ all. Has all w) e h)
 
--- or a hyphen
-abbrev pub hyphened : List ℕ → List ℕ
-hyphened ds = ds ++ 45 ∷ []
-
-hyphen_outside : (rest : List ℕ) → BeginsOutside 48 9 (45 ∷ rest)
-hyphen_outside rest x xs e here = let first : 45 ≡ x = cc in omega (arith, here.0, first)
-
-pub count_part : (k more : ℕ) → IsPart (IsCount k more) hyphened (DigitsAtLeast k more)
-count_part k more = record {
-  each = λ f ds rest h.
-      ap (unmatched_bytes (DigitsAtLeast k more f)) (append_assoc ds (45 ∷ []) rest) ∙ counted-each k more (Byte 45 f) ds (45 ∷ rest) h (hyphen_outside rest)
-      ∙ unmatched_bytes-in 45 0 f 45 rest (lit≤ tt, lit≤ tt);
-  only = λ f bytes e.
-      let a = counted-only k more (Byte 45 f) bytes e in
-      let b = (byte_part 45).only f a.rest a.next in
-      record {
-        value = a.value;
-        rest = b.rest;
-        valid = a.valid;
-        bytes_are = a.bytes_are ∙ ap (λ r. a.value ++ r) b.bytes_are ∙ sym (append_assoc a.value (45 ∷ []) b.rest);
-        next = b.next;
-      };
-  one = λ ds es r s a b e. count-one ds es r s a.0 b.0 (sym (append_assoc ds (45 ∷ []) r) ∙ e ∙ append_assoc es (45 ∷ []) s);
-}
-  where
-    count-one : (ds es r s : List ℕ) → AllDigits 10 ds → AllDigits 10 es → ds ++ 45 ∷ r ≡ es ++ 45 ∷ s → (ds ≡ es) × (r ≡ s)
-    count-one ds es r s a b e =
-        let found = counted-one ds es (45 ∷ r) (45 ∷ s) a b (hyphen_outside r) (hyphen_outside s) e in
-        let last = found.1 in
-        (found.0, cc)
-
 -- ---- digits of which one is not 0
 pub value-most : (n : ℕ) (ds : List ℕ) → n ≤ digits_value_after 10 n ds
 value-most n [] = omega arith
 value-most n (x ∷ xs) = omega (arith, value-most (n * 10 + digit_value x) xs)
 
-abbrev pub IsSome : ℕ → List ℕ → Type 0
-IsSome k ds = IsExact (suc k) ds × (0 < digits_value 10 ds)
-
 pub zero_byte : (x : ℕ) → IsIn 48 9 x → ¬ IsIn 49 8 x → x ≡ 48
 zero_byte x here out =
     elim (cases_lt 48 x) as (λ _. x ≡ 48) [ inl more ↦ absurd (out (omega arith, omega (arith, here.1))) | inr few ↦ omega (arith, here.0, few) ]
-
-some-each : (k : ℕ) (f : Shape) (ds rest : List ℕ) → IsSome k ds → unmatched_bytes (SomeDigits k f) (ds ++ rest) ≡ unmatched_bytes f rest
-some-each zero f [] rest h = absurd (omega (arith, h.0.1))
-some-each zero f (x ∷ []) rest h = unmatched_bytes-in 49 8 f x rest (omega (arith, h.1, has_value x (is_digit x h.0.0.0)), omega (arith, (is_digit x h.0.0.0).1))
-some-each zero f (x ∷ y ∷ xs) rest h = absurd (omega (arith, h.0.1))
-some-each (suc k) f [] rest h = absurd (omega (arith, h.0.1))
-some-each (suc k) f (x ∷ xs) rest h =
-    elim (in_or_out 49 8 x) as (λ _. unmatched_bytes (SomeDigits (suc k) f) (x ∷ (xs ++ rest)) ≡ unmatched_bytes f rest) [
-      | inl here ↦
-          unmatched_bytes-branch_in 49 8 (Digits (suc k) f) (Byte 48 (SomeDigits k f)) x (xs ++ rest) here ∙ exact-each (suc k) f xs rest (h.0.0.1, omega (arith, h.0.1))
-      | inr out ↦
-          let is : x ≡ 48 = zero_byte x (is_digit x h.0.0.0) out in
-          unmatched_bytes-branch_out 49 8 (Digits (suc k) f) (Byte 48 (SomeDigits k f)) x (xs ++ rest) out
-          ∙ unmatched_bytes-in 48 0 (SomeDigits k f) x (xs ++ rest) (omega (arith, is), omega (arith, is))
-          ∙ some-each k f xs rest ((h.0.0.1, omega (arith, h.0.1)), subst (λ b. 0 < digits_value 10 (b ∷ xs)) is h.1)
-    ]
-
-some-only : (k : ℕ) (f : Shape) (bytes : List ℕ) → unmatched_bytes (SomeDigits k f) bytes ≡ 0 → Splits (IsSome k) (λ ds. ds) f bytes
-some-only zero f [] e = absurd (omega (arith, e, unmatched_bytes-end 49 8 f))
-some-only (suc k) f [] e =
-    absurd (omega (arith, e, unmatched_bytes-branch_end 49 8 (Digits (suc k) f) (Byte 48 (SomeDigits k f)), unmatched_bytes-end 48 0 (SomeDigits k f)))
-some-only zero f (x ∷ xs) e =
-    elim (in_or_out 49 8 x) as (λ _. Splits (IsSome 0) (λ ds. ds) f (x ∷ xs)) [
-      | inl here ↦
-          let digit : IsIn 48 9 x = (omega (arith, here.0), omega (arith, here.1)) in
-          record {
-            value = x ∷ [];
-            rest = xs;
-            valid = (((digit_is x digit, tt), refl), omega (arith, has_value x digit, here.0));
-            bytes_are = refl;
-            next = sym (unmatched_bytes-in 49 8 f x xs here) ∙ e;
-          }
-      | inr out ↦ absurd (omega (arith, e, unmatched_bytes-out 49 8 f x xs out))
-    ]
-some-only (suc k) f (x ∷ xs) e =
-    elim (in_or_out 49 8 x) as (λ _. Splits (IsSome (suc k)) (λ ds. ds) f (x ∷ xs)) [
-      | inl here ↦
-          let digit : IsIn 48 9 x = (omega (arith, here.0), omega (arith, here.1)) in
-          let a = exact-only (suc k) f xs (sym (unmatched_bytes-branch_in 49 8 (Digits (suc k) f) (Byte 48 (SomeDigits k f)) x xs here) ∙ e) in
-          record {
-            value = x ∷ a.value;
-            rest = a.rest;
-            valid = (((digit_is x digit, a.valid.0), ap (λ n. suc n) a.valid.1), omega (arith, value-most (0 * 10 + digit_value x) a.value, has_value x digit, here.0));
-            bytes_are = ap (λ ds. x ∷ ds) a.bytes_are;
-            next = a.next;
-          }
-      | inr out ↦
-          let rest_is : unmatched_bytes (Byte 48 (SomeDigits k f)) (x ∷ xs) ≡ 0 = sym (unmatched_bytes-branch_out 49 8 (Digits (suc k) f) (Byte 48 (SomeDigits k f)) x xs out) ∙ e in
-          let zero_is = (byte_part 48).only (SomeDigits k f) (x ∷ xs) rest_is in
-          let a = some-only k f zero_is.rest zero_is.next in
-          record {
-            value = 48 ∷ a.value;
-            rest = a.rest;
-            valid = (((lit< tt, a.valid.0.0), ap (λ n. suc n) a.valid.0.1), a.valid.1);
-            bytes_are = zero_is.bytes_are ∙ ap (λ ds. 48 ∷ ds) a.bytes_are;
-            next = a.next;
-          }
-    ]
-
-pub some_part : (k : ℕ) → IsPart (IsSome k) (λ ds. ds) (SomeDigits k)
-some_part k = record { each = some-each k; only = some-only k; one = λ ds es r s a b e. exact-one (suc k) ds es r s a.0.1 b.0.1 e }

@@ -3,7 +3,6 @@ pub mod YearTexts
 pub mod Ranges
 pub mod DayForms
 pub mod NumberTexts
-mod MomentReads
 mod PrintedDecimals
 mod PrintedMoments
 mod UnixReads
@@ -26,7 +25,10 @@ pub mod OffsetDateTimeShapes
 pub mod Stops
 pub mod Positions
 pub mod Parts
-mod Faults
+pub mod Forms
+pub mod DigitForms
+mod Errors
+mod Parsed
 mod PlainReads
 mod OffsetDateTimeReads
 mod AnyForms

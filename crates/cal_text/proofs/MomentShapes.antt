@@ -1,150 +1,97 @@
 -- The shapes of a moment, and what a scanner read of one.
-use Rattle.std.proofs.Common.{true, false, ◌≡◌, ℕ, zero, suc, ◌+◌, ◌<◌, ◌≤◌, ◌^◌, ◌⊎◌, inl, inr, List, [], ◌∷◌, ◌++◌, length, refl, sym, ap, subst, ◌∙◌, arith, lit≤}
+use Rattle.std.proofs.Common.{Bool, ◌≡◌, ℕ, zero, suc, ◌+◌, ◌<◌, ◌≤◌, ◌⊎◌, inl, inr, List, [], ◌∷◌, ◌++◌, length, refl, sym, ap, ◌∙◌, arith, lit≤}
 use Rattle.std.proofs.lemmas.List.{append_assoc, length-append}
 use Rattle.cal_time.specs.DateText.{digits_at_least, date_digits}
 use Rattle.cal_text.specs.declared.rfc3339.numbers.Numbers.{Numbers}
 use Rattle.cal_text.specs.declared.rfc3339.numbers.TimeOffset.{TimeOffset}
 use Rattle.cal_text.specs.declared.rfc3339.numbers.TimeOffset.TheVariants.{Utc, Signed}
 use Rattle.cal_text.specs.Rfc3339Form.{IsSeparator, IsTimeOffset, sign_byte, HasMomentForm, HasFractionBefore, clock_digits}
-use Rattle.cal_text.specs.Shape.{Shape, unmatched_bytes, Branch, Byte, Digits, UpTo, Fraction, Separator, TwoNumbers, ToSeconds, offset_digits, time_offset, moment, ParsesDigits}
+use Rattle.cal_text.specs.Shape.{Shape, unmatched_bytes, Byte, Digits, UpTo, Fraction, Separator, TwoNumbers, moment, ParsesDigits}
 use Rattle.cal_text.proofs.Decimals.{fraction-below}
-use Rattle.cal_text.proofs.DigitParts.{IsTwo, two_digits, number_part}
-use Rattle.cal_text.proofs.OffsetShapes.{ZoneOr, HasZoneOr, zone_or}
-use Rattle.cal_text.proofs.Parts.{IsPart, Splits, HasAfter, byte_part, one_byte, both, last, after, retold, at_end}
+use Rattle.cal_text.proofs.DigitForms.{IsNumber, number, two}
+use Rattle.cal_text.proofs.Forms.{IsForm, IsNothing, IsLed, IsThen, IsEither, always, nothing, led, both, either, retold, whole, put}
+use Rattle.cal_text.proofs.OffsetShapes.{Zoned, IsZoned, zoned}
+use Rattle.cal_text.proofs.Parts.{at_end}
 use Rattle.cal_text.proofs.Positions.{IsShapeOf, AreShapesOf}
 use Rattle.cal_text.proofs.ReadDigits.{printed}
-use Rattle.cal_text.proofs.Stops.{IsIn, in_or_out, unmatched_bytes-in, unmatched_bytes-out, unmatched_bytes-end, unmatched_bytes-branch_in, unmatched_bytes-branch_out, unmatched_bytes-branch_end}
-use Rattle.cal_text.proofs.UnixShapes.{HasFraction, fraction_then}
+use Rattle.cal_text.proofs.Stops.{in_or_out, unmatched_bytes-in, unmatched_bytes-out, unmatched_bytes-end, unmatched_bytes-branch_in, unmatched_bytes-branch_out, unmatched_bytes-branch_end}
+use Rattle.cal_text.proofs.UnixShapes.{fraction}
 
 -- ---- the byte between the date and the time
-separator-each : (f : Shape) (s : ℕ) (rest : List ℕ) → IsSeparator s → unmatched_bytes (Separator f) (s ∷ rest) ≡ unmatched_bytes f rest
-separator-each f s rest h = elim h as (λ _. unmatched_bytes (Separator f) (s ∷ rest) ≡ unmatched_bytes f rest) [
-  | inl upper ↦ unmatched_bytes-branch_in 84 0 f (Branch 116 0 f (Byte 32 f)) s rest (omega (arith, upper), omega (arith, upper))
-  | inr other ↦ unmatched_bytes-branch_out 84 0 f (Branch 116 0 f (Byte 32 f)) s rest (λ here. not-upper here other) ∙ elim other as (λ _. unmatched_bytes (Branch 116 0 f (Byte 32 f)) (s ∷ rest) ≡ unmatched_bytes f rest) [
-    | inl lower ↦ unmatched_bytes-branch_in 116 0 f (Byte 32 f) s rest (omega (arith, lower), omega (arith, lower))
-    | inr space ↦
-        unmatched_bytes-branch_out 116 0 f (Byte 32 f) s rest (λ here. absurd (omega (arith, here.0, space)))
-        ∙ unmatched_bytes-in 32 0 f s rest (omega (arith, space), omega (arith, space))
-  ]
-]
+abbrev pub HasSeparator : List ℕ → ℕ → Type 0
+HasSeparator bytes s = IsSeparator s × (bytes ≡ s ∷ [])
+
+pub separator : IsForm Separator HasSeparator always
+separator = retold HasSeparator (either 84 0 (led 84 nothing) (either 116 0 (led 116 nothing) (led 32 nothing))) into there here
   where
-    not-upper : IsIn 84 0 s → (s ≡ 116) ⊎ (s ≡ 32) → ⊥
-    not-upper here (inl lower) = absurd (omega (arith, here.1, lower))
-    not-upper here (inr space) = absurd (omega (arith, here.0, space))
+    Raw : Type 0
+    Raw = Unit {0} ⊎ Unit {0} ⊎ Unit {0}
 
-abbrev Separated : Shape → List ℕ → Type 0
-Separated f bytes = Splits IsSeparator (λ s. s ∷ []) f bytes
+    IsRaw : List ℕ → Raw → Type 0
+    IsRaw = IsEither (IsLed 84 IsNothing) (IsEither (IsLed 116 IsNothing) (IsLed 32 IsNothing))
 
-separated : (f : Shape) (x b : ℕ) (xs : List ℕ) → IsSeparator b → IsIn b 0 x → unmatched_bytes f xs ≡ 0 → Separated f (x ∷ xs)
-separated f x b xs is here e =
-    let same : b ≡ x = omega (arith, here.0, here.1) in
-    record { value = x; rest = xs; valid = subst IsSeparator same is; bytes_are = refl; next = e }
+    into : Raw → ℕ
+    into (inl u) = 84
+    into (inr (inl u)) = 116
+    into (inr (inr u)) = 32
 
-separator-only : (f : Shape) (bytes : List ℕ) → unmatched_bytes (Separator f) bytes ≡ 0 → Separated f bytes
-separator-only f [] e =
-    absurd (omega (arith, e, unmatched_bytes-branch_end 84 0 f (Branch 116 0 f (Byte 32 f)), unmatched_bytes-branch_end 116 0 f (Byte 32 f), unmatched_bytes-end 32 0 f))
-separator-only f (x ∷ xs) e =
-    elim (in_or_out 84 0 x) as (λ _. Separated f (x ∷ xs)) [
-      | inl upper ↦ separated f x 84 xs (inl refl) upper (sym (unmatched_bytes-branch_in 84 0 f (Branch 116 0 f (Byte 32 f)) x xs upper) ∙ e)
-      | inr out ↦ next (sym (unmatched_bytes-branch_out 84 0 f (Branch 116 0 f (Byte 32 f)) x xs out) ∙ e)
-    ]
-  where
-    space : unmatched_bytes (Byte 32 f) (x ∷ xs) ≡ 0 → Separated f (x ∷ xs)
-    space e =
-        elim (in_or_out 32 0 x) as (λ _. Separated f (x ∷ xs)) [
-          | inl is ↦ separated f x 32 xs (inr (inr refl)) is (sym (unmatched_bytes-in 32 0 f x xs is) ∙ e)
-          | inr out ↦ absurd (omega (arith, e, unmatched_bytes-out 32 0 f x xs out))
-        ]
+    there : (bytes : List ℕ) (v : Raw) → IsRaw bytes v → HasSeparator bytes (into v)
+    there bytes (inl u) h = (inl refl, h.2 ∙ ap (λ r. 84 ∷ r) h.1)
+    there bytes (inr (inl u)) h = (inr (inl refl), h.2 ∙ ap (λ r. 116 ∷ r) h.1)
+    there bytes (inr (inr u)) h = (inr (inr refl), h.2 ∙ ap (λ r. 32 ∷ r) h.1)
 
-    next : unmatched_bytes (Branch 116 0 f (Byte 32 f)) (x ∷ xs) ≡ 0 → Separated f (x ∷ xs)
-    next e =
-        elim (in_or_out 116 0 x) as (λ _. Separated f (x ∷ xs)) [
-          | inl lower ↦ separated f x 116 xs (inr (inl refl)) lower (sym (unmatched_bytes-branch_in 116 0 f (Byte 32 f) x xs lower) ∙ e)
-          | inr out ↦ space (sym (unmatched_bytes-branch_out 116 0 f (Byte 32 f) x xs out) ∙ e)
-        ]
-
-separator_one : (s t : ℕ) (r q : List ℕ) → s ∷ r ≡ t ∷ q → (s ≡ t) × (r ≡ q)
-separator_one s t r q e = (cc, cc)
-
-pub separator_part : IsPart IsSeparator (λ s. s ∷ []) Separator
-separator_part = record { each = separator-each; only = separator-only; one = λ s t r q _ _ e. separator_one s t r q e }
+    here : (bytes : List ℕ) (s : ℕ) → HasSeparator bytes s → (v : Raw) × IsRaw bytes v × (into v ≡ s)
+    here bytes s (inl e, b) = (inl tt, ([], refl, b ∙ ap (λ x. x ∷ []) e), sym e)
+    here bytes s (inr (inl e), b) = (inr (inl tt), ([], refl, b ∙ ap (λ x. x ∷ []) e), sym e)
+    here bytes s (inr (inr e), b) = (inr (inr tt), ([], refl, b ∙ ap (λ x. x ∷ []) e), sym e)
 
 -- ---- the offset
-abbrev Pair : Type 0
-Pair = ℕ × (Unit {0} × ℕ)
+time_offset_form : IsForm (Zoned (λ f. Digits 2 (Byte 58 (Digits 2 f)))) IsTimeOffset always
+time_offset_form = retold IsTimeOffset (zoned (both two (led 58 two))) into there here
+  where
+    Raw : Type 0
+    Raw = Unit {0} ⊎ Unit {0} ⊎ (Bool × (ℕ × ℕ))
 
-abbrev IsPair : List ℕ → Pair → Type 0
-IsPair bytes v = (IsTwo v.0 × (Unit {0} × IsTwo v.1.1)) × (bytes ≡ digits_at_least 2 v.0 ++ (58 ∷ [] ++ digits_at_least 2 v.1.1))
+    IsRaw : List ℕ → Raw → Type 0
+    IsRaw = IsZoned (IsThen (IsNumber 2) (IsLed 58 (IsNumber 2)))
 
-pair_shape : IsShapeOf IsPair offset_digits
-pair_shape = last _ _ _ (both _ _ _ _ _ _ two_digits (both _ _ _ _ _ _ (byte_part 58) two_digits))
+    into : Raw → TimeOffset
+    into (inl u) = Utc
+    into (inr (inl u)) = Utc
+    into (inr (inr v)) = Signed v.0 v.1.0 v.1.1
 
-time_offset_of : ZoneOr Pair → TimeOffset
-time_offset_of (inl v) = Utc
-time_offset_of (inr (inl v)) = Utc
-time_offset_of (inr (inr v)) = Signed v.0 v.1.0 v.1.1.1
+    there : (bytes : List ℕ) (v : Raw) → IsRaw bytes v → IsTimeOffset bytes (into v)
+    there bytes (inl u) h = inl (h.2 ∙ ap (λ r. 90 ∷ r) h.1)
+    there bytes (inr (inl u)) h = inr (h.2 ∙ ap (λ r. 122 ∷ r) h.1)
+    there bytes (inr (inr v)) h =
+        let c = h.second in (c.first.0, c.second.1.0, put h.bytes_are h.first (put c.bytes_are c.first.1 (c.second.2 ∙ ap (λ r. 58 ∷ r) c.second.1.1)))
 
-there : (bytes : List ℕ) (v : ZoneOr Pair) → HasZoneOr IsPair bytes v → IsTimeOffset bytes (time_offset_of v)
-unfolding time_offset_of
-there bytes (inl v) h = inl (one_byte 90 v.0 bytes h.rest h.valid h.bytes_are ∙ ap (λ r. 90 ∷ r) h.has)
-there bytes (inr (inl v)) h = inr (one_byte 122 v.0 bytes h.rest h.valid h.bytes_are ∙ ap (λ r. 122 ∷ r) h.has)
-there bytes (inr (inr v)) h = (h.has.0.0.0, h.has.0.1.1.0, h.bytes_are ∙ ap (λ r. sign_byte v.0 ∷ r) h.has.1)
-
-as_pair : (h m : ℕ) → h < 100 → m < 100 → IsPair (digits_at_least 2 h ++ 58 ∷ digits_at_least 2 m) (h, (tt, m))
-as_pair h m few low = (((few, omega arith), (tt, (low, omega arith))), refl)
-
-here : (bytes : List ℕ) (z : TimeOffset) → IsTimeOffset bytes z → (v : ZoneOr Pair) × HasZoneOr IsPair bytes v × (time_offset_of v ≡ z)
-unfolding time_offset_of
-here bytes Utc (inl e) = (inl (0, tt), record { rest = []; valid = lit≤ tt; bytes_are = e; has = refl }, refl)
-here bytes Utc (inr e) = (inr (inl (0, tt)), record { rest = []; valid = lit≤ tt; bytes_are = e; has = refl }, refl)
-here bytes (Signed is_west h m) is = (
-  inr (inr (is_west, (h, (tt, m)))),
-  record { rest = digits_at_least 2 h ++ 58 ∷ digits_at_least 2 m; valid = tt; bytes_are = is.2; has = as_pair h m is.0 is.1 },
-  refl,
-)
-
-time_offset_shape : IsShapeOf IsTimeOffset time_offset
-time_offset_shape = retold (HasZoneOr IsPair) time_offset IsTimeOffset (zone_or IsPair offset_digits pair_shape) time_offset_of there here
-
--- no offset begins with what a fraction has
-pub offset-first : (x : ℕ) (xs : List ℕ) (z : TimeOffset) → IsIn 46 11 x → ¬ IsTimeOffset (x ∷ xs) z
-offset-first x xs Utc digit (inl e) = let first : x ≡ 90 = cc in omega (arith, digit.1, first)
-offset-first x xs Utc digit (inr e) = let first : x ≡ 122 = cc in omega (arith, digit.1, first)
-offset-first x xs (Signed false h m) digit is = let e = is.2 in let first : x ≡ 43 = cc in omega (arith, digit.0, first)
-offset-first x xs (Signed true h m) digit is = let e = is.2 in let first : x ≡ 45 = cc in omega (arith, digit.0, first)
+    here : (bytes : List ℕ) (z : TimeOffset) → IsTimeOffset bytes z → (v : Raw) × IsRaw bytes v × (into v ≡ z)
+    here bytes Utc (inl e) = (inl tt, ([], refl, e), refl)
+    here bytes Utc (inr e) = (inr (inl tt), ([], refl, e), refl)
+    here bytes (Signed is_west h m) is =
+        let minutes = digits_at_least 2 m in
+        let pair : IsThen (IsNumber 2) (IsLed 58 (IsNumber 2)) (digits_at_least 2 h ++ 58 ∷ minutes) (h, m) =
+        record { front = digits_at_least 2 h; back = 58 ∷ minutes; first = (is.0, refl); second = (minutes, (is.1, refl), refl); bytes_are = refl } in
+        (inr (inr (is_west, (h, m))), record { front = sign_byte is_west ∷ []; back = _; first = refl; second = pair; bytes_are = is.2 }, refl)
 
 -- ---- up to the seconds
-abbrev IsFour : ℕ → Type 0
-IsFour n = (n < 10000) × (n < 10 ^ 9)
+abbrev AreTwo : ℕ → List ℕ → ℕ × ℕ → Type 0
+AreTwo b bytes v = (v.0 < 100) × (v.1 < 100) × (bytes ≡ b ∷ (digits_at_least 2 v.0 ++ b ∷ digits_at_least 2 v.1))
 
-abbrev Two : Type 0
-Two = Unit {0} × (ℕ × (Unit {0} × ℕ))
-
-abbrev AreTwo : Two → Type 0
-AreTwo v = Unit {0} × (IsTwo v.1.0 × (Unit {0} × IsTwo v.1.1.1))
-
-abbrev two_text : ℕ → Two → List ℕ
-two_text b v = b ∷ [] ++ (digits_at_least 2 v.1.0 ++ (b ∷ [] ++ digits_at_least 2 v.1.1.1))
-
-two_part : (b : ℕ) → IsPart AreTwo (two_text b) (TwoNumbers b)
-two_part b = both _ _ _ _ _ _ (byte_part b) (both _ _ _ _ _ _ two_digits (both _ _ _ _ _ _ (byte_part b) two_digits))
-
-abbrev Front : Type 0
-Front = ℕ × (Two × (ℕ × (ℕ × Two)))
-
-abbrev IsFront : Front → Type 0
-IsFront v = IsFour v.0 × (AreTwo v.1.0 × (IsSeparator v.1.1.0 × (IsTwo v.1.1.1.0 × AreTwo v.1.1.1.1)))
-
-abbrev front_text : Front → List ℕ
-front_text v = digits_at_least 4 v.0 ++ (two_text 45 v.1.0 ++ (v.1.1.0 ∷ [] ++ (digits_at_least 2 v.1.1.1.0 ++ two_text 58 v.1.1.1.1)))
-
-front_part : IsPart IsFront front_text ToSeconds
-front_part =
-    both _ _ _ _ _ _ (number_part 4 (lit≤ tt) (lit≤ tt)) (both _ _ _ _ _ _ (two_part 45) (both _ _ _ _ _ _ separator_part (both _ _ _ _ _ _ two_digits (two_part 58))))
+two_numbers : (b : ℕ) → IsForm (TwoNumbers b) (AreTwo b) always
+two_numbers b =
+    retold (AreTwo b) (led b (both two (led b two))) (λ v. v)
+    (λ bytes v h.
+    let m = h.1 in (m.first.0, m.second.1.0, h.2 ∙ ap (λ r. b ∷ r) (put m.bytes_are m.first.1 (m.second.2 ∙ ap (λ r. b ∷ r) m.second.1.1))))
+    (λ bytes v h.
+    let m = digits_at_least 2 v.0 in
+    let n = digits_at_least 2 v.1 in
+    (v, (m ++ b ∷ n, record { front = m; back = b ∷ n; first = (h.0, refl); second = (n, (h.1, refl), refl); bytes_are = refl }, h.2), refl))
 
 -- The text of these parts, grouped like the form.
 joined : (ys ms ds hs ns ss rest : List ℕ) (s : ℕ)
-    → (ys ++ ((45 ∷ [] ++ (ms ++ (45 ∷ [] ++ ds))) ++ (s ∷ [] ++ (hs ++ (58 ∷ [] ++ (ns ++ (58 ∷ [] ++ ss))))))) ++ rest
+    → ys ++ ((45 ∷ (ms ++ 45 ∷ ds)) ++ (s ∷ [] ++ (hs ++ ((58 ∷ (ns ++ 58 ∷ ss)) ++ rest))))
     ≡ (ys ++ 45 ∷ [] ++ ms ++ 45 ∷ [] ++ ds) ++ s ∷ ((hs ++ 58 ∷ [] ++ ns ++ 58 ∷ [] ++ ss) ++ rest)
 joined ys ms ds hs ns ss rest s = simp append_assoc
 
@@ -153,75 +100,82 @@ pub record HasMomentUpTo (more : ℕ) (bytes : List ℕ) (m : Numbers) : Type 0 
   pub form : HasMomentForm bytes m
   pub short : length form.fraction ≤ more + 2
 
-abbrev Parts : Type 0
-Parts = Front × (ℕ × TimeOffset)
-
-abbrev IsWhole : ℕ → List ℕ → Parts → Type 0
-IsWhole more = HasAfter IsFront front_text (HasFraction more IsTimeOffset)
-
-numbers : Parts → Numbers
-numbers v =
-    record {
-      year = v.0.0;
-      month = v.0.1.0.1.0;
-      day = v.0.1.0.1.1.1;
-      hour = v.0.1.1.1.0;
-      minute = v.0.1.1.1.1.1.0;
-      second = v.0.1.1.1.1.1.1.1;
-      nanosecond = v.1.0;
-      offset = v.1.1;
-    }
-
-numbers-there : (more : ℕ) (bytes : List ℕ) (v : Parts) → IsWhole more bytes v → HasMomentUpTo more bytes (numbers v)
-unfolding numbers
-numbers-there more bytes v h = record {
-  form = record {
-    numbers = record {
-      year = h.valid.0.0;
-      month = h.valid.1.0.1.0.0;
-      day = h.valid.1.0.1.1.1.0;
-      hour = h.valid.1.1.1.0.0;
-      minute = h.valid.1.1.1.1.1.0.0;
-      second = h.valid.1.1.1.1.1.1.1.0;
-      nanosecond = fraction-below h.has.fraction v.1.0 h.has.is_fraction;
-    };
-    separator = v.0.1.1.0;
-    fraction = h.has.fraction;
-    offset = h.has.rest;
-    is_separator = h.valid.1.1.0;
-    is_fraction = h.has.is_fraction;
-    is_offset = h.has.has;
-    bytes_are = h.bytes_are ∙ ap (λ r. front_text v.0 ++ r) h.has.bytes_are
-        ∙ joined (digits_at_least 4 v.0.0) (digits_at_least 2 v.0.1.0.1.0) (digits_at_least 2 v.0.1.0.1.1.1) (digits_at_least 2 v.0.1.1.1.0)
-        (digits_at_least 2 v.0.1.1.1.1.1.0) (digits_at_least 2 v.0.1.1.1.1.1.1.1) (h.has.fraction ++ h.has.rest) v.0.1.1.0;
-  };
-  short = h.has.short;
-}
-
-two : (n : ℕ) → n < 100 → IsTwo n
-two n few = (few, omega arith)
-
-numbers-here : (more : ℕ) (bytes : List ℕ) (m : Numbers) → HasMomentUpTo more bytes m → (v : Parts) × IsWhole more bytes v × (numbers v ≡ m)
-unfolding numbers
-numbers-here more bytes m h =
-    let n = h.form.numbers in
-    let s = h.form.separator in (
-      ((m.year, ((tt, (m.month, (tt, m.day))), (s, (m.hour, (tt, (m.minute, (tt, m.second))))))), (m.nanosecond, m.offset)),
-      record {
-        rest = h.form.fraction ++ h.form.offset;
-        valid = ((n.year, omega (arith, n.year)), ((tt, (two m.month n.month, (tt, two m.day n.day))), (h.form.is_separator, (two m.hour n.hour, (tt, (two m.minute n.minute, (tt, two m.second n.second)))))));
-        bytes_are = h.form.bytes_are
-            ∙ sym (joined (digits_at_least 4 m.year) (digits_at_least 2 m.month) (digits_at_least 2 m.day) (digits_at_least 2 m.hour) (digits_at_least 2 m.minute)
-            (digits_at_least 2 m.second) (h.form.fraction ++ h.form.offset) s);
-        has = record { fraction = h.form.fraction; rest = h.form.offset; is_fraction = h.form.is_fraction; short = h.short; bytes_are = refl; has = h.form.is_offset };
-      },
-      refl,
-    )
-
 moment_up_to : (more : ℕ) → IsShapeOf (HasMomentUpTo more) (moment more)
 moment_up_to more =
-    retold (IsWhole more) (moment more) (HasMomentUpTo more) (after IsFront front_text ToSeconds (HasFraction more IsTimeOffset) _ front_part (fraction_then more IsTimeOffset time_offset time_offset_shape offset-first))
-    numbers (numbers-there more) (numbers-here more)
+    whole
+    (retold (HasMomentUpTo more) (both (number 4 (lit≤ tt) (lit≤ tt)) (both (two_numbers 45) (both separator (both two (both (two_numbers 58) (both (fraction more) time_offset_form))))))
+    (λ v. record { year = v.0; month = v.1.0.0; day = v.1.0.1; hour = v.1.1.1.0; minute = v.1.1.1.1.0.0; second = v.1.1.1.1.0.1; nanosecond = v.1.1.1.1.1.0; offset = v.1.1.1.1.1.1 })
+    (λ bytes v h.
+    let date = h.second in
+    let t = date.second in
+    let hour = t.second in
+    let clock = hour.second in
+    let rest = clock.second in
+    record {
+      form = record {
+        numbers = record {
+          year = h.first.0;
+          month = date.first.0;
+          day = date.first.1;
+          hour = hour.first.0;
+          minute = clock.first.0;
+          second = clock.first.1;
+          nanosecond = fraction-below rest.front v.1.1.1.1.1.0 rest.first.0;
+        };
+        separator = v.1.1.0;
+        fraction = rest.front;
+        offset = rest.back;
+        is_separator = t.first.0;
+        is_fraction = rest.first.0;
+        is_offset = rest.second;
+        bytes_are = put h.bytes_are h.first.1 (put date.bytes_are date.first.2 (put t.bytes_are t.first.1 (put hour.bytes_are hour.first.1 (put clock.bytes_are clock.first.2 rest.bytes_are))))
+            ∙ joined (digits_at_least 4 v.0) (digits_at_least 2 v.1.0.0) (digits_at_least 2 v.1.0.1) (digits_at_least 2 v.1.1.1.0) (digits_at_least 2 v.1.1.1.1.0.0)
+            (digits_at_least 2 v.1.1.1.1.0.1) (rest.front ++ rest.back) v.1.1.0;
+      };
+      short = rest.first.1;
+    })
+    (λ bytes m h.
+    let n = h.form.numbers in
+    let s = h.form.separator in
+    let rest = h.form.fraction ++ h.form.offset in
+    let clock = 58 ∷ (digits_at_least 2 m.minute ++ 58 ∷ digits_at_least 2 m.second) in
+    let date = 45 ∷ (digits_at_least 2 m.month ++ 45 ∷ digits_at_least 2 m.day) in (
+      (m.year, ((m.month, m.day), (s, (m.hour, ((m.minute, m.second), (m.nanosecond, m.offset)))))),
+      record {
+        front = digits_at_least 4 m.year;
+        back = date ++ (s ∷ [] ++ (digits_at_least 2 m.hour ++ (clock ++ rest)));
+        first = (n.year, refl);
+        second = record {
+          front = date;
+          back = s ∷ [] ++ (digits_at_least 2 m.hour ++ (clock ++ rest));
+          first = (n.month, n.day, refl);
+          second = record {
+            front = s ∷ [];
+            back = digits_at_least 2 m.hour ++ (clock ++ rest);
+            first = (h.form.is_separator, refl);
+            second = record {
+              front = digits_at_least 2 m.hour;
+              back = clock ++ rest;
+              first = (n.hour, refl);
+              second = record {
+                front = clock;
+                back = rest;
+                first = (n.minute, n.second, refl);
+                second = record { front = h.form.fraction; back = h.form.offset; first = (h.form.is_fraction, h.short); second = h.form.is_offset; bytes_are = refl };
+                bytes_are = refl;
+              };
+              bytes_are = refl;
+            };
+            bytes_are = refl;
+          };
+          bytes_are = refl;
+        };
+        bytes_are = h.form.bytes_are
+            ∙ sym (joined (digits_at_least 4 m.year) (digits_at_least 2 m.month) (digits_at_least 2 m.day) (digits_at_least 2 m.hour) (digits_at_least 2 m.minute) (digits_at_least 2 m.second) rest s);
+      },
+      refl,
+    )))
+    refl
 
 fits : (k : ℕ) (bytes : List ℕ) (m : Numbers) → length bytes ≤ k → HasMomentForm bytes m → HasMomentUpTo k bytes m
 fits k bytes m few h =

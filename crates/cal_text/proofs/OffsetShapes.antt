@@ -1,187 +1,113 @@
 -- The shapes of an offset from UTC, and what a scanner read of one.
-use Rattle.std.proofs.Common.{Bool, true, false, ◌≡◌, ℕ, ◌+◌, ◌≤◌, ◌⊎◌, inl, inr, List, [], ◌∷◌, ◌++◌, refl, sym, ap, ◌∙◌, arith, lit≤}
+use Rattle.std.proofs.Common.{Bool, true, false, ◌≡◌, ℕ, ◌⊎◌, inl, inr, ◌&&◌, List, [], ◌∷◌, ◌++◌, refl, sym, ap, ◌∙◌, lit≤}
 use Rattle.cal_time.specs.DateText.{digits_at_least}
 use Rattle.cal_text.specs.declared.offset.numbers.OffsetNumbers.{OffsetNumbers}
 use Rattle.cal_text.specs.OffsetForm.{utc, IsAfterMinutes, HasSignedForm, HasOffsetForm}
 use Rattle.cal_text.specs.Rfc3339Form.{sign_byte}
-use Rattle.cal_text.specs.Shape.{Shape, End, Branch, Byte, Digits, Sign, unmatched_bytes, after_minutes, offset, ParsesDigits}
-use Rattle.cal_text.proofs.DigitParts.{IsTwo, two_digits}
-use Rattle.cal_text.proofs.NumberShapes.{IsEnd, end_shape, not_end}
-use Rattle.cal_text.proofs.Parts.{IsPart, Splits, HasAfter, HasEither, byte_part, one_byte, last, after, either, retold, at_end}
+use Rattle.cal_text.specs.Shape.{Shape, Branch, Byte, Digits, Sign, offset, ParsesDigits}
+use Rattle.cal_text.proofs.DigitForms.{IsNumber, two}
+use Rattle.cal_text.proofs.Forms.{IsForm, IsNothing, IsLed, IsThen, IsEither, always, avoids, nothing, led, both, either, retold, whole, put}
+use Rattle.cal_text.proofs.Parts.{at_end}
 use Rattle.cal_text.proofs.Positions.{IsShapeOf}
 use Rattle.cal_text.proofs.ReadDigits.{printed}
-use Rattle.cal_text.proofs.Stops.{IsIn, in_or_out, unmatched_bytes-in, unmatched_bytes-out, unmatched_bytes-end, unmatched_bytes-branch_in, unmatched_bytes-branch_out, unmatched_bytes-branch_end}
 
 -- ---- a sign
-abbrev IsSign : Bool → Type 0
-IsSign b = Unit {0}
+abbrev IsSign : List ℕ → Bool → Type 0
+IsSign bytes b = bytes ≡ sign_byte b ∷ []
 
-abbrev sign_text : Bool → List ℕ
-sign_text b = sign_byte b ∷ []
-
-sign-each : (f : Shape) (b : Bool) (rest : List ℕ) → unmatched_bytes (Sign f) (sign_byte b ∷ rest) ≡ unmatched_bytes f rest
-sign-each f true rest = unmatched_bytes-branch_out 43 0 f (Byte 45 f) 45 rest (λ here. absurd (omega (arith, here.1))) ∙ unmatched_bytes-in 45 0 f 45 rest (lit≤ tt, lit≤ tt)
-sign-each f false rest = unmatched_bytes-branch_in 43 0 f (Byte 45 f) 43 rest (lit≤ tt, lit≤ tt)
-
-sign-only : (f : Shape) (bytes : List ℕ) → unmatched_bytes (Sign f) bytes ≡ 0 → Splits IsSign sign_text f bytes
-sign-only f [] e = absurd (omega (arith, e, unmatched_bytes-branch_end 43 0 f (Byte 45 f), unmatched_bytes-end 45 0 f))
-sign-only f (x ∷ xs) e =
-    elim (in_or_out 43 0 x) as (λ _. Splits IsSign sign_text f (x ∷ xs)) [
-      | inl plus ↦
-          let same : x ≡ 43 = omega (arith, plus.0, plus.1) in
-          record { value = false; rest = xs; valid = tt; bytes_are = ap (λ b. b ∷ xs) same; next = sym (unmatched_bytes-branch_in 43 0 f (Byte 45 f) x xs plus) ∙ e }
-      | inr out ↦ minus (sym (unmatched_bytes-branch_out 43 0 f (Byte 45 f) x xs out) ∙ e)
-    ]
+sign : IsForm Sign IsSign always
+sign = retold IsSign (either 43 0 (led 43 nothing) (led 45 nothing)) into there here
   where
-    minus : unmatched_bytes (Byte 45 f) (x ∷ xs) ≡ 0 → Splits IsSign sign_text f (x ∷ xs)
-    minus e =
-        elim (in_or_out 45 0 x) as (λ _. Splits IsSign sign_text f (x ∷ xs)) [
-          | inl is ↦
-              let same : x ≡ 45 = omega (arith, is.0, is.1) in
-              record { value = true; rest = xs; valid = tt; bytes_are = ap (λ b. b ∷ xs) same; next = sym (unmatched_bytes-in 45 0 f x xs is) ∙ e }
-          | inr out ↦ absurd (omega (arith, e, unmatched_bytes-out 45 0 f x xs out))
-        ]
+    into : Unit {0} ⊎ Unit {0} → Bool
+    into (inl u) = false
+    into (inr u) = true
 
-sign-one : (b c : Bool) (r s : List ℕ) → sign_byte b ∷ r ≡ sign_byte c ∷ s → (b ≡ c) × (r ≡ s)
-sign-one true true r s e = (refl, cc)
-sign-one false false r s e = (refl, cc)
-sign-one true false r s e = let first : ◌≡◌ {A = ℕ} 45 43 = cc in absurd (omega (arith, first))
-sign-one false true r s e = let first : ◌≡◌ {A = ℕ} 43 45 = cc in absurd (omega (arith, first))
+    there : (bytes : List ℕ) (v : Unit {0} ⊎ Unit {0}) → IsEither (IsLed 43 IsNothing) (IsLed 45 IsNothing) bytes v → IsSign bytes (into v)
+    there bytes (inl u) h = h.2 ∙ ap (λ r. 43 ∷ r) h.1
+    there bytes (inr u) h = h.2 ∙ ap (λ r. 45 ∷ r) h.1
 
-sign_part : IsPart IsSign sign_text Sign
-sign_part = record { each = λ f b rest h. sign-each f b rest; only = sign-only; one = λ b c r s _ _ e. sign-one b c r s e }
+    here : (bytes : List ℕ) (b : Bool) → IsSign bytes b → (v : Unit {0} ⊎ Unit {0}) × IsEither (IsLed 43 IsNothing) (IsLed 45 IsNothing) bytes v × (into v ≡ b)
+    here bytes false h = (inl tt, ([], refl, h), refl)
+    here bytes true h = (inr tt, ([], refl, h), refl)
 
 -- ---- Z or z, or a sign and numbers
-abbrev pub HasSign : {V : Type 0} → (List ℕ → V → Type 0) → List ℕ → Bool × V → Type 0
-HasSign Has = HasAfter IsSign sign_text Has
+abbrev pub Zoned : (Shape → Shape) → Shape → Shape
+Zoned part f = Branch 90 0 f (Branch 122 0 f (Sign (part f)))
 
-sign-range : (b : Bool) → (43 ≤ sign_byte b) × (sign_byte b ≤ 45)
-sign-range true = (lit≤ tt, lit≤ tt)
-sign-range false = (lit≤ tt, lit≤ tt)
+abbrev pub IsZoned : {V : Type 0} → (List ℕ → V → Type 0) → List ℕ → Unit {0} ⊎ Unit {0} ⊎ (Bool × V) → Type 0
+IsZoned Has = IsEither (IsLed 90 IsNothing) (IsEither (IsLed 122 IsNothing) (IsThen IsSign Has))
 
-pub sign-first : {V : Type 0} (Has : List ℕ → V → Type 0) (x : ℕ) (xs : List ℕ) (v : Bool × V) → HasSign Has (x ∷ xs) v → (43 ≤ x) × (x ≤ 45)
-sign-first Has x xs v h =
-    let e = h.bytes_are in
-    let first : x ≡ sign_byte v.0 = cc in
-    let range = sign-range v.0 in
-    (omega (arith, first, range.0), omega (arith, first, range.1))
-
-abbrev pub ZoneOr : Type 0 → Type 0
-ZoneOr V = (ℕ × Unit {0}) ⊎ ((ℕ × Unit {0}) ⊎ (Bool × V))
-
-abbrev pub HasZoneOr : {V : Type 0} → (List ℕ → V → Type 0) → List ℕ → ZoneOr V → Type 0
-HasZoneOr Has = HasEither 90 0 IsEnd (HasEither 122 0 IsEnd (HasSign Has))
-
-pub zone_or : {V : Type 0} (Has : List ℕ → V → Type 0) (f : Shape) → IsShapeOf Has f → IsShapeOf (HasZoneOr Has) (Branch 90 0 End (Branch 122 0 End (Sign f)))
-zone_or {V} Has f p =
-    either 90 0 IsEnd End _ _ end_shape
-    (either 122 0 IsEnd End _ _ end_shape (after IsSign sign_text Sign Has f sign_part p) (λ x xs v here h. omega (arith, here.0, (sign-first Has x xs v h).1)))
-    lower-first
-  where
-    lower-first : (x : ℕ) (xs : List ℕ) (v : (ℕ × Unit {0}) ⊎ (Bool × V)) → IsIn 90 0 x → ¬ HasEither 122 0 IsEnd (HasSign Has) (x ∷ xs) v
-    lower-first x xs (inl v) here h = let e = h.bytes_are in let first : x ≡ 122 + v.0 = cc in omega (arith, here.1, first)
-    lower-first x xs (inr v) here h = omega (arith, here.0, (sign-first Has x xs v h).1)
+pub zoned : {V : Type 0} {part : Shape → Shape} {Has : List ℕ → V → Type 0} {follows : Shape → Bool} → IsForm part Has follows → IsForm (Zoned part) (IsZoned Has) (λ f. (follows f && true) && true)
+zoned p = either 90 0 (led 90 nothing) (either 122 0 (led 122 nothing) (both sign p))
 
 -- ---- the numbers
-abbrev IsSeconds : List ℕ → (ℕ × ℕ) ⊎ Unit {0} → Type 0
-IsSeconds = HasEither 58 0 (λ bytes s. IsTwo s × (bytes ≡ digits_at_least 2 s)) IsEnd
+abbrev AfterMinutes : Shape → Shape
+AfterMinutes f = Branch 58 0 (Digits 2 f) f
 
-seconds_of : (ℕ × ℕ) ⊎ Unit {0} → ℕ
-seconds_of (inl v) = v.1
-seconds_of (inr u) = 0
+after_minutes : IsForm AfterMinutes IsAfterMinutes (avoids 58 0)
+after_minutes = retold IsAfterMinutes (either 58 0 (led 58 two) nothing) into there here
+  where
+    into : ℕ ⊎ Unit {0} → ℕ
+    into (inl s) = s
+    into (inr u) = 0
 
-seconds-there : (bytes : List ℕ) (v : (ℕ × ℕ) ⊎ Unit {0}) → IsSeconds bytes v → IsAfterMinutes bytes (seconds_of v)
-unfolding seconds_of
-seconds-there bytes (inl v) h = inr (h.has.0.0, one_byte 58 v.0 bytes h.rest h.valid h.bytes_are ∙ ap (λ r. 58 ∷ r) h.has.1)
-seconds-there bytes (inr u) h = inl (h, refl)
+    there : (bytes : List ℕ) (v : ℕ ⊎ Unit {0}) → IsEither (IsLed 58 (IsNumber 2)) IsNothing bytes v → IsAfterMinutes bytes (into v)
+    there bytes (inl s) h = inr (h.1.0, h.2 ∙ ap (λ r. 58 ∷ r) h.1.1)
+    there bytes (inr u) h = inl (h, refl)
 
-seconds-here : (bytes : List ℕ) (s : ℕ) → IsAfterMinutes bytes s → (v : (ℕ × ℕ) ⊎ Unit {0}) × IsSeconds bytes v × (seconds_of v ≡ s)
-unfolding seconds_of
-seconds-here bytes s (inl none) = (inr tt, none.0, sym none.1)
-seconds-here bytes s (inr is) =
-    (inl (0, s), record { rest = digits_at_least 2 s; valid = lit≤ tt; bytes_are = is.1; has = ((is.0, omega (arith, is.0)), refl) }, refl)
+    here : (bytes : List ℕ) (s : ℕ) → IsAfterMinutes bytes s → (v : ℕ ⊎ Unit {0}) × IsEither (IsLed 58 (IsNumber 2)) IsNothing bytes v × (into v ≡ s)
+    here bytes s (inl none) = (inr tt, none.0, sym none.1)
+    here bytes s (inr is) = (inl s, (digits_at_least 2 s, (is.0, refl), is.1), refl)
 
-after_minutes_shape : IsShapeOf IsAfterMinutes after_minutes
-after_minutes_shape =
-    retold IsSeconds after_minutes IsAfterMinutes
-    (either 58 0 _ (Digits 2 End) IsEnd End (last IsTwo (digits_at_least 2) (Digits 2) two_digits) end_shape (λ x xs u here. not_end x xs u))
-    seconds_of seconds-there seconds-here
+abbrev Numbers : Type 0
+Numbers = ℕ × (ℕ × ℕ)
 
-abbrev Raw : Type 0
-Raw = ℕ × (Unit {0} × (ℕ × ℕ))
+abbrev HasNumbers : List ℕ → Numbers → Type 0
+HasNumbers = IsThen (IsNumber 2) (IsLed 58 (IsThen (IsNumber 2) IsAfterMinutes))
 
-abbrev HasRaw : List ℕ → Raw → Type 0
-HasRaw = HasAfter IsTwo (digits_at_least 2) (HasAfter (λ (u : Unit {0}). Unit {0}) (λ u. 58 ∷ []) (HasAfter IsTwo (digits_at_least 2) IsAfterMinutes))
+pub offset_form : IsForm (Zoned (λ f. Digits 2 (Byte 58 (Digits 2 (AfterMinutes f))))) HasOffsetForm (λ f. (avoids 58 0 f && true) && true)
+offset_form = retold HasOffsetForm (zoned (both two (led 58 (both two after_minutes)))) into there here
+  where
+    Raw : Type 0
+    Raw = Unit {0} ⊎ Unit {0} ⊎ (Bool × Numbers)
 
-numbers : ZoneOr Raw → OffsetNumbers
-numbers (inl v) = utc
-numbers (inr (inl v)) = utc
-numbers (inr (inr v)) = record { is_negative = v.0; hours = v.1.0; minutes = v.1.1.1.0; seconds = v.1.1.1.1 }
+    into : Raw → OffsetNumbers
+    into (inl u) = utc
+    into (inr (inl u)) = utc
+    into (inr (inr v)) = record { is_negative = v.0; hours = v.1.0; minutes = v.1.1.0; seconds = v.1.1.1 }
 
-there : (bytes : List ℕ) (v : ZoneOr Raw) → HasZoneOr HasRaw bytes v → HasOffsetForm bytes (numbers v)
-unfolding numbers
-there bytes (inl v) h = inl (refl, inl (one_byte 90 v.0 bytes h.rest h.valid h.bytes_are ∙ ap (λ r. 90 ∷ r) h.has))
-there bytes (inr (inl v)) h = inl (refl, inr (one_byte 122 v.0 bytes h.rest h.valid h.bytes_are ∙ ap (λ r. 122 ∷ r) h.has))
-there bytes (inr (inr v)) h =
-    let two = h.has.has.has in
-    inr (record {
-      hours = h.has.valid.0;
-      minutes = two.valid.0;
-      rest = two.rest;
-      is_rest = two.has;
-      bytes_are = h.bytes_are
-          ∙ ap (λ r. sign_byte v.0 ∷ r) (h.has.bytes_are ∙ ap (λ r. digits_at_least 2 v.1.0 ++ r) (h.has.has.bytes_are ∙ ap (λ r. 58 ∷ r) two.bytes_are));
-    })
+    there : (bytes : List ℕ) (v : Raw) → IsZoned HasNumbers bytes v → HasOffsetForm bytes (into v)
+    there bytes (inl u) h = inl (refl, inl (h.2 ∙ ap (λ r. 90 ∷ r) h.1))
+    there bytes (inr (inl u)) h = inl (refl, inr (h.2 ∙ ap (λ r. 122 ∷ r) h.1))
+    there bytes (inr (inr v)) h =
+        let hours = h.second in
+        let minutes = hours.second.1 in
+        inr (record {
+          hours = hours.first.0;
+          minutes = minutes.first.0;
+          rest = minutes.back;
+          is_rest = minutes.second;
+          bytes_are = put h.bytes_are h.first (put hours.bytes_are hours.first.1 (hours.second.2 ∙ ap (λ r. 58 ∷ r) (put minutes.bytes_are minutes.first.1 refl)));
+        })
 
-abbrev Found : List ℕ → OffsetNumbers → Type 0
-Found bytes o = (v : ZoneOr Raw) × HasZoneOr HasRaw bytes v × (numbers v ≡ o)
+    Found : List ℕ → OffsetNumbers → Type 0
+    Found bytes o = (v : Raw) × IsZoned HasNumbers bytes v × (into v ≡ o)
 
-here : (bytes : List ℕ) (o : OffsetNumbers) → HasOffsetForm bytes o → Found bytes o
-unfolding numbers
-here bytes o (inl zone) = elim zone.1 as (λ _. Found bytes o) [
-  | inl upper ↦ (inl (0, tt), record { rest = []; valid = lit≤ tt; bytes_are = upper; has = refl }, sym zone.0)
-  | inr lower ↦ (inr (inl (0, tt)), record { rest = []; valid = lit≤ tt; bytes_are = lower; has = refl }, sym zone.0)
-]
-here bytes o (inr h) =
-    let rest = digits_at_least 2 o.minutes ++ h.rest in (
-      inr (inr (o.is_negative, (o.hours, (tt, (o.minutes, o.seconds))))),
-      record {
-        rest = digits_at_least 2 o.hours ++ 58 ∷ rest;
-        valid = tt;
-        bytes_are = h.bytes_are;
-        has = record {
-          rest = 58 ∷ rest;
-          valid = (h.hours, omega (arith, h.hours));
+    here : (bytes : List ℕ) (o : OffsetNumbers) → HasOffsetForm bytes o → Found bytes o
+    here bytes o (inl zone) = elim zone.1 as (λ _. Found bytes o) [ inl upper ↦ (inl tt, ([], refl, upper), sym zone.0) | inr lower ↦ (inr (inl tt), ([], refl, lower), sym zone.0) ]
+    here bytes o (inr h) =
+        let two = digits_at_least 2 o.minutes in
+        let numbers : HasNumbers (digits_at_least 2 o.hours ++ 58 ∷ (two ++ h.rest)) (o.hours, (o.minutes, o.seconds)) = record {
+          front = digits_at_least 2 o.hours;
+          back = 58 ∷ (two ++ h.rest);
+          first = (h.hours, refl);
+          second = (two ++ h.rest, record { front = two; back = h.rest; first = (h.minutes, refl); second = h.is_rest; bytes_are = refl }, refl);
           bytes_are = refl;
-          has = record {
-            rest = rest;
-            valid = tt;
-            bytes_are = refl;
-            has = record { rest = h.rest; valid = (h.minutes, omega (arith, h.minutes)); bytes_are = refl; has = h.is_rest };
-          };
-        };
-      },
-      refl,
-    )
+        } in
+        (inr (inr (o.is_negative, (o.hours, (o.minutes, o.seconds)))), record { front = sign_byte o.is_negative ∷ []; back = _; first = refl; second = numbers; bytes_are = h.bytes_are }, refl)
 
 pub offset_shape : IsShapeOf HasOffsetForm offset
-offset_shape =
-    retold (HasZoneOr HasRaw) offset HasOffsetForm
-    (zone_or HasRaw _
-    (after IsTwo (digits_at_least 2) (Digits 2) _ _ two_digits
-    (after (λ (u : Unit {0}). Unit {0}) (λ u. 58 ∷ []) (Byte 58) _ _ (byte_part 58) (after IsTwo (digits_at_least 2) (Digits 2) IsAfterMinutes _ two_digits after_minutes_shape))))
-    numbers there here
-
-pub offset-first : (x : ℕ) (xs : List ℕ) (o : OffsetNumbers) → HasOffsetForm (x ∷ xs) o → (43 ≤ x) × ((x ≤ 45) ⊎ (59 ≤ x))
-offset-first x xs o (inl zone) = elim zone.1 as (λ _. (43 ≤ x) × ((x ≤ 45) ⊎ (59 ≤ x))) [
-  | inl upper ↦ let first : x ≡ 90 = cc in (omega (arith, first), inr (omega (arith, first)))
-  | inr lower ↦ let first : x ≡ 122 = cc in (omega (arith, first), inr (omega (arith, first)))
-]
-offset-first x xs o (inr h) =
-    let e = h.bytes_are in
-    let first : x ≡ sign_byte o.is_negative = cc in
-    let range = sign-range o.is_negative in
-    (omega (arith, first, range.0), inl (omega (arith, first, range.1)))
+offset_shape = whole offset_form refl
 
 -- ---- what a scanner read
 pub put_seconds : (s : ℕ) (old mid new : List ℕ) → old ≡ 58 ∷ mid → ParsesDigits mid new 2 s → new ≡ [] → IsAfterMinutes old s

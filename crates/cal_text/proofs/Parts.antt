@@ -1,4 +1,4 @@
--- Parts of a text, and whole texts, that a shape describes: how they are put together.
+-- Parts of a text whose values have one text each, and whole texts: how they are put together.
 use Rattle.std.proofs.Common.{◌≡◌, ℕ, ◌+◌, ◌-◌, ◌≤◌, ◌⊎◌, inl, inr, List, [], ◌∷◌, ◌++◌, refl, sym, ap, subst, ◌∙◌, arith, lit≤}
 use Rattle.std.proofs.lemmas.List.{append_assoc, append-nil}
 use Rattle.cal_text.specs.Shape.{GoesPast, Shape, End, ByteRange, Branch, unmatched_bytes, Byte}
@@ -109,16 +109,7 @@ pub byte_part : (b : ℕ) → IsPart {V = Unit {0}} (λ _. Unit {0}) (λ _. b �
 byte_part b = renamed (λ d. d ≤ 0) (λ d. (b + d) ∷ []) (ByteRange b 0) (λ _. Unit {0}) (λ _. b ∷ []) (from_part b 0) (λ (d : ℕ). tt)
     (λ d h. (tt, plus_none b d h)) (λ (u : Unit {0}) h. record { value = 0; valid = lit≤ tt; text_is = sym (plus_none b 0 (lit≤ tt)); same = refl })
 
--- A branch: a byte of the range and the first part, or the second part, which doesn't begin with
--- such a byte.
-abbrev pub IsOther : {V W : Type 0} → ℕ → (V → Type 0) → (W → Type 0) → (ℕ × V) ⊎ W → Type 0
-IsOther above Valid Valid' (inl v) = (v.0 ≤ above) × Valid v.1
-IsOther above Valid Valid' (inr w) = Valid' w
-
-abbrev pub text_other : {V W : Type 0} → ℕ → (V → List ℕ) → (W → List ℕ) → (ℕ × V) ⊎ W → List ℕ
-text_other low text text' (inl v) = (low + v.0) ∷ text v.1
-text_other low text text' (inr w) = text' w
-
+-- ---- a branch
 abbrev pub BeginsOutside : ℕ → ℕ → List ℕ → Type 0
 BeginsOutside low above bytes = (x : ℕ) (xs : List ℕ) → bytes ≡ x ∷ xs → ¬ IsIn low above x
 
@@ -126,59 +117,25 @@ pub unmatched_bytes-outside : (low above : ℕ) (f g : Shape) (bytes : List ℕ)
 unmatched_bytes-outside low above f g [] out = unmatched_bytes-branch_end low above f g
 unmatched_bytes-outside low above f g (x ∷ xs) out = unmatched_bytes-branch_out low above f g x xs (out x xs refl)
 
-pub other : {V W : Type 0} (low above : ℕ) (Valid : V → Type 0) (text : V → List ℕ) (part : Shape → Shape)
-    (Valid' : W → Type 0) (text' : W → List ℕ) (part' : Shape → Shape) → IsPart Valid text part → IsPart Valid' text' part'
-    → ((w : W) (rest : List ℕ) → Valid' w → BeginsOutside low above (text' w ++ rest))
-    → IsPart (IsOther above Valid Valid') (text_other low text text') (λ f. Branch low above (part f) (part' f))
-other {V} {W} low above Valid text part Valid' text' part' p q apart = record { each = each; only = only; one = one }
-  where
-    Value : Type 0
-    Value = (ℕ × V) ⊎ W
+pub taken : (low above : ℕ) (f g : Shape) (bytes : List ℕ) → unmatched_bytes (ByteRange low above f) bytes ≡ 0 → unmatched_bytes (Branch low above f g) bytes ≡ 0
+taken low above f g [] e = absurd (omega (arith, e, unmatched_bytes-end low above f))
+taken low above f g (x ∷ xs) e =
+    elim (in_or_out low above x) as (λ _. unmatched_bytes (Branch low above f g) (x ∷ xs) ≡ 0) [
+      | inl here ↦ unmatched_bytes-branch_in low above f g x xs here ∙ sym (unmatched_bytes-in low above f x xs here) ∙ e
+      | inr out ↦ absurd (omega (arith, e, unmatched_bytes-out low above f x xs out))
+    ]
 
-    each : (f : Shape) (v : Value) (rest : List ℕ) → IsOther above Valid Valid' v
-        → unmatched_bytes (Branch low above (part f) (part' f)) (text_other low text text' v ++ rest) ≡ unmatched_bytes f rest
-    each f (inl v) rest h =
-        unmatched_bytes-branch_in low above (part f) (part' f) (low + v.0) (text v.1 ++ rest) (omega arith, omega (arith, h.0)) ∙ p.each f v.1 rest h.1
-    each f (inr w) rest h = unmatched_bytes-outside low above (part f) (part' f) (text' w ++ rest) (apart w rest h) ∙ q.each f w rest h
+pub chosen : (low above : ℕ) (f g : Shape) (bytes : List ℕ) → unmatched_bytes (Branch low above f g) bytes ≡ 0 → (unmatched_bytes (ByteRange low above f) bytes ≡ 0) ⊎ (unmatched_bytes g bytes ≡ 0)
+chosen low above f g [] e = inr (sym (unmatched_bytes-branch_end low above f g) ∙ e)
+chosen low above f g (x ∷ xs) e =
+    elim (in_or_out low above x) as (λ _. (unmatched_bytes (ByteRange low above f) (x ∷ xs) ≡ 0) ⊎ (unmatched_bytes g (x ∷ xs) ≡ 0)) [
+      | inl here ↦ inl (unmatched_bytes-in low above f x xs here ∙ sym (unmatched_bytes-branch_in low above f g x xs here) ∙ e)
+      | inr out ↦ inr (sym (unmatched_bytes-branch_out low above f g x xs out) ∙ e)
+    ]
 
-    Found : Shape → List ℕ → Type 0
-    Found f bytes = Splits (IsOther above Valid Valid') (text_other low text text') f bytes
-
-    right : (f : Shape) (bytes : List ℕ) → unmatched_bytes (part' f) bytes ≡ 0 → Found f bytes
-    right f bytes e =
-        let a = q.only f bytes e in record { value = inr a.value; rest = a.rest; valid = a.valid; bytes_are = a.bytes_are; next = a.next }
-
-    only : (f : Shape) (bytes : List ℕ) → unmatched_bytes (Branch low above (part f) (part' f)) bytes ≡ 0 → Found f bytes
-    only f [] e = right f [] (sym (unmatched_bytes-branch_end low above (part f) (part' f)) ∙ e)
-    only f (x ∷ xs) e =
-        elim (in_or_out low above x) as (λ _. Found f (x ∷ xs)) [
-          | inl here ↦
-              let a = p.only f xs (sym (unmatched_bytes-branch_in low above (part f) (part' f) x xs here) ∙ e) in
-              let same : x ≡ low + (x - low) = omega arith in
-              record {
-                value = inl (x - low, a.value);
-                rest = a.rest;
-                valid = (omega arith, a.valid);
-                bytes_are = ap (λ b. b ∷ xs) same ∙ ap (λ ds. (low + (x - low)) ∷ ds) a.bytes_are;
-                next = a.next;
-              }
-          | inr out ↦ right f (x ∷ xs) (sym (unmatched_bytes-branch_out low above (part f) (part' f) x xs out) ∙ e)
-        ]
-
-    never : (v : ℕ × V) (w : W) (r s : List ℕ) → v.0 ≤ above → Valid' w → (low + v.0) ∷ (text v.1 ++ r) ≡ text' w ++ s → ⊥
-    never v w r s few h e = apart w s h (low + v.0) (text v.1 ++ r) (sym e) (omega arith, omega arith)
-
-    one : (v w : Value) (r s : List ℕ) → IsOther above Valid Valid' v → IsOther above Valid Valid' w
-        → text_other low text text' v ++ r ≡ text_other low text text' w ++ s → (v ≡ w) × (r ≡ s)
-    one (inl v) (inl w) r s a b e =
-        let first : low + v.0 ≡ low + w.0 = cc in
-        let number : v.0 ≡ w.0 = omega arith in
-        let more : text v.1 ++ r ≡ text w.1 ++ s = cc in
-        let found = p.one v.1 w.1 r s a.1 b.1 more in
-        (ap inl (same_pair ℕ V v w number found.0), found.1)
-    one (inl v) (inr w) r s a b e = absurd (never v w r s a.0 b e)
-    one (inr v) (inl w) r s a b e = absurd (never w v s r b.0 a (sym e))
-    one (inr v) (inr w) r s a b e = let found = q.one v w r s a b e in (ap inr found.0, found.1)
+pub clashing : (low above : ℕ) (f : Shape) (bytes : List ℕ) → BeginsOutside low above bytes → unmatched_bytes (ByteRange low above f) bytes ≡ 0 → ⊥
+clashing low above f [] out e = absurd (omega (arith, e, unmatched_bytes-end low above f))
+clashing low above f (x ∷ xs) out e = absurd (omega (arith, e, unmatched_bytes-out low above f x xs (out x xs refl)))
 
 -- ---- a whole text
 -- a part at the end
@@ -219,14 +176,6 @@ after {V} {W} Valid text part Has f p q = record {
       same_pair V W v w front.0 (q.one b.rest v.1 w.1 (subst (λ rest. Has rest v.1) front.1 a.has) b.has);
 }
 
--- a form, and then the rest of a text
-pub record HasThen {V W : Type 0} (Has : List ℕ → V → Type 0) (Others : List ℕ → W → Type 0) (bytes : List ℕ) (v : V × W) : Type 0 where
-  pub front : List ℕ
-  pub rest : List ℕ
-  pub first : Has front v.0
-  pub bytes_are : bytes ≡ front ++ rest
-  pub others : Others rest v.1
-
 -- what a scanner went past, before the end
 pub put_whole : {V : Type 0} (Has : List ℕ → V → Type 0) (v : V) (old new : List ℕ) → GoesPast (λ bytes. Has bytes v) old new → new ≡ [] → Has old v
 put_whole Has v old new h end = subst (λ all. Has all v) (sym (at_end old h.front new h.bytes_are end)) h.is
@@ -248,27 +197,21 @@ either {V} {W} low above Has f Has' g p q apart = record { each = each; only = o
     first : IsShapeOf (HasAfter (λ d. d ≤ above) (λ d. (low + d) ∷ []) Has) (ByteRange low above f)
     first = after _ _ (ByteRange low above) Has f (from_part low above) p
 
+    outside : (bytes : List ℕ) (w : W) → Has' bytes w → BeginsOutside low above bytes
+    outside bytes w h x xs e here = apart x xs w here (subst (λ all. Has' all w) e h)
+
     each : (bytes : List ℕ) → HasSome Both bytes → unmatched_bytes (Branch low above f g) bytes ≡ 0
-    each bytes (inl v, h) =
-        let here : IsIn low above (low + v.0) = (omega arith, omega (arith, h.valid)) in
-        ap (unmatched_bytes (Branch low above f g)) h.bytes_are ∙ unmatched_bytes-branch_in low above f g (low + v.0) h.rest here ∙ p.each h.rest (v.1, h.has)
-    each [] (inr w, h) = unmatched_bytes-branch_end low above f g ∙ q.each [] (w, h)
-    each (x ∷ xs) (inr w, h) = unmatched_bytes-branch_out low above f g x xs (λ here. apart x xs w here h) ∙ q.each (x ∷ xs) (w, h)
+    each bytes (inl v, h) = taken low above f g bytes (first.each bytes (v, h))
+    each bytes (inr w, h) = unmatched_bytes-outside low above f g bytes (outside bytes w h) ∙ q.each bytes (w, h)
 
     only : (bytes : List ℕ) → unmatched_bytes (Branch low above f g) bytes ≡ 0 → HasSome Both bytes
-    only [] e = let found = q.only [] (sym (unmatched_bytes-branch_end low above f g) ∙ e) in (inr found.0, found.1)
-    only (x ∷ xs) e =
-        elim (in_or_out low above x) as (λ _. HasSome Both (x ∷ xs)) [
-          | inl here ↦
-              let found = p.only xs (sym (unmatched_bytes-branch_in low above f g x xs here) ∙ e) in
-              let same : x ≡ low + (x - low) = omega arith in
-              (inl (x - low, found.0), record { rest = xs; valid = omega arith; bytes_are = ap (λ b. b ∷ xs) same; has = found.1 })
-          | inr out ↦ let found = q.only (x ∷ xs) (sym (unmatched_bytes-branch_out low above f g x xs out) ∙ e) in (inr found.0, found.1)
-        ]
+    only bytes e = elim (chosen low above f g bytes e) as (λ _. HasSome Both bytes) [
+      | inl here ↦ let found = first.only bytes here in (inl found.0, found.1)
+      | inr there ↦ let found = q.only bytes there in (inr found.0, found.1)
+    ]
 
     never : (bytes : List ℕ) (v : ℕ × V) (w : W) → Both bytes (inl v) → Both bytes (inr w) → ⊥
-    never bytes v w a b =
-        apart (low + v.0) a.rest w (omega arith, omega (arith, a.valid)) (subst (λ all. Has' all w) a.bytes_are b)
+    never bytes v w a b = clashing low above f bytes (outside bytes w b) (first.each bytes (v, a))
 
     one : (bytes : List ℕ) (v w : (ℕ × V) ⊎ W) → Both bytes v → Both bytes w → v ≡ w
     one bytes (inl v) (inl w) a b = ap inl (first.one bytes v w a b)

@@ -1,13 +1,16 @@
 -- A Unix time in text has one moment at UTC, or none.
-use Rattle.std.proofs.Common.{◌≡◌, ℕ, ◌<◌, ◌^◌, ℤ, pos, negsuc, ◌+ℤ◌, ◌*ℤ◌, unsigned_abs, FitsSigned, to_z, of_z, Result, Ok, List, refl, sym, subst, ap, ◌∙◌, arith, inl, inr}
+use Rattle.std.proofs.Common.{◌≡◌, ℕ, ◌<◌, ◌^◌, ℤ, pos, negsuc, ◌+ℤ◌, ◌*ℤ◌, unsigned_abs, FitsSigned, to_z, of_z, ◌↔◌, Result, Ok, Err, IfOk, IfErr, List, refl, sym, subst, ap, ◌∙◌, arith, inl, inr}
 use Rattle.std.proofs.lemmas.Bool.{cases_lt}
 use Rattle.std.specs.Int.{w128}
 use Rattle.std.proofs.lemmas.Int.{ints, to_z-of_z}
 use Rattle.cal_time.specs.SignedDuration.{second}
 use Rattle.cal_datetime.specs.DateTime.{IsDateTime, last_date_time}
 use Rattle.cal_datetime.specs.OffsetDateTime.{LocalAndOffset, instant, unix_epoch, unix_nanoseconds}
-use Rattle.cal_text.specs.UnixText.{HasUnixForm, IsUnixText}
-use Rattle.cal_text.proofs.Faults.{IsOnly}
+use Rattle.cal_time.specs.ComponentError.{FailsWith}
+use Rattle.cal_time.specs.declared.error.ComponentRange.{ComponentRange}
+use Rattle.cal_text.specs.UnixText.{HasUnixForm, IsUnixText, IsUnixTimeError, timestamp_out_of_range}
+use Rattle.cal_text.proofs.Errors.{all, last}
+use Rattle.cal_text.proofs.Parsed.{IsMade}
 use Rattle.cal_text.proofs.Results.{one}
 
 -- the moment at UTC of a Unix time
@@ -33,17 +36,25 @@ in_range (pos n) h = elim (cases_lt last_date_time n) as (λ _. IsDateTime (pos 
 ]
 in_range (negsuc n) h = absurd (h (λ k. omega (arith, ints, k.not_before)))
 
--- the moment of the number has the text, and no other
-pub text_of : {E : Type 0} (text : List ℕ) (v : ℤ) (m : LocalAndOffset) → HasUnixForm text v → IsDateTime (unix_epoch +ℤ v) → ◌≡◌ {A = Result LocalAndOffset E} (Ok m) (Ok (at_utc v)) → IsUnixText text m
-text_of text v m form range e =
-    subst (IsUnixText text) (sym (one m (at_utc v) e)) (record { in_range = range; at_utc = refl; form = subst (HasUnixForm text) (sym (says v)) form })
+-- the moment of a number
+abbrev pub IsUnixOf : ℤ → LocalAndOffset → Type 0
+IsUnixOf v m = IsDateTime (unix_epoch +ℤ v) × (at_utc v ≡ m)
 
-pub range_of : (text : List ℕ) (v : ℤ) (m : LocalAndOffset) → IsOnly HasUnixForm text v → IsUnixText text m → IsDateTime (unix_epoch +ℤ v)
-range_of text v m every is =
-    subst IsDateTime (local-is m is.at_utc ∙ ap (λ u. unix_epoch +ℤ u) (sym (one v _ (every _ is.form)))) is.in_range
+pub text_of : (text : List ℕ) (v : ℤ) (m : LocalAndOffset) → HasUnixForm text v → IsUnixOf v m → IsUnixText text m
+text_of text v m form is = subst (IsUnixText text) is.1 (record { in_range = is.0; at_utc = refl; form = subst (HasUnixForm text) (sym (says v)) form })
 
-pub moment_of : (text : List ℕ) (v : ℤ) (m : LocalAndOffset) → IsOnly HasUnixForm text v → IsUnixText text m → at_utc v ≡ m
-moment_of text v m every is = ap at_utc (one v _ (every _ is.form)) ∙ sym (is-at_utc m is.at_utc)
+pub form_of : (text : List ℕ) (m : LocalAndOffset) → IsUnixText text m → (v : ℤ) × HasUnixForm text v × IsUnixOf v m
+form_of text m is = (unix_nanoseconds (instant m), is.form, (subst IsDateTime (local-is m is.at_utc) is.in_range, sym (is-at_utc m is.at_utc)))
+
+pub unix_made : (v k : ℤ) (r : Result LocalAndOffset ComponentRange) → k ≡ v → (IsDateTime (unix_epoch +ℤ k) → r ≡ Ok (at_utc k))
+    → FailsWith timestamp_out_of_range r ↔ ¬ IsDateTime (unix_epoch +ℤ k) → IfErr r (λ e. e ≡ timestamp_out_of_range) → IsMade IsUnixOf IsUnixTimeError v r
+unix_made v k r same value fails kind =
+    subst (λ u. IsMade IsUnixOf IsUnixTimeError u r) same (record { every = λ m is. value is.0 ∙ ap Ok is.1; value = found r value fails; error = all r (last r timestamp_out_of_range _ fails) kind })
+  where
+    found : (s : Result LocalAndOffset ComponentRange) → (IsDateTime (unix_epoch +ℤ k) → s ≡ Ok (at_utc k)) → FailsWith timestamp_out_of_range s ↔ ¬ IsDateTime (unix_epoch +ℤ k)
+        → IfOk s (IsUnixOf k)
+    found (Ok m) made error = let range = in_range (unix_epoch +ℤ k) (λ none. error.1 none) in (range, sym (one m (at_utc k) (made range)))
+    found (Err e) made error = tt
 
 -- what a text says fits into 128 bits
 fits : (v : ℤ) → unsigned_abs v < 10 ^ 28 → FitsSigned w128 v

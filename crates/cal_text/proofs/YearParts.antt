@@ -1,55 +1,109 @@
--- The shape of a year.
-use Rattle.std.proofs.Common.{◌≡◌, ◌≢◌, ℕ, zero, suc, ◌+◌, ◌-◌, ◌<◌, ◌≤◌, ◌^◌, ◌⊎◌, inl, inr, ℤ, pos, negsuc, List, [], ◌∷◌, ◌++◌, length, get_or, refl, sym, ap, subst, ◌∙◌, arith, lit<, lit≤}
+-- The form of a year and the hyphen after it.
+use Rattle.std.proofs.Common.{◌≡◌, ◌≢◌, ℕ, zero, suc, ◌+◌, ◌<◌, ◌≤◌, ◌^◌, ◌⊎◌, inl, inr, ℤ, pos, negsuc, List, [], ◌∷◌, ◌++◌, length, get_or, refl, sym, ap, subst, ◌∙◌, arith, lit<, lit≤}
 use Rattle.std.specs.Str.Parse.{AllDigits, digits_value}
 use Rattle.std.proofs.lemmas.Bool.{cases_lt}
 use Rattle.std.proofs.lemmas.Int.Digits.{digits_value-lt}
+use Rattle.std.proofs.lemmas.Str.Parse.{digit_at}
 use Rattle.cal_time.specs.DateText.{digits_at_least}
 use Rattle.cal_time.proofs.DistinctTexts.{digits_at_least-digits, digits_at_least-value, year-minus, year-plain, year-plus}
 use Rattle.cal_text.specs.DateForms.{year_text, IsPrintableYear}
-use Rattle.cal_text.specs.Shape.{YearAfterPlus, YearAfterMinus, Unsigned, Year, DigitsAtLeast, Byte, SomeDigits}
+use Rattle.cal_text.specs.Shape.{ByteRange, Byte, DigitsAtLeast, YearAfterPlus, YearAfterMinus, ZeroAndThree, Year}
+use Rattle.cal_text.proofs.DigitForms.{run, IsSome, AreSome, some_digits}
+use Rattle.cal_text.proofs.DigitParts.{IsCount, is_digit, digit_is}
 use Rattle.cal_text.proofs.DigitTexts.{digits_at_least-magnitude, digits_at_least-length}
-use Rattle.cal_text.proofs.DigitParts.{IsCount, IsSome, hyphened, count_part, some_part, is_digit, digit_is}
-use Rattle.cal_text.proofs.Parts.{IsPart, Told, BeginsOutside, IsOther, text_other, from_part, byte_part, both, renamed, other}
+use Rattle.cal_text.proofs.Forms.{IsForm, IsNothing, IsByteFrom, IsLed, IsThen, IsEither, always, nothing, byte_from, led, both, either, retold, put}
 use Rattle.cal_text.proofs.Stops.{in_or_out}
 use Rattle.cal_text.proofs.YearDigits.{IsSpelled, spelled-below, spelled-printed, spelled-large, spelled-some, four-spelled}
 
+-- ---- digits of this kind and a hyphen
+abbrev AreDigits : (List ℕ → Type 0) → List ℕ → List ℕ → Type 0
+AreDigits Are bytes ds = Are ds × (bytes ≡ ds ++ 45 ∷ [])
+
+hyphened : (k more : ℕ) → IsForm (DigitsAtLeast k more) (AreDigits (IsCount k more)) always
+hyphened k more =
+    retold (AreDigits (IsCount k more)) (both (run k more (λ ds. ds)) (led 45 nothing)) (λ v. v.0)
+    (λ bytes v h. (subst (IsCount k more) (sym h.first.1) h.first.0, put h.bytes_are (sym h.first.1) (h.second.2 ∙ ap (λ r. 45 ∷ r) h.second.1)))
+    (λ bytes ds h. ((ds, tt), record { front = ds; back = 45 ∷ []; first = (h.0, refl); second = ([], refl, refl); bytes_are = h.1 }, refl))
+
+-- the first digit is not 0
+abbrev IsFirst : ℕ → ℕ → List ℕ → Type 0
+IsFirst k more ds = IsCount (suc k) more ds × (49 ≤ get_or ds 0 0)
+
+from_1 : (k more : ℕ) → IsForm (λ f. ByteRange 49 8 (DigitsAtLeast k more f)) (AreDigits (IsFirst k more)) always
+from_1 k more =
+    retold (AreDigits (IsFirst k more)) (both (byte_from 49 8) (hyphened k more)) (λ v. v.0 ∷ v.1)
+    (λ bytes v h. (
+      (((digit_is v.0 (omega (arith, h.first.0.0), omega (arith, h.first.0.1)), h.second.0.0), omega (arith, h.second.0.1), omega (arith, h.second.0.2)), h.first.0.0),
+      put h.bytes_are h.first.1 h.second.1,
+    ))
+    here
+  where
+    here : (bytes ds : List ℕ) → AreDigits (IsFirst k more) bytes ds → (v : ℕ × List ℕ) × IsThen (IsByteFrom 49 8) (AreDigits (IsCount k more)) bytes v × (v.0 ∷ v.1 ≡ ds)
+    here bytes [] h = absurd (omega (arith, h.0.0.1))
+    here bytes (x ∷ xs) h =
+        let all = h.0.0.0 in (
+          (x, xs),
+          record {
+            front = x ∷ [];
+            back = xs ++ 45 ∷ [];
+            first = ((h.0.1, omega (arith, (is_digit x all.0).1)), refl);
+            second = ((all.1, omega (arith, h.0.0.1), omega (arith, h.0.0.2)), refl);
+            bytes_are = h.1;
+          },
+          refl,
+        )
+
+-- a zero and three digits of which one is not 0
+abbrev IsZeroed : List ℕ → Type 0
+IsZeroed ds = AllDigits 10 ds × (length ds ≡ 4) × (get_or ds 0 0 ≡ 48) × (0 < digits_value 10 ds)
+
+zeroed : IsForm (λ f. ZeroAndThree (Byte 45 f)) (AreDigits IsZeroed) always
+zeroed = retold (AreDigits IsZeroed) (led 48 (both (some_digits 2) (led 45 nothing))) (λ v. 48 ∷ v.0) there here
+  where
+    IsRaw : List ℕ → List ℕ × Unit {0} → Type 0
+    IsRaw = IsLed 48 (IsThen (AreSome 3 3) (IsLed 45 IsNothing))
+
+    there : (bytes : List ℕ) (v : List ℕ × Unit {0}) → IsRaw bytes v → AreDigits IsZeroed bytes (48 ∷ v.0)
+    there bytes v h =
+        let t = h.1 in
+        let is : IsSome 3 3 v.0 = subst (IsSome 3 3) t.first.1 t.first.0 in
+        (((lit< tt, is.0), omega (arith, is.1, is.2), refl, is.3), h.2 ∙ ap (λ r. 48 ∷ r) (put t.bytes_are t.first.1 (t.second.2 ∙ ap (λ r. 45 ∷ r) t.second.1)))
+
+    here : (bytes ds : List ℕ) → AreDigits IsZeroed bytes ds → (v : List ℕ × Unit {0}) × IsRaw bytes v × (48 ∷ v.0 ≡ ds)
+    here bytes [] h = absurd (omega (arith, h.0.1))
+    here bytes (x ∷ xs) h =
+        let value : 0 < digits_value 10 xs = subst (λ b. 0 < digits_value 10 (b ∷ xs)) h.0.2 h.0.3 in (
+          (xs, tt),
+          (
+            xs ++ 45 ∷ [],
+            record { front = xs; back = 45 ∷ []; first = ((h.0.0.1, omega (arith, h.0.1), omega (arith, h.0.1), value), refl); second = ([], refl, refl); bytes_are = refl },
+            h.1 ∙ ap (λ b. b ∷ (xs ++ 45 ∷ [])) h.0.2,
+          ),
+          ap (λ b. b ∷ xs) (sym h.0.2),
+        )
+
+-- ---- as numbers
 abbrev number_hyphen : ℕ → List ℕ
 number_hyphen n = digits_at_least 4 n ++ 45 ∷ []
 
-abbrev IsFrom : ℕ → ℕ → Type 0
-IsFrom low n = (low < n) × (n < 10 ^ 9)
+abbrev IsAbove : ℕ → List ℕ → ℕ → Type 0
+IsAbove low bytes n = (low < n) × (n < 10 ^ 9) × (bytes ≡ number_hyphen n)
 
--- a first digit that is not 0, and others
-abbrev IsFirst : ℕ → ℕ → ℕ × List ℕ → Type 0
-IsFirst k more v = (v.0 ≤ 8) × IsCount k more v.1
-
-abbrev first_text : ℕ × List ℕ → List ℕ
-first_text v = (49 + v.0) ∷ [] ++ hyphened v.1
-
-abbrev first_value : ℕ × List ℕ → ℕ
-first_value v = digits_value 10 ((49 + v.0) ∷ v.1)
-
-first-spelled : (k more : ℕ) (v : ℕ × List ℕ) → 3 ≤ k → k + more ≤ 8 → IsFirst k more v → IsSpelled ((49 + v.0) ∷ v.1) (first_value v)
-first-spelled k more v least most h = record {
-  all = (digit_is (49 + v.0) (omega arith, omega (arith, h.0)), h.1.0);
-  size = record { least = omega (arith, h.1.1); most = omega (arith, h.1.2); first = λ _ e. omega (arith, e) };
+first-spelled : (k more : ℕ) (ds : List ℕ) → 3 ≤ k → k + more ≤ 8 → IsFirst k more ds → IsSpelled ds (digits_value 10 ds)
+first-spelled k more ds least most h = record {
+  all = h.0.0;
+  size = record { least = omega (arith, h.0.1); most = omega (arith, h.0.2); first = λ _ e. omega (arith, e, h.1) };
   value = refl;
 }
 
--- the digits of a number, of which the first is not 0
-first-of : (k more n : ℕ) (ds : List ℕ) → AllDigits 10 ds → get_or ds 0 0 ≢ 48 → suc k ≤ length ds → length ds ≤ suc k + more → ds ≡ digits_at_least 4 n
-    → digits_value 10 ds ≡ n → Told (IsFirst k more) first_text number_hyphen first_value n
-first-of k more n [] all first least most e value = absurd (omega arith)
-first-of k more n (x ∷ xs) all first least most e value =
-    let digit = is_digit x all.0 in
-    let above : 49 ≤ x = elim (cases_lt 48 x) as (λ _. 49 ≤ x) [ inl over ↦ omega arith | inr under ↦ absurd (first (omega (arith, digit.0))) ] in
-    let same : 49 + (x - 49) ≡ x = omega arith in
-    record {
-      value = (x - 49, xs);
-      valid = (omega (arith, digit.1), (all.1, omega arith, omega arith));
-      text_is = ap (λ bytes. bytes ++ 45 ∷ []) (sym e ∙ ap (λ b. b ∷ xs) (sym same));
-      same = ap (λ b. digits_value 10 (b ∷ xs)) same ∙ value;
-    }
+spells : (bytes ds : List ℕ) → IsSpelled ds (digits_value 10 ds) → bytes ≡ ds ++ 45 ∷ [] → bytes ≡ number_hyphen (digits_value 10 ds)
+spells bytes ds is e = e ∙ ap (λ all. all ++ 45 ∷ []) (spelled-printed ds _ is)
+
+not-zero : (ds : List ℕ) → AllDigits 10 ds → 0 < length ds → get_or ds 0 0 ≢ 48 → 49 ≤ get_or ds 0 0
+not-zero ds all some other = elim (cases_lt 48 (get_or ds 0 0)) as (λ _. 49 ≤ get_or ds 0 0) [
+  | inl over ↦ omega arith
+  | inr under ↦ absurd (other (omega (arith, under, (digit_at ds 0 all some).0)))
+]
 
 small-length : (n : ℕ) → n < 10 ^ 9 → length (digits_at_least 4 n) ≤ 4 → n ≤ 9999
 small-length n small few =
@@ -58,167 +112,95 @@ small-length n small few =
     let below = digits_value-lt 10 (digits_at_least 4 n) (digits_at_least-digits 4 n small) in
     omega (arith, digits_at_least-value 4 n small, subst (λ k. digits_value 10 (digits_at_least 4 n) < 10 ^ k) four below)
 
-above_part : IsPart (IsFrom 9999) number_hyphen YearAfterPlus
-above_part = renamed _ _ _ (IsFrom 9999) number_hyphen (both _ _ _ _ _ _ (from_part 49 8) (count_part 4 4)) first_value
-    (λ v h. let is = first-spelled 4 4 v (lit≤ tt) (lit≤ tt) h in (
-      (spelled-large _ _ is (omega (arith, h.1.1)), spelled-below _ _ is),
-      ap (λ ds. ds ++ 45 ∷ []) (spelled-printed _ _ is),
-    ))
-    (λ n h.
-    let size = digits_at_least-magnitude n h.1 in
-    let long : 5 ≤ length (digits_at_least 4 n) = elim (cases_lt 4 (length (digits_at_least 4 n))) as (λ _. 5 ≤ length (digits_at_least 4 n)) [ inl over ↦ omega arith | inr under ↦ absurd (omega (arith, h.0, small-length n h.1 under)) ] in
-    first-of 4 4 n (digits_at_least 4 n) (digits_at_least-digits 4 n h.1) (size.first (omega arith)) long (omega (arith, size.most)) refl (digits_at_least-value 4 n h.1))
-
--- a zero and three digits of which one is not 0
-abbrev Zeroed : Type 0
-Zeroed = Unit {0} × (List ℕ × Unit {0})
-
-abbrev IsZeroed : Zeroed → Type 0
-IsZeroed v = Unit {0} × (IsSome 2 v.1.0 × Unit {0})
-
-abbrev zeroed_text : Zeroed → List ℕ
-zeroed_text v = 48 ∷ [] ++ (v.1.0 ++ 45 ∷ [])
-
-zeroed_part : IsPart IsZeroed zeroed_text (λ f. Byte 48 (SomeDigits 2 (Byte 45 f)))
-zeroed_part = both _ _ _ _ _ _ (byte_part 48) (both _ _ _ _ _ _ (some_part 2) (byte_part 45))
-
-zeroed_outside : (v : Zeroed) (rest : List ℕ) → IsZeroed v → BeginsOutside 49 8 (zeroed_text v ++ rest)
-zeroed_outside v rest h x xs e here = let first : 48 ≡ x = cc in omega (arith, here.0, first)
-
-abbrev Magnitude : Type 0
-Magnitude = (ℕ × (List ℕ)) ⊎ Zeroed
-
-abbrev IsWhole : Magnitude → Type 0
-IsWhole = IsOther 8 (IsCount 3 5) IsZeroed
-
-abbrev whole_text : Magnitude → List ℕ
-whole_text = text_other 49 hyphened zeroed_text
-
-whole_value : Magnitude → ℕ
-whole_value (inl v) = first_value v
-whole_value (inr v) = digits_value 10 v.1.0
-
-zeroed-spelled : (v : Zeroed) → IsZeroed v → IsSpelled (48 ∷ v.1.0) (digits_value 10 v.1.0)
-zeroed-spelled v h = four-spelled (48 ∷ v.1.0) (digits_value 10 v.1.0) (lit< tt, h.1.0.0.0) (omega (arith, h.1.0.0.1)) refl
-
-there_below : (v : Magnitude) → IsWhole v → IsFrom 0 (whole_value v) × (whole_text v ≡ number_hyphen (whole_value v))
-unfolding whole_value
-there_below (inl v) h =
-    let is = first-spelled 3 5 v (lit≤ tt) (lit≤ tt) h in
-    ((spelled-some _ _ is (λ e. omega (arith, e)), spelled-below _ _ is), ap (λ ds. ds ++ 45 ∷ []) (spelled-printed _ _ is))
-there_below (inr v) h =
-    let is = zeroed-spelled v h in
-    ((h.1.0.1, spelled-below _ _ is), ap (λ ds. ds ++ 45 ∷ []) (spelled-printed _ _ is))
-
-zeroed-of : (n : ℕ) (ds : List ℕ) → AllDigits 10 ds → get_or ds 0 0 ≡ 48 → length ds ≡ 4 → ds ≡ digits_at_least 4 n → digits_value 10 ds ≡ n → 0 < n
-    → Told IsWhole whole_text number_hyphen whole_value n
-unfolding whole_value
-zeroed-of n [] all first size e value some = absurd (omega arith)
-zeroed-of n (x ∷ xs) all first size e value some =
-    let number : digits_value 10 xs ≡ n = ap (λ b. digits_value 10 (b ∷ xs)) (sym first) ∙ value in
-    record {
-      value = inr (tt, (xs, tt));
-      valid = (tt, (((all.1, omega arith), omega (arith, number)), tt));
-      text_is = ap (λ bytes. bytes ++ 45 ∷ []) (sym e ∙ ap (λ b. b ∷ xs) first);
-      same = number;
-    }
-
-first-whole : (n : ℕ) → Told (IsFirst 3 5) first_text number_hyphen first_value n → Told IsWhole whole_text number_hyphen whole_value n
-unfolding whole_value
-first-whole n a = record { value = inl a.value; valid = a.valid; text_is = a.text_is; same = a.same }
-
-here_below : (n : ℕ) → IsFrom 0 n → Told IsWhole whole_text number_hyphen whole_value n
-here_below n h =
+above_9999 : IsForm YearAfterPlus (IsAbove 9999) always
+above_9999 =
+    retold (IsAbove 9999) (from_1 4 4) (digits_value 10)
+    (λ bytes ds h. let is = first-spelled 4 4 ds (lit≤ tt) (lit≤ tt) h.0 in (spelled-large _ _ is (omega (arith, h.0.0.1)), spelled-below _ _ is, spells bytes ds is h.1))
+    (λ bytes n h.
     let ds = digits_at_least 4 n in
-    let size = digits_at_least-magnitude n h.1 in
     let all = digits_at_least-digits 4 n h.1 in
-    let value = digits_at_least-value 4 n h.1 in
-    elim (in_or_out 48 0 (get_or ds 0 0)) as (λ _. Told IsWhole whole_text number_hyphen whole_value n) [
-      | inl zero_is ↦
-          let first : get_or ds 0 0 ≡ 48 = omega (arith, zero_is.0, zero_is.1) in
-          let four : length ds ≡ 4 = elim (cases_lt 4 (length ds)) as (λ _. length ds ≡ 4) [ inl more ↦ absurd (size.first more first) | inr few ↦ omega (arith, size.least, few) ] in
-          zeroed-of n ds all first four refl value h.0
-      | inr other_is ↦
-          first-whole n (first-of 3 5 n ds all (λ e. other_is (omega (arith, e), omega (arith, e))) (omega (arith, size.least)) (omega (arith, size.most)) refl value)
-    ]
+    let size = digits_at_least-magnitude n h.1 in
+    let long : 5 ≤ length ds = elim (cases_lt 4 (length ds)) as (λ _. 5 ≤ length ds) [ inl over ↦ omega arith | inr under ↦ absurd (omega (arith, h.0, small-length n h.1 under)) ] in
+    (ds, (((all, long, size.most), not-zero ds all (omega arith) (size.first (omega arith))), h.2), digits_at_least-value 4 n h.1))
 
-below_part : IsPart (IsFrom 0) number_hyphen YearAfterMinus
-below_part = renamed _ _ _ (IsFrom 0) number_hyphen (other 49 8 _ _ _ _ _ _ (count_part 3 5) zeroed_part zeroed_outside) whole_value there_below here_below
+above_0 : IsForm YearAfterMinus (IsAbove 0) always
+above_0 = retold (IsAbove 0) (either 49 8 (from_1 3 5) zeroed) into there here
+  where
+    Raw : Type 0
+    Raw = List ℕ ⊎ List ℕ
 
--- four digits
-plain_part : IsPart (λ n. n < 10000) number_hyphen (DigitsAtLeast 4 0)
-plain_part = renamed _ _ _ (λ n. n < 10000) number_hyphen (count_part 4 0) (digits_value 10)
-    (λ ds h.
-    let size : length ds ≡ 4 = omega (arith, h.1, h.2) in
-    let is = four-spelled ds (digits_value 10 ds) h.0 size refl in
-    (subst (λ k. digits_value 10 ds < 10 ^ k) size (digits_value-lt 10 ds h.0), ap (λ all. all ++ 45 ∷ []) (spelled-printed _ _ is)))
-    (λ n h.
-    let small : n < 10 ^ 9 = omega arith in
-    let size = digits_at_least-length 4 n (lit< tt) h small in
-    record { value = digits_at_least 4 n; valid = (digits_at_least-digits 4 n small, omega arith, omega arith); text_is = refl; same = digits_at_least-value 4 n small })
+    IsRaw : List ℕ → Raw → Type 0
+    IsRaw = IsEither (AreDigits (IsFirst 3 5)) (AreDigits IsZeroed)
+
+    into : Raw → ℕ
+    into (inl ds) = digits_value 10 ds
+    into (inr ds) = digits_value 10 ds
+
+    there : (bytes : List ℕ) (v : Raw) → IsRaw bytes v → IsAbove 0 bytes (into v)
+    there bytes (inl ds) h =
+        let is = first-spelled 3 5 ds (lit≤ tt) (lit≤ tt) h.0 in (spelled-some _ _ is (λ e. omega (arith, e, h.0.1)), spelled-below _ _ is, spells bytes ds is h.1)
+    there bytes (inr ds) h = let is = four-spelled ds _ h.0.0 h.0.1 refl in (h.0.3, spelled-below _ _ is, spells bytes ds is h.1)
+
+    here : (bytes : List ℕ) (n : ℕ) → IsAbove 0 bytes n → (v : Raw) × IsRaw bytes v × (into v ≡ n)
+    here bytes n h =
+        let ds = digits_at_least 4 n in
+        let all = digits_at_least-digits 4 n h.1 in
+        let size = digits_at_least-magnitude n h.1 in
+        let value = digits_at_least-value 4 n h.1 in
+        elim (in_or_out 48 0 (get_or ds 0 0)) as (λ _. (v : Raw) × IsRaw bytes v × (into v ≡ n)) [
+          | inl zero_is ↦
+              let first : get_or ds 0 0 ≡ 48 = omega (arith, zero_is.0, zero_is.1) in
+              let four : length ds ≡ 4 = elim (cases_lt 4 (length ds)) as (λ _. length ds ≡ 4) [ inl more ↦ absurd (size.first more first) | inr few ↦ omega (arith, size.least, few) ] in
+              (inr ds, ((all, four, first, omega (arith, value, h.0)), h.2), value)
+          | inr other ↦ (
+            inl ds,
+            (((all, size.least, size.most), not-zero ds all (omega (arith, size.least)) (λ e. other (omega (arith, e), omega (arith, e)))), h.2),
+            value,
+          )
+        ]
+
+abbrev IsPlain : List ℕ → ℕ → Type 0
+IsPlain bytes n = (n < 10000) × (bytes ≡ number_hyphen n)
+
+four : IsForm (DigitsAtLeast 4 0) IsPlain always
+four =
+    retold IsPlain (hyphened 4 0) (digits_value 10)
+    (λ bytes ds h.
+    let size : length ds ≡ 4 = omega (arith, h.0.1, h.0.2) in
+    (subst (λ k. digits_value 10 ds < 10 ^ k) size (digits_value-lt 10 ds h.0.0), spells bytes ds (four-spelled ds _ h.0.0 size refl) h.1))
+    (λ bytes n h.
+    let small : n < 10 ^ 9 = omega (arith, h.0) in
+    let size = digits_at_least-length 4 n (lit< tt) h.0 small in
+    (digits_at_least 4 n, ((digits_at_least-digits 4 n small, omega arith, omega arith), h.1), digits_at_least-value 4 n small))
 
 -- ---- a sign or none
-first-plain : (n x : ℕ) (xs rest : List ℕ) → n < 10000 → number_hyphen n ++ rest ≡ x ∷ xs → 48 ≤ x
-first-plain n x xs rest below e = at (digits_at_least 4 n) (digits_at_least-digits 4 n (omega arith)) (digits_at_least-length 4 n (lit< tt) below (omega arith)) e
+abbrev pub IsYear : List ℕ → ℤ → Type 0
+IsYear bytes y = IsPrintableYear y × (bytes ≡ year_text y ++ 45 ∷ [])
+
+pub year : IsForm Year IsYear always
+year = retold IsYear (either 43 0 (led 43 above_9999) (either 45 0 (led 45 above_0) four)) into there here
   where
-    at : (ds : List ℕ) → AllDigits 10 ds → length ds ≡ 4 → (ds ++ 45 ∷ []) ++ rest ≡ x ∷ xs → 48 ≤ x
-    at [] all size e = absurd (omega arith)
-    at (y ∷ ys) all size e = let first : y ≡ x = cc in omega (arith, first, (is_digit y all.0).0)
+    Raw : Type 0
+    Raw = ℕ ⊎ ℕ ⊎ ℕ
 
-abbrev UnsignedParts : Type 0
-UnsignedParts = (ℕ × ℕ) ⊎ ℕ
+    IsRaw : List ℕ → Raw → Type 0
+    IsRaw = IsEither (IsLed 43 (IsAbove 9999)) (IsEither (IsLed 45 (IsAbove 0)) IsPlain)
 
-abbrev IsUnsigned : UnsignedParts → Type 0
-IsUnsigned = IsOther 0 (IsFrom 0) (λ n. n < 10000)
+    into : Raw → ℤ
+    into (inl n) = pos n
+    into (inr (inl zero)) = pos 0
+    into (inr (inl (suc k))) = negsuc k
+    into (inr (inr n)) = pos n
 
-abbrev unsigned_text : UnsignedParts → List ℕ
-unsigned_text = text_other 45 number_hyphen number_hyphen
+    there : (bytes : List ℕ) (v : Raw) → IsRaw bytes v → IsYear bytes (into v)
+    there bytes (inl n) h = (h.1.1, h.2 ∙ ap (λ r. 43 ∷ r) h.1.2 ∙ ap (λ ds. ds ++ 45 ∷ []) (sym (year-plus n h.1.0)))
+    there bytes (inr (inl zero)) h = absurd (omega (arith, h.1.0))
+    there bytes (inr (inl (suc k))) h = (h.1.1, h.2 ∙ ap (λ r. 45 ∷ r) h.1.2 ∙ ap (λ ds. ds ++ 45 ∷ []) (sym (year-minus k)))
+    there bytes (inr (inr n)) h = (omega (arith, h.0), h.1 ∙ ap (λ ds. ds ++ 45 ∷ []) (sym (year-plain n (omega (arith, h.0)))))
 
-unsigned_part : IsPart IsUnsigned unsigned_text Unsigned
-unsigned_part = other 45 0 _ _ _ _ _ _ below_part plain_part (λ n rest h x xs e here. omega (arith, here.1, first-plain n x xs rest h e))
-
-unsigned_outside : (v : UnsignedParts) (rest : List ℕ) → IsUnsigned v → BeginsOutside 43 0 (unsigned_text v ++ rest)
-unsigned_outside (inl v) rest h x xs e here = let first : 45 + v.0 ≡ x = cc in omega (arith, here.1, first)
-unsigned_outside (inr n) rest h x xs e here = omega (arith, here.1, first-plain n x xs rest h e)
-
-abbrev YearParts : Type 0
-YearParts = (ℕ × ℕ) ⊎ UnsignedParts
-
-abbrev IsYearParts : YearParts → Type 0
-IsYearParts = IsOther 0 (IsFrom 9999) IsUnsigned
-
-abbrev year_parts_text : YearParts → List ℕ
-year_parts_text = text_other 43 number_hyphen unsigned_text
-
-abbrev pub year_hyphen : ℤ → List ℕ
-year_hyphen y = year_text y ++ 45 ∷ []
-
-into : YearParts → ℤ
-into (inl (sign, n)) = pos n
-into (inr (inl (sign, zero))) = pos 0
-into (inr (inl (sign, suc k))) = negsuc k
-into (inr (inr n)) = pos n
-
-there : (v : YearParts) → IsYearParts v → IsPrintableYear (into v) × (year_parts_text v ≡ year_hyphen (into v))
-unfolding into
-there (inl (sign, n)) h =
-    let same : 43 + sign ≡ 43 = omega (arith, h.0) in
-    (h.1.1, ap (λ b. b ∷ number_hyphen n) same ∙ ap (λ ds. ds ++ 45 ∷ []) (sym (year-plus n h.1.0)))
-there (inr (inl (sign, zero))) h = absurd (omega (arith, h.1.0))
-there (inr (inl (sign, suc k))) h =
-    let same : 45 + sign ≡ 45 = omega (arith, h.0) in
-    (h.1.1, ap (λ b. b ∷ number_hyphen (suc k)) same ∙ ap (λ ds. ds ++ 45 ∷ []) (sym (year-minus k)))
-there (inr (inr n)) h = (omega (arith, h), ap (λ ds. ds ++ 45 ∷ []) (sym (year-plain n (omega arith))))
-
-here : (y : ℤ) → IsPrintableYear y → Told IsYearParts year_parts_text year_hyphen into y
-unfolding into
-here (pos n) h =
-    elim (cases_lt n 10000) as (λ _. Told IsYearParts year_parts_text year_hyphen into (pos n)) [
-      | inl few ↦ record { value = inr (inr n); valid = few; text_is = ap (λ ds. ds ++ 45 ∷ []) (year-plain n (omega arith)); same = refl }
-      | inr many ↦ record { value = inl (0, n); valid = (lit≤ tt, (omega arith, h)); text_is = ap (λ ds. ds ++ 45 ∷ []) (year-plus n (omega arith)); same = refl }
+    here : (bytes : List ℕ) (y : ℤ) → IsYear bytes y → (v : Raw) × IsRaw bytes v × (into v ≡ y)
+    here bytes (pos n) h = elim (cases_lt n 10000) as (λ _. (v : Raw) × IsRaw bytes v × (into v ≡ pos n)) [
+      | inl few ↦ (inr (inr n), (few, h.1 ∙ ap (λ ds. ds ++ 45 ∷ []) (year-plain n (omega arith))), refl)
+      | inr many ↦ (inl n, (number_hyphen n, (omega arith, h.0, refl), h.1 ∙ ap (λ ds. ds ++ 45 ∷ []) (year-plus n (omega arith))), refl)
     ]
-here (negsuc k) h =
-    record { value = inr (inl (0, suc k)); valid = (lit≤ tt, (omega arith, h)); text_is = ap (λ ds. ds ++ 45 ∷ []) (year-minus k); same = refl }
-
-pub year_part : IsPart IsPrintableYear year_hyphen Year
-year_part = renamed _ _ _ IsPrintableYear year_hyphen (other 43 0 _ _ _ _ _ _ above_part unsigned_part unsigned_outside) into there here
+    here bytes (negsuc k) h = (inr (inl (suc k)), (number_hyphen (suc k), (omega arith, h.0, refl), h.1 ∙ ap (λ ds. ds ++ 45 ∷ []) (year-minus k)), refl)

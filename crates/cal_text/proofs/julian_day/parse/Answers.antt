@@ -1,69 +1,51 @@
-use Rattle.std.proofs.Common.{◌≡◌, ◌<◌, ◌^◌, ◌∙◌, ℕ, ℤ, Result, Ok, Err, List, ap, arith, sym, unsigned_abs, w32, to_z, of_z}
+use Rattle.std.proofs.Common.{◌≡◌, ◌↔◌, ◌∙◌, ℕ, ℤ, Result, Ok, Err, IfOk, IfErr, List, ap, arith, refl, sym, subst}
 use Rattle.std.proofs.lemmas.Int.{ints}
-use Rattle.cal_time.specs.Date.{IsDate, julian_day_at}
+use Rattle.cal_time.specs.ComponentError.{FailsWith}
+use Rattle.cal_time.specs.Date.{IsDate, HasJulianDay, NoDate, julian_day_at}
 use Rattle.cal_time.specs.DateErrors.{julian_day_out_of_range}
 use Rattle.cal_time.specs.declared.error.ComponentRange.{ComponentRange}
-use Rattle.cal_text.specs.JulianForm.{julian_text, IsJulianForm, IsJulianDayError}
-use Rattle.cal_text.specs.Position.{HasSome}
+use Rattle.cal_text.specs.JulianForm.{julian_form, julian_text, IsJulianForm, IsJulianDayError}
 use Rattle.cal_text.specs.Shape.{julian_day}
-use Rattle.cal_text.proofs.Faults.{all, last, not_refused, refused_for, no_form}
+use Rattle.cal_text.proofs.Errors.{all, last}
 use Rattle.cal_text.proofs.NumberShapes.{julian_shape}
-use Rattle.cal_text.proofs.Positions.{named, stopped}
-use Rattle.cal_text.proofs.Results.{not_ok}
+use Rattle.cal_text.proofs.Parsed.{IsMade, made, refused, unmatched}
+use Rattle.cal_text.proofs.Positions.{stopped}
 use Rattle.cal_text.proofs.YearTexts.{written-cast}
 use Rattle.cal_text.proofs.julian_day.parse.Goals as goal
 
--- the text has no other
-only : (text : List ℕ) (j : ℤ) → IsJulianForm text j → (k : ℤ) → IsJulianForm text k → ◌≡◌ {A = Result ℤ ℕ} (Ok j) (Ok k)
-only text j has k is = ap Ok (julian_shape.one _ _ _ has is)
+abbrev IsDay : ℤ → ℕ → Type 0
+IsDay j n = IsDate n × HasJulianDay j n
 
-small : (n : ℕ) → IsDate n → unsigned_abs (julian_day_at n) < 10 ^ 9
-small n date = omega (arith, ints, date)
+form_of : (text : List ℕ) (n : ℕ) → IsDate n → text ≡ julian_text n → (j : ℤ) × IsJulianForm text j × IsDay j n
+form_of text n date e = (julian_day_at n, record { digits = omega (arith, ints, date); bytes_are = e }, (date, refl))
 
-cast : (text : List ℕ) (j : ℤ) (n : ℕ) → IsJulianForm text j → IsDate n → text ≡ julian_text n → to_z w32 (of_z w32 j) ≡ julian_day_at n
-cast text j n has date e =
-    ap (λ z. to_z w32 (of_z w32 z)) (julian_shape.one _ _ _ has (record { digits = small n date; bytes_are = e })) ∙ written-cast (julian_day_at n) (small n date)
+day_made : (j k : ℤ) (r : Result ℕ ComponentRange) → k ≡ j → ((n : ℕ) → IsDate n → HasJulianDay k n → r ≡ Ok n) → IfOk r (IsDay k)
+    → FailsWith julian_day_out_of_range r ↔ NoDate (HasJulianDay k) → IfErr r (λ e. e ≡ julian_day_out_of_range) → IsMade IsDay IsJulianDayError j r
+day_made j k r same every value fails kind =
+    subst (λ i. IsMade IsDay IsJulianDayError i r) same (record { every = λ n h. every n h.0 h.1; value = value; error = all r (last r julian_day_out_of_range _ fails) kind })
+
+pub returns-in-Ok : goal.returns-in-Ok
+returns-in-Ok c =
+    let j = c.in-Some.julian_day in
+    let has = c.in-Some.ensures.value in
+    let e = c.in-Ok.ensures in
+    let day = day_made j _ (Ok c.in-Ok.date) (written-cast j has.digits) e.every e.value e.julian_day e.error_kind in
+    let is = made IsJulianForm IsDay IsJulianDayError _ j _ julian_shape.one has day in
+    record { every = λ n date t. is.every n (form_of _ n date t); value = (e.value.0, has.bytes_are ∙ ap julian_form (sym day.value.1)); syntax_error = is.syntax_error; position = is.position; out_of_range = is.out_of_range }
+
+pub returns-in-Err : goal.returns-in-Err
+returns-in-Err c =
+    let j = c.in-Some.julian_day in
+    let has = c.in-Some.ensures.value in
+    let e = c.in-Err.ensures in
+    let is = refused IsJulianForm IsDay IsJulianDayError _ j _ julian_shape.one has (day_made j _ (Err c.in-Err.error) (written-cast j has.digits) e.every e.value e.julian_day e.error_kind) in
+    record { every = λ n date t. is.every n (form_of _ n date t); value = tt; syntax_error = is.syntax_error; position = is.position; out_of_range = is.out_of_range }
 
 pub overflow_sub-position : goal.overflow_sub-position
 overflow_sub-position c = (stopped IsJulianForm julian_day julian_shape _ _ c.in-None.ensures.scans).within
 
-pub returns-in-Ok-clause-every : goal.returns-in-Ok-clause-every
-returns-in-Ok-clause-every c n date e =
-    let day = cast _ _ n c.in-Some.ensures.value date e in
-    let number : c.in-Ok.date ≡ n = omega (arith, ints, c.in-Ok.ensures.value.1, day) in
-    ap Ok number
-
-pub returns-in-Ok-clause-out_of_range : goal.returns-in-Ok-clause-out_of_range
-returns-in-Ok-clause-out_of_range c =
-    let r : Result ℕ ComponentRange = Ok c.in-Ok.date in
-    let j = c.in-Some.julian_day in
-    let refused = rw (written-cast j c.in-Some.ensures.value.digits) at c.in-Ok.ensures.julian_day in
-    not_refused IsJulianForm IsJulianDayError c.args.text.now j (only _ j c.in-Some.ensures.value) (all r (last r julian_day_out_of_range _ refused) tt)
-
-pub returns-in-Err-clause-every : goal.returns-in-Err-clause-every
-returns-in-Err-clause-every c n date e = absurd (not_ok _ _ (c.in-Err.ensures.every n date (sym (cast _ _ n c.in-Some.ensures.value date e))))
-
-pub returns-in-Err-clause-out_of_range : goal.returns-in-Err-clause-out_of_range
-returns-in-Err-clause-out_of_range c =
-    let r : Result ℕ ComponentRange = Err c.in-Err.error in
-    let j = c.in-Some.julian_day in
-    let refused = rw (written-cast j c.in-Some.ensures.value.digits) at c.in-Err.ensures.julian_day in
-    refused_for IsJulianForm IsJulianDayError c.args.text.now j c.in-Err.error (only _ j c.in-Some.ensures.value) c.in-Some.ensures.value
-    (all r (last r julian_day_out_of_range _ refused) c.in-Err.ensures.error_kind)
-
--- a text of another form
-pub returns-in-None-clause-every : goal.returns-in-None-clause-every
-returns-in-None-clause-every c n date e =
-    absurd ((stopped IsJulianForm julian_day julian_shape _ _ c.in-None.ensures.scans).none (julian_day_at n) (record { digits = small n date; bytes_are = e }))
-
-pub returns-in-None-clause-syntax_error : goal.returns-in-None-clause-syntax_error
-returns-in-None-clause-syntax_error c = (λ e. (stopped IsJulianForm julian_day julian_shape _ _ c.in-None.ensures.scans).none, λ none. c.unexpected.ensures.form)
-
-pub returns-in-None-clause-out_of_range : goal.returns-in-None-clause-out_of_range
-returns-in-None-clause-out_of_range c =
-    no_form IsJulianForm IsJulianDayError c.args.text.now c.unexpected.result c.unexpected.ensures.form 0 (λ j h. absurd ((stopped IsJulianForm julian_day julian_shape _ _ c.in-None.ensures.scans).none j h))
-
-pub returns-in-None-clause-position : goal.returns-in-None-clause-position
-returns-in-None-clause-position c =
-    let stop = stopped IsJulianForm julian_day julian_shape _ _ c.in-None.ensures.scans in
-    named (HasSome IsJulianForm) c.args.text.now _ c.unexpected.result stop.position c.unexpected.ensures.byte c.unexpected.ensures.end
+pub returns-in-None : goal.returns-in-None
+returns-in-None c =
+    let e = c.unexpected.ensures in
+    let is = unmatched IsJulianForm IsDay IsJulianDayError _ _ c.unexpected.result (stopped IsJulianForm julian_day julian_shape _ _ c.in-None.ensures.scans) e.byte e.end e.form in
+    record { every = λ n date t. is.every n (form_of _ n date t); value = tt; syntax_error = is.syntax_error; position = is.position; out_of_range = is.out_of_range }

@@ -4,9 +4,9 @@ use Rattle.cal_text.specs.AnyForm.{date_form_of}
 use Rattle.cal_text.specs.DateForms.{HasForm}
 use Rattle.cal_text.specs.Position.{HasSome}
 use Rattle.cal_text.specs.Parsing.{IsDateError, IsOnDay}
-use Rattle.cal_text.proofs.AnyForms.{date-found, date-any, date-fault}
+use Rattle.cal_text.proofs.AnyForms.{date-found, date-any, date-error, same_error}
 use Rattle.cal_text.proofs.DayForms.{text-of-form}
-use Rattle.cal_text.proofs.Faults.{not_refused, refused_for, no_form}
+use Rattle.cal_text.proofs.Errors.{not_refused, refused_for, no_form}
 use Rattle.cal_text.proofs.Positions.{named}
 use Rattle.cal_text.proofs.Results.{one, not_ok}
 use Rattle.cal_text.proofs.AnyPositions as positions
@@ -27,8 +27,8 @@ returns-in-Ok-date_from_numbers-clause-value c =
 
 pub returns-in-Ok-date_from_numbers-clause-out_of_range : goal.returns-in-Ok-date_from_numbers-clause-out_of_range
 returns-in-Ok-date_from_numbers-clause-out_of_range c why =
-    let fault = not_refused HasForm IsDateError c.args.text.now c.in-Ok.form c.in-Ok.ensures.every c.in-Ok-date_from_numbers.ensures.error why in
-    (λ e. absurd e, λ is. fault.1 (date-fault c.args.text.now why c.requires.first c.requires.separator is))
+    let error = not_refused HasForm IsDateError c.args.text.now c.in-Ok.form c.in-Ok.ensures.every c.in-Ok-date_from_numbers.ensures.error why in
+    same_error error (date-error c.args.text.now why c.requires.first c.requires.separator) (λ h. inl h)
 
 pub returns-in-Err-date_from_numbers-clause-every : goal.returns-in-Err-date_from_numbers-clause-every
 returns-in-Err-date_from_numbers-clause-every c =
@@ -40,27 +40,20 @@ returns-in-Err-date_from_numbers-clause-every c =
 pub returns-in-Err-date_from_numbers-clause-out_of_range : goal.returns-in-Err-date_from_numbers-clause-out_of_range
 returns-in-Err-date_from_numbers-clause-out_of_range c why =
     let every = c.in-Ok.ensures.every in
-    let fault = refused_for HasForm IsDateError c.args.text.now c.in-Ok.form c.in-Err-date_from_numbers.error every c.in-Ok.ensures.value c.in-Err-date_from_numbers.ensures.error why in
-    (λ e. inl (fault.0 e), λ is. fault.1 (date-fault c.args.text.now why c.requires.first c.requires.separator is))
+    let error = refused_for HasForm IsDateError c.args.text.now c.in-Ok.form c.in-Err-date_from_numbers.error every c.in-Ok.ensures.value c.in-Err-date_from_numbers.ensures.error why in
+    same_error error (date-error c.args.text.now why c.requires.first c.requires.separator) (λ h. inl h)
 
-pub returns-in-Err-clause-every : goal.returns-in-Err-clause-every
-returns-in-Err-clause-every c =
-    date-found c.args.text.now _ c.requires.first c.requires.separator (λ f n date is. absurd (not_ok _ _ (c.in-Err.ensures.every f is.0)))
-
-pub returns-in-Err-clause-syntax_error : goal.returns-in-Err-clause-syntax_error
-returns-in-Err-clause-syntax_error c = (
-  λ none any.
-      let form = date-any c.args.text.now c.requires.first c.requires.separator any in
-      not_ok _ _ (c.in-Err.ensures.every form.0 form.1),
-  λ none. c.unexpected.ensures.form,
-)
-
-pub returns-in-Err-clause-position : goal.returns-in-Err-clause-position
-returns-in-Err-clause-position c =
-    let stop = named (HasSome HasForm) c.args.text.now c.in-Err.position c.unexpected.result c.in-Err.ensures.position c.unexpected.ensures.byte c.unexpected.ensures.end in
-    positions.date c.args.text.now c.unexpected.result c.requires.first c.requires.separator stop
-
-pub returns-in-Err-clause-out_of_range : goal.returns-in-Err-clause-out_of_range
-returns-in-Err-clause-out_of_range c why =
-    let fault = no_form HasForm IsDateError c.args.text.now c.unexpected.result c.unexpected.ensures.form c.in-Err.position c.in-Err.ensures.every why in
-    (λ e. inl (fault.0 e), λ is. fault.1 (date-fault c.args.text.now why c.requires.first c.requires.separator is))
+pub returns-in-Err : goal.returns-in-Err
+returns-in-Err c =
+    let text = c.args.text.now in
+    let none = c.in-Err.ensures.every in
+    let e = c.unexpected.ensures in
+    let stop = named (HasSome HasForm) text c.in-Err.position c.unexpected.result c.in-Err.ensures.position e.byte e.end in
+    record {
+      every = date-found text _ c.requires.first c.requires.separator (λ f n date is. absurd (not_ok _ _ (none f is.0)));
+      value = tt;
+      syntax_error = (λ h any. let form = date-any text c.requires.first c.requires.separator any in not_ok _ _ (none form.0 form.1), λ h. e.form);
+      position = positions.date text c.unexpected.result c.requires.first c.requires.separator stop;
+      out_of_range = λ why.
+          same_error (no_form HasForm IsDateError text c.unexpected.result e.form c.in-Err.position none why) (date-error text why c.requires.first c.requires.separator) (λ h. inl h);
+    }

@@ -11,7 +11,7 @@ use Rattle.cal_text.specs.DateForms.{DigitsFit}
 use Rattle.cal_text.specs.declared.date_numbers.DateNumbers.{DateNumbers}
 use Rattle.cal_text.specs.declared.date_numbers.DateNumbers.TheVariants.{Calendar, Ordinal, Week}
 use Rattle.cal_text.specs.Parsing.{IsDateError, IsOnDay}
-use Rattle.cal_text.proofs.Faults.{all, last, more}
+use Rattle.cal_text.proofs.Errors.{all, last, more}
 use Rattle.cal_text.proofs.YearTexts.{written-cast}
 use Rattle.cal_text.proofs.date.from_numbers.date_from_numbers.Goals as goal
 

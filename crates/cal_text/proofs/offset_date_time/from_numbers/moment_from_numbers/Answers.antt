@@ -1,7 +1,7 @@
-use Rattle.std.proofs.Common.{ℤ, Result, Ok, Err, ap, subst, sym, ◌∙◌}
-use Rattle.cal_time.specs.declared.error.ComponentRange.{ComponentRange}
+use Rattle.std.proofs.Common.{Ok, Err, ap, subst, sym, ◌∙◌}
 use Rattle.cal_text.specs.OffsetDateTimeForm.{IsOffsetDateTimeOf}
-use Rattle.cal_text.proofs.OffsetDateTimeReads.{offset_errors, offset_fails, nothing_fails, local_fails, joined}
+use Rattle.cal_text.proofs.Errors.{later, sooner}
+use Rattle.cal_text.proofs.OffsetDateTimeReads.{offset_errors, joined}
 use Rattle.cal_text.proofs.Results.{one, not_ok}
 use Rattle.cal_text.proofs.offset_date_time.from_numbers.moment_from_numbers.Goals as goal
 
@@ -17,23 +17,22 @@ returns-in-Ok-offset_from_numbers-clause-every c m is =
     ap Ok (c.assume_offset.ensures.value ∙ joined m _ _ local offset)
 
 pub returns-in-Ok-offset_from_numbers-clause-error : goal.returns-in-Ok-offset_from_numbers-clause-error
-returns-in-Ok-offset_from_numbers-clause-error c =
-    let r : Result ℤ ComponentRange = Ok c.in-Ok-offset_from_numbers.offset in
+returns-in-Ok-offset_from_numbers-clause-error c why =
     let e = c.in-Ok-offset_from_numbers.ensures in
-    nothing_fails c.args.numbers c.in-Ok.ensures.error (offset_errors c.args.numbers.offset r e.hour e.minute e.second e.error_kind)
+    later (λ x. absurd x) (c.in-Ok.ensures.error why) (offset_errors c.args.numbers.offset (Ok c.in-Ok-offset_from_numbers.offset) e.hour e.minute e.second e.error_kind why)
 
-pub returns-in-Err-offset_from_numbers-clause-every : goal.returns-in-Err-offset_from_numbers-clause-every
-returns-in-Err-offset_from_numbers-clause-every c m is = absurd (not_ok _ _ (c.in-Err-offset_from_numbers.ensures.every m.offset is.offset))
-
-pub returns-in-Err-offset_from_numbers-clause-error : goal.returns-in-Err-offset_from_numbers-clause-error
-returns-in-Err-offset_from_numbers-clause-error c =
-    let r : Result ℤ ComponentRange = Err c.in-Err-offset_from_numbers.error in
+pub returns-in-Err-offset_from_numbers : goal.returns-in-Err-offset_from_numbers
+returns-in-Err-offset_from_numbers c =
     let e = c.in-Err-offset_from_numbers.ensures in
-    offset_fails c.args.numbers c.in-Err-offset_from_numbers.error (c.in-Ok.local, c.in-Ok.ensures.value) c.in-Ok.ensures.error
-    (offset_errors c.args.numbers.offset r e.hour e.minute e.second e.error_kind)
+    record {
+      every = λ m is. absurd (not_ok _ _ (e.every m.offset is.offset));
+      value = tt;
+      error = λ why.
+          later (λ x. (c.in-Ok.local, c.in-Ok.ensures.value)) (c.in-Ok.ensures.error why)
+          (offset_errors c.args.numbers.offset (Err c.in-Err-offset_from_numbers.error) e.hour e.minute e.second e.error_kind why);
+    }
 
-pub returns-in-Err-clause-every : goal.returns-in-Err-clause-every
-returns-in-Err-clause-every c m is = absurd (not_ok _ _ (c.in-Err.ensures.every m.local is.local))
-
-pub returns-in-Err-clause-error : goal.returns-in-Err-clause-error
-returns-in-Err-clause-error c = local_fails c.args.numbers c.in-Err.error c.in-Err.ensures.every c.in-Err.ensures.error
+pub returns-in-Err : goal.returns-in-Err
+returns-in-Err c =
+    let e = c.in-Err.ensures in
+    record { every = λ m is. absurd (not_ok _ _ (e.every m.local is.local)); value = tt; error = λ why. sooner (λ p. not_ok _ _ (e.every p.0 p.1)) (e.error why) }

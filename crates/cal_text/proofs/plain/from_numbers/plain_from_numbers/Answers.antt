@@ -1,10 +1,10 @@
-use Rattle.std.proofs.Common.{ℕ, Result, Ok, Err, ap, subst, sym, ◌∙◌}
-use Rattle.cal_time.specs.declared.error.ComponentRange.{ComponentRange}
+use Rattle.std.proofs.Common.{Ok, Err, ap, subst, sym, ◌∙◌}
 use Rattle.cal_datetime.specs.DateTime.{date_time, date_at, time_at}
 use Rattle.cal_datetime.specs.DateTimeLaws.{date_time-parts, IsDate-date_at}
 use Rattle.cal_text.specs.Parsing.{IsOnDay}
 use Rattle.cal_text.specs.TimeForm.{IsTimeOf}
-use Rattle.cal_text.proofs.PlainReads.{time_errors, date_fails, time_fails, none_fails}
+use Rattle.cal_text.proofs.Errors.{later, sooner}
+use Rattle.cal_text.proofs.PlainReads.{time_errors}
 use Rattle.cal_text.proofs.Results.{one, not_ok}
 use Rattle.cal_text.proofs.plain.from_numbers.plain_from_numbers.Goals as goal
 
@@ -24,23 +24,27 @@ returns-in-Ok-time_from_numbers-clause-every c p is =
     ap Ok (c.new.ensures.value ∙ ap (λ n. date_time n c.in-Ok-time_from_numbers.time) date ∙ ap (λ t. date_time (date_at p) t) time ∙ date_time-parts p is.in_range)
 
 pub returns-in-Ok-time_from_numbers-clause-error : goal.returns-in-Ok-time_from_numbers-clause-error
-returns-in-Ok-time_from_numbers-clause-error c =
-    let r : Result ℕ ComponentRange = Ok c.in-Ok-time_from_numbers.time in
+returns-in-Ok-time_from_numbers-clause-error c why =
     let e = c.in-Ok-time_from_numbers.ensures in
-    none_fails c.args.numbers c.in-Ok.ensures.error (time_errors c.args.numbers.time r e.hour e.minute e.second e.error_kind)
+    later (λ x. absurd x) (c.in-Ok.ensures.error why) (time_errors c.args.numbers.time (Ok c.in-Ok-time_from_numbers.time) e.hour e.minute e.second e.error_kind why)
 
-pub returns-in-Err-time_from_numbers-clause-every : goal.returns-in-Err-time_from_numbers-clause-every
-returns-in-Err-time_from_numbers-clause-every c p is = absurd (not_ok _ _ (c.in-Err-time_from_numbers.ensures.every (time_at p) is.time))
-
-pub returns-in-Err-time_from_numbers-clause-error : goal.returns-in-Err-time_from_numbers-clause-error
-returns-in-Err-time_from_numbers-clause-error c =
-    let r : Result ℕ ComponentRange = Err c.in-Err-time_from_numbers.error in
+pub returns-in-Err-time_from_numbers : goal.returns-in-Err-time_from_numbers
+returns-in-Err-time_from_numbers c =
     let e = c.in-Err-time_from_numbers.ensures in
-    time_fails c.args.numbers c.in-Ok.date c.in-Err-time_from_numbers.error c.in-Ok.ensures.value c.in-Ok.ensures.error
-    (time_errors c.args.numbers.time r e.hour e.minute e.second e.error_kind)
+    let date = c.in-Ok.ensures in
+    record {
+      every = λ p is. absurd (not_ok _ _ (e.every (time_at p) is.time));
+      value = tt;
+      error = λ why.
+          later (λ x. (c.in-Ok.date, date.value.0, date.value.1)) (date.error why)
+          (time_errors c.args.numbers.time (Err c.in-Err-time_from_numbers.error) e.hour e.minute e.second e.error_kind why);
+    }
 
-pub returns-in-Err-clause-every : goal.returns-in-Err-clause-every
-returns-in-Err-clause-every c p is = absurd (not_ok _ _ (c.in-Err.ensures.every (date_at p) (IsDate-date_at p is.in_range) is.date))
-
-pub returns-in-Err-clause-error : goal.returns-in-Err-clause-error
-returns-in-Err-clause-error c = date_fails c.args.numbers c.in-Err.error c.in-Err.ensures.every c.in-Err.ensures.error
+pub returns-in-Err : goal.returns-in-Err
+returns-in-Err c =
+    let e = c.in-Err.ensures in
+    record {
+      every = λ p is. absurd (not_ok _ _ (e.every (date_at p) (IsDate-date_at p is.in_range) is.date));
+      value = tt;
+      error = λ why. sooner (λ d. not_ok _ _ (e.every d.0 d.1 d.2)) (e.error why);
+    }

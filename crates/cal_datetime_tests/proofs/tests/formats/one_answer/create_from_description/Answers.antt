@@ -1,5 +1,5 @@
 use Rattle.cal_format.specs.declared.item.Syntax.TheVariants.{Brackets}
-use Rattle.cal_format.proofs.Faults.{one-format}
+use Rattle.cal_format.proofs.FormatErrors.{one-format}
 use Rattle.cal_datetime_tests.proofs.tests.formats.one_answer.create_from_description.Goals as goal
 
 pub returns : goal.returns

@@ -5,7 +5,7 @@ use Rattle.cal_format.specs.declared.item.Item.{Item}
 use Rattle.cal_format.specs.declared.item.Syntax.{Syntax}
 use Rattle.cal_format.specs.declared.format.FormatError.{FormatError}
 use Rattle.cal_format.specs.declared.format.FormatError.TheVariants.{UnknownItem, TooLong}
-use Rattle.cal_format.specs.Format.{Spells, nothing, more, IsFaultOf, front}
+use Rattle.cal_format.specs.Format.{Spells, nothing, more, IsFormatError, front}
 
 -- The items xs are the items ys and then others, which are spelled from `q` to `r`.
 abbrev GoesOn : Syntax → List ℕ → List ℕ → List Item → List Item → Type 0
@@ -32,20 +32,20 @@ same_place s q r xs ys none (others, spells, same) = ends_here s q others r spel
 no_fewer : (s : Syntax) (q r : List ℕ) (xs ys : List Item) → GoesOn s q r xs ys → length ys ≤ length xs
 no_fewer s q r xs ys (others, spells, same) = omega (arith, ap length same, length-append ys others)
 
-pub one-fault : (s : Syntax) (at had : ℕ) (text : List ℕ) (e f : FormatError) → IsFaultOf s at had text e → IsFaultOf s at had text f → e ≡ f
-one-fault s at had text (UnknownItem p) (UnknownItem p2) (xs, r, spells, few, some, none, place) (ys, q, spells2, few2, some2, none2, place2) =
+pub one-error : (s : Syntax) (at had : ℕ) (text : List ℕ) (e f : FormatError) → IsFormatError s at had text e → IsFormatError s at had text f → e ≡ f
+one-error s at had text (UnknownItem p) (UnknownItem p2) (xs, r, spells, few, some, none, place) (ys, q, spells2, few2, some2, none2, place2) =
     ap UnknownItem (omega (arith, place, place2, ap length (same_place s q r xs ys none2 (goes_on s text xs r spells none ys q spells2))))
-one-fault s at had text (UnknownItem p) TooLong (xs, r, spells, few, some, none, place) (ys, q, spells2, many) =
+one-error s at had text (UnknownItem p) TooLong (xs, r, spells, few, some, none, place) (ys, q, spells2, many) =
     absurd (omega (arith, few, many, no_fewer s q r xs ys (goes_on s text xs r spells none ys q spells2)))
-one-fault s at had text TooLong (UnknownItem p) (ys, q, spells2, many) (xs, r, spells, few, some, none, place) =
+one-error s at had text TooLong (UnknownItem p) (ys, q, spells2, many) (xs, r, spells, few, some, none, place) =
     absurd (omega (arith, few, many, no_fewer s q r xs ys (goes_on s text xs r spells none ys q spells2)))
-one-fault s at had text TooLong TooLong h h2 = refl
+one-error s at had text TooLong TooLong h h2 = refl
 
 pub one-format : (s : Syntax) (text : List ℕ) (first other : Result (List Item) FormatError)
     → ((items : List Item) → Spells s text items [] → length items ≤ 64 → first ≡ Ok items)
     → ((items : List Item) → Spells s text items [] → length items ≤ 64 → other ≡ Ok items)
     → IfOk first (λ items. Spells s text items [] × (length items ≤ 64)) → IfOk other (λ items. Spells s text items [] × (length items ≤ 64))
-    → IfErr first (IsFaultOf s 0 0 text) → IfErr other (IsFaultOf s 0 0 text) → first ≡ other
+    → IfErr first (IsFormatError s 0 0 text) → IfErr other (IsFormatError s 0 0 text) → first ≡ other
 one-format s text (Ok items) other every every2 value value2 error error2 = sym (every2 items value.0 value.1)
 one-format s text (Err e) (Ok items) every every2 value value2 error error2 = every items value2.0 value2.1
-one-format s text (Err e) (Err f) every every2 value value2 error error2 = ap Err (one-fault s 0 0 text e f error error2)
+one-format s text (Err e) (Err f) every every2 value value2 error error2 = ap Err (one-error s 0 0 text e f error error2)

@@ -6,49 +6,45 @@ use Rattle.cal_time.specs.ComponentError.{FailsWith}
 use Rattle.cal_time.specs.declared.error.ComponentRange.{ComponentRange}
 use Rattle.cal_text.specs.Parsing.{HasError, component_of}
 use Rattle.cal_text.specs.declared.error.ParseError.{ParseError}
-use Rattle.cal_text.specs.Shape.{Shape}
-use Rattle.cal_text.proofs.Positions.{IsShapeOf}
 use Rattle.cal_text.proofs.Results.{one, not_ok}
 
 -- ---- one of several components
 abbrev For : ComponentRange → Type 0 → ComponentRange → Type 0
 For a A why = (why ≡ a) × A
 
--- An error of the result for one of these reasons is a fault, and each fault is an error of the
--- result.
-pub record AreFaults {V : Type 0} (r : Result V ComponentRange) (Reason Fault : ComponentRange → Type 0) : Type 0 where
-  pub found : (why : ComponentRange) → FailsWith why r → Reason why → Fault why
-  pub back : (why : ComponentRange) → Fault why → FailsWith why r
+-- An error of the result for one of these reasons is one of these errors, and each of them is an
+-- error of the result.
+pub record AreErrors {V : Type 0} (r : Result V ComponentRange) (Reason IsError : ComponentRange → Type 0) : Type 0 where
+  pub found : (why : ComponentRange) → FailsWith why r → Reason why → IsError why
+  pub back : (why : ComponentRange) → IsError why → FailsWith why r
 
-pub last : {V : Type 0} (r : Result V ComponentRange) (a : ComponentRange) (A : Type 0) → FailsWith a r ↔ A → AreFaults r (λ why. why ≡ a) (For a A)
+pub last : {V : Type 0} (r : Result V ComponentRange) (a : ComponentRange) (A : Type 0) → FailsWith a r ↔ A → AreErrors r (λ why. why ≡ a) (For a A)
 last r a A is = record {
   found = λ why h e. (e, is.0 (subst (λ w. FailsWith w r) e h));
-  back = λ why fault. subst (λ w. FailsWith w r) (sym fault.0) (is.1 fault.1);
+  back = λ why error. subst (λ w. FailsWith w r) (sym error.0) (is.1 error.1);
 }
 
 pub more : {V : Type 0} {R P : ComponentRange → Type 0} (r : Result V ComponentRange) (a : ComponentRange) (A : Type 0) → FailsWith a r ↔ A
-    → AreFaults r R P → AreFaults r (λ why. (why ≡ a) ⊎ R why) (λ why. For a A why ⊎ P why)
+    → AreErrors r R P → AreErrors r (λ why. (why ≡ a) ⊎ R why) (λ why. For a A why ⊎ P why)
 more {V} {R} {P} r a A is others = record {
   found = λ why h reason. elim reason as (λ _. For a A why ⊎ P why) [ inl e ↦ inl ((last r a A is).found why h e) | inr e ↦ inr (others.found why h e) ];
-  back = λ why fault. elim fault as (λ _. FailsWith why r) [ inl x ↦ (last r a A is).back why x | inr x ↦ others.back why x ];
+  back = λ why error. elim error as (λ _. FailsWith why r) [ inl x ↦ (last r a A is).back why x | inr x ↦ others.back why x ];
 }
 
-pub all : {V : Type 0} {R P : ComponentRange → Type 0} (r : Result V ComponentRange) → AreFaults r R P → IfErr r R → (why : ComponentRange) → FailsWith why r ↔ P why
-all (Ok v) faults reason why = (λ h. absurd h, λ fault. faults.back why fault)
-all {V} {R} (Err e) faults reason why = (λ h. faults.found why h (subst R h reason), λ fault. faults.back why fault)
+pub all : {V : Type 0} {R P : ComponentRange → Type 0} (r : Result V ComponentRange) → AreErrors r R P → IfErr r R → (why : ComponentRange) → FailsWith why r ↔ P why
+all (Ok v) errors reason why = (λ h. absurd h, λ error. errors.back why error)
+all {V} {R} (Err e) errors reason why = (λ h. errors.found why h (subst R h reason), λ error. errors.back why error)
+
+-- ---- two parts: the errors of the first, and those of the second if the first has a value
+pub sooner : {X P Q Value : Type 0} → ¬ Value → X ↔ P → X ↔ (P ⊎ (Value × Q))
+sooner {X} none is = (λ x. inl (is.0 x), λ h. elim h as (λ _. X) [ inl p ↦ is.1 p | inr q ↦ absurd (none q.0) ])
+
+pub later : {X P Q Value : Type 0} → (X → Value) → ⊥ ↔ P → X ↔ Q → X ↔ (P ⊎ (Value × Q))
+later {X} value never is = (λ x. inr (value x, is.0 x), λ h. elim h as (λ _. X) [ inl p ↦ absurd (never.1 p) | inr q ↦ is.1 q.1 ])
 
 -- ---- a text has at most one form, so it has the errors of this form only
 abbrev pub IsOnly : {F : Type 0} → (List ℕ → F → Type 0) → List ℕ → F → Type 0
 IsOnly {F} Has text form = (other : F) → Has text other → ◌≡◌ {A = Result F ℕ} (Ok form) (Ok other)
-
--- the same of the form of a shape
-pub one_only : {F : Type 0} (Has : List ℕ → F → Type 0) (f : Shape) (text : List ℕ) (form : F) → IsShapeOf Has f → Has text form → IsOnly Has text form
-one_only Has f text form shape has other h = ap Ok (shape.one text form other has h)
-
--- A value of the text has the form of the text.
-pub of_only : {F V : Type 0} (Has : List ℕ → F → Type 0) (f : Shape) (Of : F → V → Type 0) (text : List ℕ) (form : F) (v : V) → IsShapeOf Has f → Has text form
-    → (other : F) × Has text other × Of other v → Of form v
-of_only Has f Of text form v shape has h = subst (λ x. Of x v) (shape.one text h.0 form h.1 has) h.2
 
 only : {F : Type 0} (Has : List ℕ → F → Type 0) (Of : F → ComponentRange → Type 0) (text : List ℕ) (form : F) (why : ComponentRange)
     → IsOnly Has text form → HasError Has Of text why → Of form why
