@@ -2,10 +2,11 @@
 use Rattle.std.proofs.Common.{◌≡◌, ℕ, ◌≤◌, ◌<◌, sym, ap, ◌∙◌, subst, arith, inl, inr, w32, FitsSigned}
 use Rattle.std.proofs.lemmas.Int.{ints, by_lt_z}
 use Rattle.std.proofs.lemmas.Bool.{cases_lt}
-use Rattle.std.specs.Prelude.{Bool, true, false, Option, Some, None, ℤ, pos, negsuc, neg_ℤ, ◌+ℤ◌, ◌-ℤ◌, ◌*ℤ◌, ◌≤ℤ◌, ◌<ℤ◌, IfSome}
+use Rattle.std.specs.Prelude.{◌≢◌, Bool, true, false, Result, Ok, Err, Option, Some, None, ℤ, pos, negsuc, neg_ℤ, ◌+ℤ◌, ◌-ℤ◌, ◌*ℤ◌, ◌≤ℤ◌, ◌<ℤ◌, IfSome}
 use Rattle.cal_time.specs.Date.{last_day, IsDate, julian_day_at}
+use Rattle.cal_schedule.specs.declared.period_error.PeriodError.{PeriodError}
 use Rattle.cal_schedule.specs.Months.{month_number_at, IsMonthsLater}
-use Rattle.cal_schedule.specs.Period.{date_period, days_of, months_of, AgreeInSign, IsDaysLater, IsOneSign, Parts}
+use Rattle.cal_schedule.specs.Period.{date_period, days_of, months_of, AgreeInSign, IsDateAfter, IsDaysLater, IsOneSign, Parts}
 use Rattle.cal_schedule.proofs.MonthMoves.{month_numbers-rise, one_later, IsMonthNumber-date}
 use Rattle.cal_schedule.proofs.Untils.{no_months}
 
@@ -107,3 +108,23 @@ until_sign a b y m d forward backward =
 pub once : (z : ℤ) → pos 1 *ℤ z ≡ z
 once (pos n) = omega (arith, ints)
 once (negsuc n) = omega (arith, ints)
+
+-- a number is 0 or not
+pub zero_or_not : (z : ℤ) (A : Type 0) → (z ≡ pos 0 → A) → (z ≢ pos 0 → A) → A
+zero_or_not z A zero other = by_lt_z z (pos 0) (λ less. other (λ e. absurd (omega (arith, ints, e, less)))) (λ least. by_lt_z (pos 0) z (λ more. other (λ e. absurd (omega (arith, ints, e, more)))) (λ most. zero (omega (arith, ints))))
+
+-- one answer
+abbrev IsError : Result ℕ PeriodError → Type 0
+IsError (Ok n) = ⊥
+IsError (Err e) = Unit {0}
+
+no_date : (m : ℕ) (e : PeriodError) → Err e ≡ Ok m → ⊥
+no_date m e f = subst IsError f tt
+
+pub one_date_after : (n : ℕ) (months days exact : ℤ) (a b : Result ℕ PeriodError) → IsDateAfter n months days exact a → IsDateAfter n months days exact b → a ≡ b
+one_date_after n months days exact (Ok x) b h k = sym (k.value h.is.0 x h.is.1 h.is.2)
+one_date_after n months days exact a (Ok y) h k = h.value k.is.0 y k.is.1 k.is.2
+one_date_after n months days exact (Err e) (Err f) h k =
+    zero_or_not exact (Err e ≡ Err f)
+    (λ zero. h.none zero (λ m inside later. no_date m e (h.value zero m inside later)) ∙ sym (k.none zero (λ m inside later. no_date m f (k.value zero m inside later))))
+    (λ other. h.no_clock other ∙ sym (k.no_clock other))

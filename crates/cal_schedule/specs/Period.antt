@@ -1,6 +1,6 @@
 -- Periods: how much later something is by the calendar and by the clock (ISO 8601, duration by its
 -- components).
-use Rattle.std.specs.Prelude.{◌≡◌, ◌≢◌, ◌⊎◌, ℕ, ℤ, pos, ◌+ℤ◌, ◌*ℤ◌, ◌≤ℤ◌, Result, Ok, Err}
+use Rattle.std.specs.Prelude.{◌≡◌, ◌≢◌, ◌⊎◌, ℕ, ℤ, pos, ◌+ℤ◌, ◌*ℤ◌, ◌≤ℤ◌, Result, Ok, Err, IfOk}
 use Rattle.cal_time.specs.Date.{IsDate}
 use Rattle.cal_schedule.specs.declared.period_error.PeriodError.{PeriodError}
 use Rattle.cal_schedule.specs.declared.period_error.PeriodError.TheVariants.{HasDuration, OutOfRange}
@@ -56,3 +56,4 @@ pub record IsDateAfter (n : ℕ) (months days exact : ℤ) (r : Result ℕ Perio
   pub no_clock : exact ≢ pos 0 → r ≡ Err HasDuration
   pub value : exact ≡ pos 0 → (m : ℕ) → IsDate m → IsDaysLater n months days m → r ≡ Ok m
   pub none : exact ≡ pos 0 → ((m : ℕ) → IsDate m → ¬ IsDaysLater n months days m) → r ≡ Err OutOfRange
+  pub is : IfOk r (λ m. (exact ≡ pos 0) × IsDate m × IsDaysLater n months days m)

@@ -1,9 +1,11 @@
 //! Laws of several calls: of months here, and of rules and working days in their own modules.
-ghost use Rattle.std.specs.Prelude.{◌≡◌, ◌<◌, ◌≤◌, pos, ◌+ℤ◌, Some, IfSome, IsSomeAnd};
+ghost use Rattle.std.specs.Prelude.{◌≡◌, ◌<◌, ◌≤◌, ℕ, Result, pos, ◌+ℤ◌, Some, IfSome, IsSomeAnd};
 ghost use Rattle.cal_time.specs.Date.{day_of_month_at};
 ghost use Rattle.cal_schedule.specs.Months.{month_number_at};
+ghost use Rattle.cal_schedule.specs.Period.{days_of, months_of, IsDateAfter};
+ghost use Rattle.cal_schedule.specs.declared.period_error.PeriodError.{PeriodError};
 
-use crate::{checked_add_months, months_until};
+use crate::{Period, checked_add_months, months_until};
 use cal_time::Date;
 
 pub mod rules;
@@ -60,4 +62,13 @@ pub fn months_round_trip(date: Date, months: i32) -> Option<Date>
     let negative = months.checked_neg()?;
     let back = checked_add_months(there, negative)?;
     Some(back)
+}
+
+/// Proves that a period leads from a date to one result.
+pub fn one_date_after(date: Date, period: Period)
+    ensures { (a b : Result ℕ PeriodError)
+        → IsDateAfter date (months_of period) (days_of period) period.exact a
+        → IsDateAfter date (months_of period) (days_of period) period.exact b → a ≡ b }
+{
+    let _ = (date, period);
 }

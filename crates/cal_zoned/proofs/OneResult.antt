@@ -1,17 +1,20 @@
 -- One result.
-use Rattle.std.proofs.Common.{◌≡◌, sym, ap, ◌∙◌, subst}
-use Rattle.std.specs.Prelude.{ℤ, pos, ◌+ℤ◌, Result, Ok, Err}
-use Rattle.cal_datetime.specs.DateTime.{IsDateTime, last_date_time}
-use Rattle.std.proofs.lemmas.Int.{by_lt_z}
+use Rattle.std.proofs.Common.{◌≡◌, ℕ, refl, sym, ap, ◌∙◌, subst, arith}
+use Rattle.std.specs.Prelude.{ℤ, pos, ◌+ℤ◌, Option, Some, None, Result, Ok, Err, IfOk, IfSome}
+use Rattle.cal_datetime.specs.DateTime.{IsDateTime, date_at, last_date_time}
+use Rattle.std.proofs.lemmas.Int.{ints, by_lt_z}
 use Rattle.cal_zone.proofs.Orders.{not_less}
-use Rattle.cal_datetime.specs.OffsetDateTime.{instant}
-use Rattle.cal_zone.specs.Local.{IsLocalOf}
+use Rattle.cal_time.specs.Date.{IsDate}
+use Rattle.cal_schedule.specs.Period.{days_of, months_of, IsDaysLater, Parts}
+use Rattle.cal_schedule.proofs.Periods.{no_value, zero_or_not}
+use Rattle.cal_datetime.specs.OffsetDateTime.{LocalAndOffset, instant, unix_seconds}
+use Rattle.cal_zone.specs.Local.{IsLocalOf, Shows}
 use Rattle.cal_zone.specs.declared.local.Local.{Local}
 use Rattle.cal_zone.specs.declared.local.Local.TheVariants.{Single, Gap, Fold}
-use Rattle.cal_zone.specs.Timeline.{Timeline}
+use Rattle.cal_zone.specs.Timeline.{Timeline, offset_at}
 use Rattle.cal_zoned.specs.Zoned.{InZone, IsSeen, reading_at}
-use Rattle.cal_zoned.specs.Period.{IsMovedThen}
-use Rattle.cal_zoned.specs.Resolved.{IsResolved, IsMeant}
+use Rattle.cal_zoned.specs.Period.{IsExact, IsMovedThen, IsPeriodLater}
+use Rattle.cal_zoned.specs.Resolved.{IsKept, IsResolved, IsMeant}
 use Rattle.cal_zone.specs.declared.policy.Policy.{Policy}
 use Rattle.cal_zone.specs.declared.policy.Policy.TheVariants as policy
 use Rattle.cal_zone.specs.declared.local_time_error.LocalTimeError.{LocalTimeError}
@@ -83,3 +86,45 @@ moved_then p zone reading exact m r resolved seen =
       later = λ n e. subst (SeenAt zone exact r) e own;
       error = λ e f. absurd (subst IsFine f tt);
     }
+
+pub if_ok : {A : Type 0} (r : Result InZone LocalTimeError) → A → IfOk r (λ _. A)
+if_ok (Ok m) a = a
+if_ok (Err e) a = tt
+
+-- ---- one result of a period
+moved_then-one : (p : Policy) (zone : Timeline) (reading exact : ℤ) (a b : Result InZone LocalTimeError) → ((r : ℤ) (x y : Local) → IsLocalOf zone r x → IsLocalOf zone r y → x ≡ y)
+    → IsMovedThen p zone reading exact a → IsMovedThen p zone reading exact b → a ≡ b
+moved_then-one p zone reading exact a b one h k = by_middle h.middle refl (resolved-one p zone reading k.middle h.middle one k.resolved h.resolved)
+  where
+    by_middle : (x : Result InZone LocalTimeError) → h.middle ≡ x → k.middle ≡ x → a ≡ b
+    by_middle (Ok m) e f = seen-one zone _ a b (h.later m e) (k.later m f)
+    by_middle (Err w) e f = h.error w e ∙ sym (k.error w f)
+
+pub period_later-one : (p : Policy) (m : InZone) (period : Parts) (a b : Result InZone LocalTimeError) → ((r : ℤ) (x y : Local) → IsLocalOf m.zone r x → IsLocalOf m.zone r y → x ≡ y)
+    → (found : Option ℕ) → ((n : ℕ) → IsDate n → IsDaysLater (date_at m.moment.local) (months_of period) (days_of period) n → found ≡ Some n)
+    → IfSome found (λ n. IsDate n × IsDaysLater (date_at m.moment.local) (months_of period) (days_of period) n)
+    → IsPeriodLater p m period a → IsPeriodLater p m period b → a ≡ b
+period_later-one p m period a b one found every value h k =
+    zero_or_not (months_of period) (a ≡ b)
+    (λ zero. zero_or_not (days_of period) (a ≡ b)
+    (λ none. seen-one m.zone _ a b (h.exact (zero, none)) (k.exact (zero, none)))
+    (λ some. clock found every value (λ e. some e.1)))
+    (λ some. clock found every value (λ e. some e.0))
+  where
+    clock : (found : Option ℕ) → ((n : ℕ) → IsDate n → IsDaysLater (date_at m.moment.local) (months_of period) (days_of period) n → found ≡ Some n)
+        → IfSome found (λ n. IsDate n × IsDaysLater (date_at m.moment.local) (months_of period) (days_of period) n)
+        → ¬ IsExact period → a ≡ b
+    clock None every value calendar = h.none calendar (λ n i j. no_value n (every n i j)) ∙ sym (k.none calendar (λ n i j. no_value n (every n i j)))
+    clock (Some n) every value calendar = moved_then-one p m.zone _ period.exact a b one (h.moved calendar n value.0 value.1) (k.moved calendar n value.0 value.1)
+
+-- ---- one result of another date or time
+pub kept-one : (p : Policy) (m : InZone) (reading : ℤ) (a b : Result InZone LocalTimeError) → ((r : ℤ) (x y : Local) → IsLocalOf m.zone r x → IsLocalOf m.zone r y → x ≡ y)
+    → IsKept p m reading a → IsKept p m reading b → a ≡ b
+kept-one p m reading a b one h k =
+    let own : LocalAndOffset = record { local = reading; offset = m.moment.offset } in
+    equal_or_not m.moment.offset (offset_at m.zone (unix_seconds (instant own))) (a ≡ b)
+    (λ e. let shows : Shows m.zone reading own = record { same = refl; offset = e } in h.kept shows ∙ sym (k.kept shows))
+    (λ other. resolved-one p m.zone reading a b one (h.moved (λ shows. other shows.offset)) (k.moved (λ shows. other shows.offset)))
+  where
+    equal_or_not : (x y : ℤ) (A : Type 0) → (x ≡ y → A) → ((x ≡ y → ⊥) → A) → A
+    equal_or_not x y A same other = by_lt_z x y (λ less. other (λ e. absurd (omega (arith, ints, e, less)))) (λ least. by_lt_z y x (λ more. other (λ e. absurd (omega (arith, ints, e, more)))) (λ most. same (omega (arith, ints))))

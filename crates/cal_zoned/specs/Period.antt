@@ -1,7 +1,7 @@
 -- A period after a date-time: the months and then the days move the date, and then the exact part
 -- is added. In a zone the clock keeps its reading, which is resolved once, and the exact part moves
 -- the instant.
-use Rattle.std.specs.Prelude.{ℕ, ℤ, pos, ◌≡◌, ◌+ℤ◌, Result, Ok, Err}
+use Rattle.std.specs.Prelude.{ℕ, ℤ, pos, ◌≡◌, ◌+ℤ◌, Result, Ok, Err, IfOk}
 use Rattle.cal_time.specs.Date.{IsDate}
 use Rattle.cal_datetime.specs.DateTime.{date_at, with_date}
 use Rattle.cal_datetime.specs.OffsetDateTime.{instant}
@@ -41,3 +41,4 @@ pub record IsPeriodLater (p : Policy) (m : InZone) (period : Parts) (r : Result 
   pub none :
       ¬ IsExact period → ((n : ℕ) → IsDate n → ¬ IsDaysLater (date_at m.moment.local) (months_of period) (days_of period) n)
       → r ≡ Err OutOfRange
+  pub is : ¬ IsExact period → IfOk r (λ _. (n : ℕ) × IsDate n × IsDaysLater (date_at m.moment.local) (months_of period) (days_of period) n)

@@ -9,7 +9,6 @@ use Rattle.cal_zone.specs.declared.policy.Policy.{Policy}
 use Rattle.cal_zone.specs.declared.policy.Policy.TheVariants as policy
 use Rattle.cal_zone.specs.Local.{IsLocalOf, Shows}
 use Rattle.cal_zone.specs.Timeline.{Timeline}
-use Rattle.cal_datetime.specs.OffsetDateTime.{LocalAndOffset}
 use Rattle.cal_zoned.specs.Zoned.{InZone, IsSeen}
 
 -- A reading that clocks show once is that instant. In a gap it is the instant of the reading at the

@@ -3,9 +3,12 @@ ghost use Rattle.std.specs.Prelude.{◌≡◌, ℤ, Option, Result};
 ghost use Rattle.cal_zone.specs.declared.local_time_error.LocalTimeError.{LocalTimeError};
 ghost use Rattle.cal_zone.specs.declared.policy.Policy.{Policy};
 ghost use Rattle.cal_zoned.specs.Day.{IsStart};
-ghost use Rattle.cal_zoned.specs.Resolved.{IsResolved};
+ghost use Rattle.cal_zoned.specs.Period.{IsPeriodLater};
+ghost use Rattle.cal_zoned.specs.Resolved.{IsKept, IsResolved};
 ghost use Rattle.cal_zoned.specs.Zoned.{InZone};
 
+use crate::ZonedDateTime;
+use cal_schedule::{Period, date_after};
 use cal_zone::Zone;
 use cal_zone::laws::one_local;
 
@@ -23,4 +26,21 @@ pub fn one_start(zone: &Zone<'_>)
         → IsStart zone.now reading a → IsStart zone.now reading b → a ≡ b }
 {
     one_local(zone);
+}
+
+/// Proves that another reading means one result.
+pub fn one_kept(moment: &ZonedDateTime<'_>)
+    ensures { (p : Policy) (reading : ℤ) (a b : Result InZone LocalTimeError)
+        → IsKept p moment.now reading a → IsKept p moment.now reading b → a ≡ b }
+{
+    one_local(moment.zone());
+}
+
+/// Proves that a period leads to one result.
+pub fn one_period_later(moment: &ZonedDateTime<'_>, period: Period)
+    ensures { (p : Policy) (a b : Result InZone LocalTimeError)
+        → IsPeriodLater p moment.now period a → IsPeriodLater p moment.now period b → a ≡ b }
+{
+    one_local(moment.zone());
+    let _ = date_after(moment.date(), period);
 }

@@ -1,5 +1,5 @@
 //! Date-times in a zone with another date, another time or a period later.
-ghost use Rattle.std.specs.Prelude.{◌≡◌, ◌↔◌, ℕ, pos, ◌+ℤ◌, Err, IsTrue};
+ghost use Rattle.std.specs.Prelude.{◌≡◌, ◌↔◌, ℕ, pos, ◌+ℤ◌, Err, IfOk, IsTrue};
 ghost use Rattle.cal_time.specs.Date.{IsDate};
 ghost use Rattle.cal_datetime.specs.DateTime.{date_at, with_date, with_time};
 ghost use Rattle.cal_schedule.specs.Period.{days_of, months_of, IsDaysLater};
@@ -115,6 +115,8 @@ impl<'z> ZonedDateTime<'z> {
         ensures none { ((n : ℕ) → IsDate n
             → ¬ IsDaysLater (date_at self.now.moment.local) (months_of period) (days_of period) n)
             → result ≡ Err OutOfRange }
+        ensures is { IfOk result (λ _. (n : ℕ) × IsDate n
+            × IsDaysLater (date_at self.now.moment.local) (months_of period) (days_of period) n) }
     {
         match date_after(self.date(), period) {
             Some(date) => {

@@ -1,6 +1,5 @@
-use Rattle.std.proofs.Common.{◌≡◌, ◌∙◌, ap, sym, subst, ℕ, ℤ, ◌+ℤ◌}
-use Rattle.std.specs.Prelude.{IfSome}
-use Rattle.cal_datetime.specs.DateTime.{IsDateTime, date_at, date_time, time_at, with_date}
+use Rattle.std.proofs.Common.{◌∙◌, ap, sym, subst, ℕ}
+use Rattle.cal_datetime.specs.DateTime.{date_at, date_time, time_at, with_date}
 use Rattle.cal_schedule.specs.Period.{days_of, months_of, IsDaysLater}
 use Rattle.cal_schedule.proofs.Periods.{no_value, one_days_later}
 use Rattle.cal_zoned.proofs.Periods.{later_of, is_later}

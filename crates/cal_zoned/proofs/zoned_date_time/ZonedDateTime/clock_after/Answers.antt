@@ -3,6 +3,7 @@ use Rattle.cal_datetime.specs.DateTime.{date_at, time_at, date_time, with_date}
 use Rattle.cal_schedule.specs.Period.{days_of, months_of, IsDaysLater}
 use Rattle.cal_schedule.proofs.Periods.{no_value, one_days_later}
 use Rattle.cal_zoned.specs.Period.{IsMovedThen}
+use Rattle.cal_zoned.proofs.OneResult.{if_ok}
 use Rattle.cal_zoned.proofs.zoned_date_time.ZonedDateTime.clock_after.Goals as goal
 
 pub returns-in-Some-clause-moved : goal.returns-in-Some-clause-moved
@@ -27,3 +28,10 @@ returns-in-Some-clause-none c none =
 pub returns-in-None-clause-moved : goal.returns-in-None-clause-moved
 returns-in-None-clause-moved c n h later =
     absurd (no_value n (c.in-None.ensures.every n h (subst (λ (k : ℕ). IsDaysLater k (months_of c.args.period) (days_of c.args.period) n) (sym c.date.ensures) later)))
+
+pub returns-in-Some-clause-is : goal.returns-in-Some-clause-is
+returns-in-Some-clause-is c =
+    let local = c.args.self.now.moment.local in
+    let own : IsDaysLater (date_at local) (months_of c.args.period) (days_of c.args.period) c.in-Some.date =
+    subst (λ (k : ℕ). IsDaysLater k (months_of c.args.period) (days_of c.args.period) c.in-Some.date) c.date.ensures c.in-Some.ensures.value.1 in
+    if_ok c.at_then.result (c.in-Some.date, c.in-Some.ensures.value.0, own)
