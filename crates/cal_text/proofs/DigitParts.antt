@@ -1,17 +1,12 @@
--- Digits as parts of a shape.
-use Rattle.std.proofs.Common.{◌≡◌, ℕ, zero, suc, ◌+◌, ◌*◌, ◌<◌, ◌≤◌, ◌^◌, List, [], ◌∷◌, ◌++◌, length, refl, sym, ap, subst, ◌∙◌, arith, inl, inr, lit≤}
+-- Digits in a text.
+use Rattle.std.proofs.Common.{◌≡◌, ℕ, zero, suc, ◌+◌, ◌*◌, ◌<◌, ◌≤◌, List, [], ◌∷◌, ◌++◌, length, refl, sym, ap, ◌∙◌, arith, inl, inr}
 use Rattle.std.specs.Char.{digit_value}
-use Rattle.std.specs.Str.Parse.{AllDigits, digits_value, digits_value_after}
+use Rattle.std.specs.Str.Parse.{AllDigits, digits_value_after}
 use Rattle.std.proofs.lemmas.Bool.{cases_lt}
-use Rattle.std.proofs.lemmas.Int.Digits.{digits_value-lt}
 use Rattle.std.proofs.lemmas.Str.{digit_value_digit}
 use Rattle.std.proofs.lemmas.Str.Parse.{digit_from_value}
-use Rattle.cal_time.specs.DateText.{digits_at_least}
-use Rattle.cal_time.proofs.DistinctTexts.{digits_at_least-digits, digits_at_least-value}
 use Rattle.cal_text.specs.Shape.{Shape, unmatched_bytes, Digits, UpTo, ParsesDigits}
-use Rattle.cal_text.proofs.DigitTexts.{below-nine, digits-printed, digits_at_least-length}
-use Rattle.cal_text.proofs.Parts.{IsPart, Splits, HasAfter, BeginsOutside, unmatched_bytes-outside, same_pair, renamed}
-use Rattle.cal_text.proofs.Positions.{IsShapeOf}
+use Rattle.cal_text.proofs.Parts.{BeginsOutside, unmatched_bytes-outside}
 use Rattle.cal_text.proofs.Stops.{IsIn, in_or_out, unmatched_bytes-in, unmatched_bytes-out, unmatched_bytes-end, unmatched_bytes-branch_in, unmatched_bytes-branch_out, unmatched_bytes-branch_end}
 
 pub is_digit : (x : ℕ) → digit_value x < 10 → IsIn 48 9 x
@@ -34,23 +29,6 @@ exact-each (suc k) f [] rest h = absurd (omega (arith, h.1))
 exact-each (suc k) f (x ∷ xs) rest h =
     unmatched_bytes-in 48 9 (Digits k f) x (xs ++ rest) (is_digit x h.0.0) ∙ exact-each k f xs rest (h.0.1, omega (arith, h.1))
 
-exact-only : (k : ℕ) (f : Shape) (bytes : List ℕ) → unmatched_bytes (Digits k f) bytes ≡ 0 → Splits (IsExact k) (λ ds. ds) f bytes
-exact-only zero f bytes e = record { value = []; rest = bytes; valid = (tt, refl); bytes_are = refl; next = e }
-exact-only (suc k) f [] e = absurd (omega (arith, e, unmatched_bytes-end 48 9 (Digits k f)))
-exact-only (suc k) f (x ∷ xs) e =
-    elim (in_or_out 48 9 x) as (λ _. Splits (IsExact (suc k)) (λ ds. ds) f (x ∷ xs)) [
-      | inl here ↦
-          let a = exact-only k f xs (sym (unmatched_bytes-in 48 9 (Digits k f) x xs here) ∙ e) in
-          record {
-            value = x ∷ a.value;
-            rest = a.rest;
-            valid = ((digit_is x here, a.valid.0), ap (λ n. suc n) a.valid.1);
-            bytes_are = ap (λ ds. x ∷ ds) a.bytes_are;
-            next = a.next;
-          }
-      | inr out ↦ absurd (omega (arith, e, unmatched_bytes-out 48 9 (Digits k f) x xs out))
-    ]
-
 pub exact-one : (k : ℕ) (ds es r s : List ℕ) → length ds ≡ k → length es ≡ k → ds ++ r ≡ es ++ s → (ds ≡ es) × (r ≡ s)
 exact-one k [] [] r s a b e = (refl, e)
 exact-one k [] (y ∷ ys) r s a b e = absurd (omega (arith, a, b))
@@ -62,38 +40,9 @@ exact-one (suc k) (x ∷ xs) (y ∷ ys) r s a b e =
     let found = exact-one k xs ys r s (omega (arith, a)) (omega (arith, b)) next in
     (ap (λ n. n ∷ xs) first ∙ ap (λ ds. y ∷ ds) found.0, found.1)
 
-exact_part : (k : ℕ) → IsPart (IsExact k) (λ ds. ds) (Digits k)
-exact_part k = record { each = exact-each k; only = exact-only k; one = λ ds es r s a b e. exact-one k ds es r s a.1 b.1 e }
-
 -- those that a scanner read
 pub reads-scans : (k n : ℕ) (f : Shape) (old new : List ℕ) → ParsesDigits old new k n → unmatched_bytes (Digits k f) old ≡ unmatched_bytes f new
 reads-scans k n f old new h = ap (unmatched_bytes (Digits k f)) h.bytes_are ∙ exact-each k f h.digits new (h.all, h.count_is)
-
--- as a number
-pub number_part : (k : ℕ) → 1 ≤ k → k ≤ 9 → IsPart (λ n. (n < 10 ^ k) × (n < 10 ^ 9)) (digits_at_least k) (Digits k)
-number_part k some few = renamed _ _ _ (λ n. (n < 10 ^ k) × (n < 10 ^ 9)) (digits_at_least k) (exact_part k) (digits_value 10)
-    (λ ds h. (
-      (ap-below ds h, below ds h),
-      sym (ap (λ width. digits_at_least width (digits_value 10 ds)) (sym h.1) ∙ digits-printed ds h.0 (omega (arith, h.1)) (omega (arith, h.1))),
-    ))
-    (λ n h. record {
-      value = digits_at_least k n;
-      valid = (digits_at_least-digits k n h.1, digits_at_least-length k n some h.0 h.1);
-      text_is = refl;
-      same = digits_at_least-value k n h.1;
-    })
-  where
-    ap-below : (ds : List ℕ) → IsExact k ds → digits_value 10 ds < 10 ^ k
-    ap-below ds h = subst (λ n. digits_value 10 ds < 10 ^ n) h.1 (digits_value-lt 10 ds h.0)
-
-    below : (ds : List ℕ) → IsExact k ds → digits_value 10 ds < 10 ^ 9
-    below ds h = below-nine ds (digits_value 10 ds) (omega (arith, h.1)) (digits_value-lt 10 ds h.0)
-
-abbrev pub IsTwo : ℕ → Type 0
-IsTwo n = (n < 100) × (n < 10 ^ 9)
-
-pub two_digits : IsPart IsTwo (digits_at_least 2) (Digits 2)
-two_digits = number_part 2 (lit≤ tt) (lit≤ tt)
 
 -- ---- k digits or more
 abbrev pub IsCount : ℕ → ℕ → List ℕ → Type 0
@@ -109,8 +58,12 @@ counted-each (suc k) m f [] rest h out = absurd (omega (arith, h.1))
 counted-each (suc k) m f (x ∷ xs) rest h out =
     unmatched_bytes-in 48 9 (Digits k (UpTo m f)) x (xs ++ rest) (is_digit x h.0.0) ∙ counted-each k m f xs rest (h.0.1, omega (arith, h.1), omega (arith, h.2)) out
 
-abbrev Counted : ℕ → ℕ → Shape → List ℕ → Type 0
-Counted k more f bytes = Splits (IsCount k more) (λ ds. ds) f bytes
+pub record Counted (k more : ℕ) (f : Shape) (bytes : List ℕ) : Type 0 where
+  pub value : List ℕ
+  pub rest : List ℕ
+  pub valid : IsCount k more value
+  pub bytes_are : bytes ≡ value ++ rest
+  pub next : unmatched_bytes f rest ≡ 0
 
 no_digits : (m : ℕ) (f : Shape) (bytes : List ℕ) → unmatched_bytes f bytes ≡ 0 → Counted 0 m f bytes
 no_digits m f bytes e = record { value = []; rest = bytes; valid = (tt, omega arith, omega arith); bytes_are = refl; next = e }
@@ -155,24 +108,6 @@ counted-one (x ∷ xs) (y ∷ ys) r s h k a b e =
     let next : xs ++ r ≡ ys ++ s = cc in
     let found = counted-one xs ys r s h.1 k.1 a b next in
     (ap (λ n. n ∷ xs) first ∙ ap (λ ds. y ∷ ds) found.0, found.1)
-
--- and then the rest of a text that does not begin with one
-pub counted : {W : Type 0} (k more : ℕ) (Has : List ℕ → W → Type 0) (f : Shape) → IsShapeOf Has f
-    → ((x : ℕ) (xs : List ℕ) (w : W) → IsIn 48 9 x → ¬ Has (x ∷ xs) w) → IsShapeOf (HasAfter (IsCount k more) (λ ds. ds) Has) (Digits k (UpTo more f))
-counted {W} k more Has f p apart = record {
-  each = λ bytes (v, h).
-      ap (unmatched_bytes (Digits k (UpTo more f))) h.bytes_are ∙ counted-each k more f v.0 h.rest h.valid (outside h.rest v.1 h.has) ∙ p.each h.rest (v.1, h.has);
-  only = λ bytes e.
-      let a = counted-only k more f bytes e in
-      let b = p.only a.rest a.next in
-      ((a.value, b.0), record { rest = a.rest; valid = a.valid; bytes_are = a.bytes_are; has = b.1 });
-  one = λ bytes v w a b.
-      let front = counted-one v.0 w.0 a.rest b.rest a.valid.0 b.valid.0 (outside a.rest v.1 a.has) (outside b.rest w.1 b.has) (sym a.bytes_are ∙ b.bytes_are) in
-      same_pair (List ℕ) W v w front.0 (p.one b.rest v.1 w.1 (subst (λ rest. Has rest v.1) front.1 a.has) b.has);
-}
-  where
-    outside : (rest : List ℕ) (w : W) → Has rest w → BeginsOutside 48 9 rest
-    outside rest w h x xs e here = apart x xs w here (subst (λ all. Has all w) e h)
 
 -- ---- digits of which one is not 0
 pub value-most : (n : ℕ) (ds : List ℕ) → n ≤ digits_value_after 10 n ds

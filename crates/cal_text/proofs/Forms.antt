@@ -235,3 +235,16 @@ whole {V} {part} {Has} {follows} p can = record {
       (a.value, subst (λ all. Has all a.value) (sym (at_end bytes a.front a.rest a.bytes_are (done_then a.rest a.next))) a.is);
   one = λ bytes v w a b. (p.one End v w bytes bytes [] [] can a b unmatched_bytes-done unmatched_bytes-done refl).0;
 }
+
+-- the same with other values
+pub renamed : {V W : Type 0} (Has : List ℕ → V → Type 0) (f : Shape) (Has' : List ℕ → W → Type 0) → IsShapeOf Has f → (into : V → W)
+    → ((bytes : List ℕ) (v : V) → Has bytes v → Has' bytes (into v))
+    → ((bytes : List ℕ) (w : W) → Has' bytes w → (v : V) × Has bytes v × (into v ≡ w)) → IsShapeOf Has' f
+renamed Has f Has' p into there here = record {
+  each = λ bytes (w, h). let v = here bytes w h in p.each bytes (v.0, v.1);
+  only = λ bytes e. let found = p.only bytes e in (into found.0, there bytes found.0 found.1);
+  one = λ bytes v w a b.
+      let first = here bytes v a in
+      let second = here bytes w b in
+      sym first.2 ∙ ap into (p.one bytes first.0 second.0 first.1 second.1) ∙ second.2;
+}

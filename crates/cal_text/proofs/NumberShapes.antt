@@ -8,27 +8,16 @@ use Rattle.std.proofs.lemmas.Fmt.{decimal-digits_value, decimal_digit, decimal_i
 use Rattle.std.proofs.lemmas.Int.Digits.{digits_value-lt}
 use Rattle.std.proofs.lemmas.Str.Parse.{IsNumeralModel, numerals_by_value, tells_digits}
 use Rattle.cal_text.specs.JulianForm.{IsJulianForm}
-use Rattle.cal_text.specs.Shape.{End, unmatched_bytes, Number, julian_day, ParsesMoreDigits}
+use Rattle.cal_text.specs.Shape.{Number, julian_day, ParsesMoreDigits}
 use Rattle.cal_text.proofs.DigitForms.{run}
 use Rattle.cal_text.proofs.DigitParts.{IsCount, digit_is, has_value, is_digit, value-most}
 use Rattle.cal_text.proofs.Forms.{IsForm, IsNothing, IsLed, IsEither, avoids, nothing, byte_from, led, both, either, retold, whole, put}
-use Rattle.cal_text.proofs.Parts.{done_then}
 use Rattle.cal_text.proofs.Positions.{IsShapeOf}
 use Rattle.cal_text.proofs.ReadDigits.{value-of}
-use Rattle.cal_text.proofs.Stops.{IsIn, unmatched_bytes-done}
+use Rattle.cal_text.proofs.Stops.{IsIn}
 
 own : IsNumeralModel (AllDigits 10) (digits_value 10)
 own = numerals_by_value _ tells_digits
-
--- ---- the end
-abbrev pub IsEnd : List ℕ → Unit {0} → Type 0
-IsEnd bytes u = bytes ≡ []
-
-pub end_shape : IsShapeOf IsEnd End
-end_shape = record { each = λ bytes (u, h). ap (unmatched_bytes End) h ∙ unmatched_bytes-done; only = λ bytes e. (tt, done_then bytes e); one = λ bytes v w a b. refl }
-
-pub not_end : (x : ℕ) (xs : List ℕ) (u : Unit {0}) → ¬ IsEnd (x ∷ xs) u
-not_end x xs u e = absurd (omega (arith, ap length e))
 
 -- ---- a number above 0
 abbrev pub IsAbove0 : ℕ → ℕ → Type 0

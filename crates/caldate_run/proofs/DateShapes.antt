@@ -1,132 +1,114 @@
 -- The shapes of dates with their parts in another order, and what a scanner read of one.
-use Rattle.std.proofs.Common.{◌≡◌, ◌↔◌, ℕ, suc, length, ◌<◌, ◌^◌, inl, inr, List, [], ◌∷◌, ◌++◌, refl, sym, ap, subst, ◌∙◌, arith, lit≤}
+use Rattle.std.proofs.Common.{◌≡◌, ◌↔◌, ◌⊎◌, ℕ, suc, length, ◌<◌, inl, inr, List, [], ◌∷◌, ◌++◌, refl, sym, ap, subst, ◌∙◌, arith, lit≤}
 use Rattle.cal_time.specs.DateText.{digits_at_least}
 use Rattle.cal_time.specs.declared.error.ComponentRange.{ComponentRange}
-use Rattle.cal_text.specs.Shape.{End, Branch, Byte, Digits, ParsesDigits, unmatched_bytes}
-use Rattle.cal_text.proofs.DigitParts.{number_part}
-use Rattle.cal_text.proofs.Parts.{IsPart, at_end, both, byte_part, last, retold}
+use Rattle.cal_text.specs.Shape.{End, Byte, Digits, ParsesDigits, unmatched_bytes}
+use Rattle.cal_text.proofs.DigitForms.{IsNumber, number, two}
+use Rattle.cal_text.proofs.Forms.{IsForm, IsLed, IsThen, IsEither, always, led, both, either, renamed, retold, whole, put}
+use Rattle.cal_text.proofs.Parts.{at_end}
 use Rattle.cal_text.proofs.Positions.{IsShapeOf, Stopped, stopped}
 use Rattle.cal_text.proofs.ReadDigits.{printed}
-use Rattle.cal_text.proofs.Stops.{IsIn, unmatched_bytes-branch_in, unmatched_bytes-branch_out, unmatched_bytes-in}
-use Rattle.caldate_run.specs.Readings.{HasDate, IsBasic, IsDateError, IsErrorIn, IsSeparator, IsYearLast, YearMonthDay, date_shape, from_separator, past_separator, year_last}
+use Rattle.caldate_run.specs.Readings.{HasDate, IsBasic, IsDateError, IsErrorIn, IsSeparator, IsYearLast, YearMonthDay, date_shape, year_last}
 use Rattle.caldate_run.specs.declared.reading.DateOrder.{DateOrder}
 use Rattle.caldate_run.specs.declared.reading.DateOrder.TheVariants.{Basic, DayFirst, MonthFirst}
 use Rattle.caldate_run.specs.declared.reading.Reading.TheVariants as reading
-use Rattle.caldate_run.proofs.ShapeBytes.{branch-first, from-first}
-
--- ---- numbers
-abbrev IsTwo : ℕ → Type 0
-IsTwo n = (n < 100) × (n < 10 ^ 9)
-
-abbrev IsFour : ℕ → Type 0
-IsFour n = (n < 10_000) × (n < 10 ^ 9)
-
-two_digits : IsPart IsTwo (digits_at_least 2) (Digits 2)
-two_digits = number_part 2 (lit≤ tt) (lit≤ tt)
-
-four_digits : IsPart IsFour (digits_at_least 4) (Digits 4)
-four_digits = number_part 4 (lit≤ tt) (lit≤ tt)
-
-two : (n : ℕ) → n < 100 → IsTwo n
-two n few = (few, omega (arith, few))
-
-four : (n : ℕ) → n < 10_000 → IsFour n
-four n few = (few, omega (arith, few))
 
 -- ---- eight digits
-abbrev IsRaw : List ℕ → ℕ × (ℕ × ℕ) → Type 0
-IsRaw bytes v = (IsFour v.0 × (IsTwo v.1.0 × IsTwo v.1.1)) × (bytes ≡ digits_at_least 4 v.0 ++ (digits_at_least 2 v.1.0 ++ digits_at_least 2 v.1.1))
-
-raw_shape : IsShapeOf IsRaw (Digits 8 End)
-raw_shape = last _ _ _ (both _ _ _ _ _ _ four_digits (both _ _ _ _ _ _ two_digits two_digits))
+four : IsForm (Digits 4) (IsNumber 4) always
+four = number 4 (lit≤ tt) (lit≤ tt)
 
 basic_shape : IsShapeOf IsBasic (Digits 8 End)
-basic_shape = retold IsRaw (Digits 8 End) IsBasic raw_shape (λ v. (v.0, v.1.0, v.1.1))
-    (λ bytes v h. record { fit = (h.0.0.0, h.0.1.0.0, h.0.1.1.0); bytes_are = h.1 })
-    (λ bytes w h. ((w.0, (w.1, w.2)), ((four w.0 h.fit.0, (two w.1 h.fit.1, two w.2 h.fit.2)), h.bytes_are), refl))
-
--- ---- a separator
-separator-each : (s : ℕ) (rest : List ℕ) → IsSeparator s → unmatched_bytes from_separator (s ∷ rest) ≡ unmatched_bytes (past_separator s) rest
-separator-each s rest (inl e) =
-    unmatched_bytes-branch_in 45 0 (past_separator 45) _ s rest (omega (arith, e), omega (arith, e)) ∙ ap (λ b. unmatched_bytes (past_separator b) rest) (sym e)
-separator-each s rest (inr (inl e)) =
-    unmatched_bytes-branch_out 45 0 (past_separator 45) _ s rest (λ here. omega (arith, e, here.1))
-    ∙ unmatched_bytes-branch_in 46 0 (past_separator 46) _ s rest (omega (arith, e), omega (arith, e)) ∙ ap (λ b. unmatched_bytes (past_separator b) rest) (sym e)
-separator-each s rest (inr (inr e)) =
-    unmatched_bytes-branch_out 45 0 (past_separator 45) _ s rest (λ here. omega (arith, e, here.1))
-    ∙ unmatched_bytes-branch_out 46 0 (past_separator 46) _ s rest (λ here. omega (arith, e, here.1))
-    ∙ unmatched_bytes-in 47 0 (past_separator 47) s rest (omega (arith, e), omega (arith, e)) ∙ ap (λ b. unmatched_bytes (past_separator b) rest) (sym e)
-
-record Separated (bytes : List ℕ) : Type 0 where
-  separator : ℕ
-  rest : List ℕ
-  is_separator : IsSeparator separator
-  bytes_are : bytes ≡ separator ∷ rest
-  next : unmatched_bytes (past_separator separator) rest ≡ 0
-
-separated : (b x : ℕ) (xs : List ℕ) → IsSeparator b → IsIn b 0 x × (unmatched_bytes (past_separator b) xs ≡ 0) → Separated (x ∷ xs)
-separated b x xs is h =
-    let same : x ≡ b = omega (arith, h.0.0, h.0.1) in
-    record { separator = b; rest = xs; is_separator = is; bytes_are = ap (λ y. y ∷ xs) same; next = h.1 }
-
-separator-only : (bytes : List ℕ) → unmatched_bytes from_separator bytes ≡ 0 → Separated bytes
-unfolding unmatched_bytes
-separator-only [] e = absurd (omega (arith, e))
-separator-only (x ∷ xs) e = elim (branch-first 45 0 (past_separator 45) (Branch 46 0 (past_separator 46) (Byte 47 (past_separator 47))) x xs e) as (λ _. Separated (x ∷ xs)) [
-  | inl hyphen ↦ separated 45 x xs (inl refl) hyphen
-  | inr other ↦ elim (branch-first 46 0 (past_separator 46) (Byte 47 (past_separator 47)) x xs other) as (λ _. Separated (x ∷ xs)) [
-    | inl point ↦ separated 46 x xs (inr (inl refl)) point
-    | inr slash ↦ separated 47 x xs (inr (inr refl)) (from-first 47 0 (past_separator 47) x xs slash)
-  ]
-]
-
-separator_one : (s t : ℕ) (r q : List ℕ) → s ∷ r ≡ t ∷ q → r ≡ q
-separator_one s t r q e = cc
+basic_shape =
+    whole
+    (retold IsBasic (both four (both two two)) (λ v. (v.0, v.1.0, v.1.1))
+    (λ bytes v h.
+    let t = h.second in
+    record { fit = (h.first.0, t.first.0, t.second.0); bytes_are = put h.bytes_are h.first.1 (put t.bytes_are t.first.1 t.second.1) })
+    (λ bytes v h.
+    let month = digits_at_least 2 v.1 in
+    let day = digits_at_least 2 v.2 in (
+      (v.0, (v.1, v.2)),
+      record {
+        front = digits_at_least 4 v.0;
+        back = month ++ day;
+        first = (h.fit.0, refl);
+        second = record { front = month; back = day; first = (h.fit.1, refl); second = (h.fit.2, refl); bytes_are = refl };
+        bytes_are = h.bytes_are;
+      },
+      refl,
+    )))
+    refl
 
 -- ---- parts with separators
-abbrev IsPast : ℕ → List ℕ → ℕ × (Unit {0} × ℕ) → Type 0
-IsPast s bytes v = (IsTwo v.0 × (Unit {0} × IsFour v.1.1)) × (bytes ≡ digits_at_least 2 v.0 ++ (s ∷ [] ++ digits_at_least 4 v.1.1))
+abbrev IsPast : ℕ → List ℕ → ℕ × ℕ → Type 0
+IsPast s = IsThen (IsNumber 2) (IsLed s (IsNumber 4))
 
-past_shape : (s : ℕ) → IsShapeOf (IsPast s) (past_separator s)
-past_shape s = last _ _ _ (both _ _ _ _ _ _ two_digits (both _ _ _ _ _ _ (byte_part s) four_digits))
+past : (s : ℕ) → IsForm (λ f. Digits 2 (Byte s (Digits 4 f))) (IsPast s) always
+past s = both two (led s four)
 
-year_last_shape : IsShapeOf (λ bytes (v : YearMonthDay). IsYearLast bytes v.0 v.1 v.2) year_last
-year_last_shape = record {
-  each = λ bytes (v, h).
-      let rest = digits_at_least 2 v.1 ++ h.separator ∷ digits_at_least 4 v.2 in
-      ap (unmatched_bytes year_last) h.bytes_are ∙ two_digits.each from_separator v.0 (h.separator ∷ rest) (two v.0 h.fit.0)
-      ∙ separator-each h.separator rest h.is_separator
-      ∙ (past_shape h.separator).each rest ((v.1, (tt, v.2)), ((two v.1 h.fit.1, (tt, four v.2 h.fit.2)), refl));
-  only = λ bytes e.
-      let a = two_digits.only from_separator bytes e in
-      let b = separator-only a.rest a.next in
-      let c = (past_shape b.separator).only b.rest b.next in (
-        (a.value, c.0.0, c.0.1.1),
-        record {
-          fit = (a.valid.0, c.1.0.0.0, c.1.0.1.1.0);
-          separator = b.separator;
-          is_separator = b.is_separator;
-          bytes_are = a.bytes_are ∙ ap (λ r. digits_at_least 2 a.value ++ r) (b.bytes_are ∙ ap (λ r. b.separator ∷ r) c.1.1);
-        },
-      );
-  one = λ bytes v w a b.
-      let first = two_digits.one v.0 w.0 _ _ (two v.0 a.fit.0) (two w.0 b.fit.0) (sym a.bytes_are ∙ b.bytes_are) in
-      let second = two_digits.one v.1 w.1 _ _ (two v.1 a.fit.1) (two w.1 b.fit.1) (separator_one _ _ _ _ first.1) in
-      let last = four_digits.one v.2 w.2 [] [] (four v.2 a.fit.2) (four w.2 b.fit.2) (ap (λ r. r ++ []) (separator_one _ _ _ _ second.1)) in
-      same v w first.0 second.0 last.0;
-}
+abbrev Raw : Type 0
+Raw = ℕ × ((ℕ × ℕ) ⊎ (ℕ × ℕ) ⊎ (ℕ × ℕ))
+
+abbrev IsRaw : List ℕ → Raw → Type 0
+IsRaw = IsThen (IsNumber 2) (IsEither (IsLed 45 (IsPast 45)) (IsEither (IsLed 46 (IsPast 46)) (IsLed 47 (IsPast 47))))
+
+into : Raw → YearMonthDay
+into (a, inl v) = (a, v.0, v.1)
+into (a, inr (inl v)) = (a, v.0, v.1)
+into (a, inr (inr v)) = (a, v.0, v.1)
+
+abbrev IsLast : List ℕ → YearMonthDay → Type 0
+IsLast bytes v = IsYearLast bytes v.0 v.1 v.2
+
+separated : (s a b y : ℕ) (bytes front back : List ℕ) → IsSeparator s → IsNumber 2 front a → IsLed s (IsPast s) back (b, y) → bytes ≡ front ++ back → IsYearLast bytes a b y
+separated s a b y bytes front back is first h e =
+    let t = h.1 in
+    record {
+      fit = (first.0, t.first.0, t.second.1.0);
+      separator = s;
+      is_separator = is;
+      bytes_are = put e first.1 (h.2 ∙ ap (λ r. s ∷ r) (put t.bytes_are t.first.1 (t.second.2 ∙ ap (λ r. s ∷ r) t.second.1.1)));
+    }
+
+there : (bytes : List ℕ) (v : Raw) → IsRaw bytes v → IsLast bytes (into v)
+unfolding into
+there bytes (a, inl v) h = separated 45 a v.0 v.1 bytes h.front h.back (inl refl) h.first h.second h.bytes_are
+there bytes (a, inr (inl v)) h = separated 46 a v.0 v.1 bytes h.front h.back (inr (inl refl)) h.first h.second h.bytes_are
+there bytes (a, inr (inr v)) h = separated 47 a v.0 v.1 bytes h.front h.back (inr (inr refl)) h.first h.second h.bytes_are
+
+here : (bytes : List ℕ) (v : YearMonthDay) → IsLast bytes v → (u : Raw) × IsRaw bytes u × (into u ≡ v)
+unfolding into
+here bytes v h = at h.separator h.is_separator h.bytes_are
   where
-    same : (v w : YearMonthDay) → v.0 ≡ w.0 → v.1 ≡ w.1 → v.2 ≡ w.2 → v ≡ w
-    same v w a b c =
-        ap (λ x. let p : YearMonthDay = (x, v.1, v.2) in p) a ∙ ap (λ x. let p : YearMonthDay = (w.0, x, v.2) in p) b ∙ ap (λ x. let p : YearMonthDay = (w.0, w.1, x) in p) c
+    Found : Type 0
+    Found = (u : Raw) × IsRaw bytes u × (into u ≡ v)
+
+    rest : ℕ → List ℕ
+    rest s = digits_at_least 2 v.1 ++ s ∷ digits_at_least 4 v.2
+
+    is_rest : (s : ℕ) → IsPast s (rest s) (v.1, v.2)
+    is_rest s =
+        record { front = digits_at_least 2 v.1; back = s ∷ digits_at_least 4 v.2; first = (h.fit.1, refl); second = (digits_at_least 4 v.2, (h.fit.2, refl), refl); bytes_are = refl }
+
+    at : (s : ℕ) → IsSeparator s → bytes ≡ digits_at_least 2 v.0 ++ s ∷ rest s → Found
+    at s (inl e) all =
+        let is = ap (λ x. digits_at_least 2 v.0 ++ x ∷ rest x) e in
+        ((v.0, inl (v.1, v.2)), record { front = digits_at_least 2 v.0; back = 45 ∷ rest 45; first = (h.fit.0, refl); second = (rest 45, is_rest 45, refl); bytes_are = all ∙ is }, refl)
+    at s (inr (inl e)) all =
+        let is = ap (λ x. digits_at_least 2 v.0 ++ x ∷ rest x) e in
+        ((v.0, inr (inl (v.1, v.2))), record { front = digits_at_least 2 v.0; back = 46 ∷ rest 46; first = (h.fit.0, refl); second = (rest 46, is_rest 46, refl); bytes_are = all ∙ is }, refl)
+    at s (inr (inr e)) all =
+        let is = ap (λ x. digits_at_least 2 v.0 ++ x ∷ rest x) e in
+        ((v.0, inr (inr (v.1, v.2))), record { front = digits_at_least 2 v.0; back = 47 ∷ rest 47; first = (h.fit.0, refl); second = (rest 47, is_rest 47, refl); bytes_are = all ∙ is }, refl)
+
+year_last_shape : IsShapeOf IsLast year_last
+year_last_shape = whole (retold IsLast (both two (either 45 0 (led 45 (past 45)) (either 46 0 (led 46 (past 46)) (led 47 (past 47))))) into there here) refl
 
 -- ---- the whole
 pub dated_shape : (order : DateOrder) → IsShapeOf (HasDate order) (date_shape order)
 dated_shape Basic = basic_shape
-dated_shape DayFirst =
-    retold (λ bytes (v : YearMonthDay). IsYearLast bytes v.0 v.1 v.2) year_last (HasDate DayFirst) year_last_shape (λ v. (v.2, v.1, v.0)) (λ bytes v h. h) (λ bytes w h. ((w.2, w.1, w.0), h, refl))
-dated_shape MonthFirst =
-    retold (λ bytes (v : YearMonthDay). IsYearLast bytes v.0 v.1 v.2) year_last (HasDate MonthFirst) year_last_shape (λ v. (v.2, v.0, v.1)) (λ bytes v h. h) (λ bytes w h. ((w.1, w.2, w.0), h, refl))
+dated_shape DayFirst = renamed IsLast year_last (HasDate DayFirst) year_last_shape (λ v. (v.2, v.1, v.0)) (λ bytes v h. h) (λ bytes w h. ((w.2, w.1, w.0), h, refl))
+dated_shape MonthFirst = renamed IsLast year_last (HasDate MonthFirst) year_last_shape (λ v. (v.2, v.0, v.1)) (λ bytes v h. h) (λ bytes w h. ((w.1, w.2, w.0), h, refl))
 
 -- its errors are those of its numbers
 pub date_error : (order : DateOrder) (text : List ℕ) (v : YearMonthDay) → HasDate order text v → (why : ComponentRange) (P : Type 0) → P ↔ IsDateError v why
