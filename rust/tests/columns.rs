@@ -13,7 +13,7 @@ struct Draw(u64);
 impl Draw {
     fn word(&mut self) -> u64 {
         self.0 = self.0.wrapping_mul(6_364_136_223_846_793_005).wrapping_add(1_442_695_040_888_963_407);
-        self.0 ^ self.0 >> 29
+        self.0 ^ (self.0 >> 29)
     }
 
     fn from(&mut self, min: i64, max: i64) -> i64 {
