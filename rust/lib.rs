@@ -100,8 +100,7 @@ pub use cal_units::{Month, Weekday};
 pub use cal_zone::{Local, Zone};
 pub use formats::FormatText;
 pub use schedule::{ByDay, Convention, DayCount, Frequency, Period, Rule, RuleDays, Workdays, YearFraction};
-pub use zone::{Gap, LocalType};
-pub use zones::Policy;
+pub use zone::{Gap, LocalType, Policy};
 
 /// Returns the version of the crate. `(0, 1, 0)` is 0.1.0.
 pub const fn version() -> (u32, u32, u32) {
@@ -183,9 +182,9 @@ pub mod util {
 
 /// Time zones.
 pub mod zone {
+    pub use crate::cal_c::zones::policy::Policy;
     pub use crate::cal_tzif::{ZoneError, ZoneErrorKind};
     pub use crate::cal_zone::{Change, Gap, Local, LocalType, Yearly, Zone};
-    pub use crate::zones::Policy;
 }
 
 /// The pages for Rust, whose examples are tested.

@@ -1,30 +1,12 @@
 //! Zones and working days.
 
 use crate::error::ZoneError;
-use crate::{Local, OffsetDateTime, Workdays, Zone, cal_tzif};
-
-/// The meaning of a local time that clocks skip or show twice, with the names of Temporal.
-#[derive(Clone, Copy, Debug, PartialEq, Eq, Hash)]
-pub enum Policy {
-    /// `Later` in a gap, and `Earlier` in a fold.
-    Compatible,
-    /// In a gap the local time moved back by its length, in a fold the first date-time.
-    Earlier,
-    /// In a gap the local time moved forward by its length, in a fold the second date-time.
-    Later,
-    /// Nothing.
-    Reject,
-}
+use crate::{Local, OffsetDateTime, Policy, Workdays, Zone, cal_tzif};
 
 impl Local {
     /// Returns the date-time that a policy selects, or `None` if it is out of range or rejected.
     pub fn by(self, policy: Policy) -> Option<OffsetDateTime> {
-        match policy {
-            Policy::Compatible => self.compatible(),
-            Policy::Earlier => self.earlier(),
-            Policy::Later => self.later(),
-            Policy::Reject => self.reject(),
-        }
+        policy.chosen(self)
     }
 }
 
