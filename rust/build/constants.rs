@@ -1,7 +1,7 @@
 //! Functions that are `const` in Rust. In these, what would call a method of a trait is written
 //! without one: `u32::from(x)`, `x?`, `x.min(y)`, and the indexes of months and weekdays.
 
-use crate::strip::{Edits, Item, Source, TokenKind};
+use crate::strip::{Edits, Item, Source, TokenKind, operand, sign_cast};
 use std::ops::Range;
 
 /// Types of numbers. `u8` isn't one of them, because months and weekdays are converted to it, too.
@@ -50,7 +50,7 @@ fn early_return(source: &Source, at: usize, is_option: bool, edits: &mut Edits) 
     }
     let arms =
         if is_option { "Some(value) => value, None => return None" } else { "Ok(value) => value, Err(error) => return Err(error)" };
-    edits.insert(source.tokens[operand(source, at)].range.start, "(match ");
+    edits.open(&operand(source, at), "(match ");
     edits.replace(source.bytes(&(at..at + 1)), format!(" {{ {arms} }})"));
 }
 
@@ -66,34 +66,12 @@ fn selection(source: &Source, at: usize, edits: &mut Edits) {
         return;
     }
     let close = closing(source, at + 2);
-    edits.insert(source.tokens[operand(source, at)].range.start, "(match (");
+    edits.open(&operand(source, at), "(match (");
     edits.replace(source.bytes(&(at..at + 3)), ", ");
     edits.replace(
         source.bytes(&(close..close + 1)),
         format!(") {{ (one, other) => if one {sign} other {{ one }} else {{ other }} }})"),
     );
-}
-
-/// Returns the first token of the methods, fields and paths that end before a token.
-fn operand(source: &Source, end: usize) -> usize {
-    let mut start = end;
-    let mut depth = 0;
-    for at in (0..end).rev() {
-        let word = source.word(at);
-        depth += usize::from(matches!(word, ")" | "]"));
-        let is_path = word == ":" && [at + 1, at.wrapping_sub(1)].iter().any(|next| source.word(*next) == ":");
-        let is_part = depth > 0 || is_path || matches!(word, "." | "?") || word.chars().all(is_name) || word.trim().is_empty();
-        if !is_part || depth == 0 && matches!(word, "return" | "in") {
-            break;
-        }
-        depth -= usize::from(matches!(word, "(" | "["));
-        start = if word.trim().is_empty() { start } else { at };
-    }
-    start
-}
-
-fn is_name(c: char) -> bool {
-    c.is_alphanumeric() || c == '_'
 }
 
 /// Gives a type the methods of a trait with indexes as constant methods of its own, because a
@@ -113,7 +91,10 @@ fn code(source: &Source, item: &Item) -> String {
         match source.tokens[at].kind {
             TokenKind::Clause => edits.replace(source.bytes(&(at..at + 1)), ""),
             TokenKind::Blank => edits.replace(source.bytes(&(at..at + 1)), " "),
-            _ => without_traits(source, item, at, &mut edits),
+            _ => {
+                sign_cast(source, at, &mut edits);
+                without_traits(source, item, at, &mut edits);
+            }
         }
     }
     edits.applied_within(&source.text, source.bytes(&part))

@@ -65,7 +65,8 @@ pub fn change(source: &Source, definitions: &Definitions, edits: &mut Edits) -> 
     Ok(())
 }
 
-/// Makes functions for C plain functions of the crate, without symbols.
+/// Makes functions for C plain functions of the crate, without symbols, and all items visible in it,
+/// so that modules written by hand can call the rows of a column.
 fn plain(source: &Source, edits: &mut Edits) {
     for at in 0..source.tokens.len() {
         if source.word(at) == "#" && source.word(at + 2) == "unsafe" && source.word(at + 4) == "no_mangle" {
@@ -75,13 +76,26 @@ fn plain(source: &Source, edits: &mut Edits) {
             edits.comment_out(source.bytes(&(at..at + 3)));
         }
     }
-    for item in source.items.iter().filter(|item| is_private_module(source, item)) {
-        edits.insert(source.bytes(&item.head).start, "pub(crate) ");
+    for item in &source.items {
+        if item.kind == Kind::Type {
+            derives(source, item, edits);
+        }
+        show(source, item, edits);
     }
 }
 
-fn is_private_module(source: &Source, item: &Item) -> bool {
-    item.kind == Kind::Module && source.part(&item.head).starts_with("mod")
+/// Makes an item visible in the crate.
+fn show(source: &Source, item: &Item, edits: &mut Edits) {
+    let head = source.part(&item.head);
+    let start = source.bytes(&item.head).start;
+    let is_named = matches!(item.kind, Kind::Function | Kind::Type | Kind::Module) || head.starts_with("const ");
+    if let Some(name) = head.strip_prefix("macro_rules!") {
+        edits.insert(source.bytes(&item.all).end, format!(" pub(crate) use {};", name.trim()));
+    } else if head.starts_with("pub(super)") {
+        edits.replace(start..start + "pub(super)".len(), "pub(crate)");
+    } else if is_named && !head.starts_with("pub") && !is_of_trait(source, item) {
+        edits.insert(start, "pub(crate) ");
+    }
 }
 
 /// Adds methods of traits, and seals traits.
@@ -107,6 +121,7 @@ const DERIVES: &[(&str, &[&str], &[&str])] = &[
     ),
     ("cal_recurrence", &["ZonedSet", "Occurrences", "CountedZonedSet"], &["Debug"]),
     ("cal_zone", &["Zone", "UncheckedZone", "Table"], &["Copy", "Debug", "PartialEq", "Eq"]),
+    ("cal_c", &["Policy"], &["PartialEq", "Eq", "Hash"]),
     ("cal_zone", &["Gap", "Layout", "Local", "Rule", "Yearly"], &["Debug", "PartialEq", "Eq"]),
     ("cal_zone", &["Policy"], &["Hash"]),
     ("cal_zoned", &["ZonedDateTime"], &["Copy", "Debug"]),

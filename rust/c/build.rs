@@ -2,7 +2,6 @@
 
 mod parameters;
 #[path = "../build/strip/mod.rs"]
-#[allow(dead_code, unused_imports)]
 mod strip;
 
 use std::env;

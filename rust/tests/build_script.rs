@@ -71,6 +71,16 @@ const TRANSLATIONS: &[(&str, &str)] = &[
     // Paths get the module of their crate.
     ("use crate::a::B;\nuse cal_units::C;", "use crate::cal_date::a::B;\nuse crate::cal_units::C;"),
     ("pub(crate) fn f() -> a::std::B { x.cal_units }", "pub(crate) fn f() -> a::std::B { x.cal_units }"),
+    // Casts that are newer than the oldest supported Rust.
+    ("fn f() { -a.b(c.d()).cast_signed() + 1 }", "fn f() { -crate::signs::Bits(a.b(c.d())).into_signed() + 1 }"),
+    (
+        "fn f() { match x\n    .cast_unsigned()\n    .f(y[1].cast_unsigned()) {} }",
+        "fn f() { match crate::signs::Bits(x\n    ).into_unsigned()\n    .f(crate::signs::Bits(y[1]).into_unsigned()) {} }",
+    ),
+    (
+        "fn f() { return cal_units::f(1).cast_signed(); }",
+        "fn f() { return crate::signs::Bits(crate::cal_units::f(1)).into_signed(); }",
+    ),
     // What only the kit has.
     (
         "#![tactic(auto)]\n#[tactic(auto, using(a(b)))]\nfn f() {}",
@@ -211,6 +221,10 @@ const CONSTANTS: &[(&str, &str)] = &[
     ),
     ("S { x: y?, z }", "S { x: (match y { Ok(value) => value, Err(error) => return Err(error) }), z }"),
     ("-a.b.min(c(d)) + 1", "-(match (a.b, c(d)) { (one, other) => if one < other { one } else { other } }) + 1"),
+    (
+        "a?.min(b)",
+        "(match ((match a { Ok(value) => value, Err(error) => return Err(error) }), b) { (one, other) => if one < other { one } else { other } })",
+    ),
     ("a[b].max(c)", "(match (a[b], c) { (one, other) => if one > other { one } else { other } })"),
 ];
 

@@ -2,7 +2,8 @@
 
 use fotsevindre::columns::{self, RowError, row_error};
 use fotsevindre::error::ComponentRange;
-use fotsevindre::{Date, Month, Weekday, Workdays};
+use fotsevindre::format::ParseError;
+use fotsevindre::{Date, Format, Month, Weekday, Workdays};
 use std::panic::catch_unwind;
 
 const ROWS: usize = 20_000;
@@ -13,7 +14,7 @@ struct Draw(u64);
 impl Draw {
     fn word(&mut self) -> u64 {
         self.0 = self.0.wrapping_mul(6_364_136_223_846_793_005).wrapping_add(1_442_695_040_888_963_407);
-        self.0 ^ self.0 >> 29
+        self.0 ^ (self.0 >> 29)
     }
 
     fn from(&mut self, min: i64, max: i64) -> i64 {
@@ -308,8 +309,75 @@ fn texts_of_moments() {
     );
 }
 
+/// Each row by a format is the result for one date. The formats are parsed and printed in one step, or by their items.
+#[test]
+fn texts_by_formats() {
+    let dates: Vec<i32> = column(9, -363_600_000, 367_000_000, |number| number as i32).into_iter().take(2000).collect();
+    let rows = dates.len();
+    for description in ["%Y-%m-%d", "%d/%m/%Y", "%A, %-d %B %Y", "%G-W%V-%u", "%j of %Y", "%A %Y-%m-%d"] {
+        let format = Format::new(description).unwrap();
+        let parser = Format::new(description).unwrap().for_dates().unwrap();
+        let (mut bytes, mut bounds) = (vec![0; rows * format.items().len() * columns::MAX_ITEM_LENGTH], vec![0; rows + 1]);
+        let mut statuses = vec![0; rows];
+        let errors = columns::dates_format(&dates, &format, &mut bytes, &mut bounds, &mut statuses);
+        assert_eq!(errors, statuses.iter().filter(|status| **status != 0).count());
+        // Every seventh text ends too early, and every seventh one has a wrong byte.
+        let mut cut = bounds.clone();
+        for row in (0..rows).step_by(7) {
+            cut[row + 1] -= i32::from(bounds[row + 1] > bounds[row]);
+            bytes[bounds[(row + 3).min(rows - 1)] as usize] ^= 1;
+        }
+        let (mut parsed, mut parsed_statuses) = (vec![0; rows], vec![0; rows]);
+        let errors = columns::dates_parse_format(&bytes, &cut, &parser, &mut parsed, &mut parsed_statuses);
+        assert_eq!(errors, parsed_statuses.iter().filter(|status| **status != 0).count());
+        for row in 0..rows {
+            let [from, to, end] = [cut[row], bounds[row + 1], cut[row + 1]].map(|bound| bound as usize);
+            match Date::from_julian_day(dates[row]) {
+                Ok(date) => {
+                    assert_eq!((to - bounds[row] as usize, statuses[row]), (date.format(&format).unwrap().as_str().len(), 0))
+                }
+                Err(_) => assert_eq!((to - bounds[row] as usize, row_error(statuses[row])), (0, Some(RowError::InvalidDate))),
+            }
+            let expected = match parser.parse(&bytes[from..end]) {
+                Ok(date) => (date.to_julian_day(), None),
+                Err(ParseError::UnexpectedByte(_)) => (NO_VALUE, Some(RowError::UnexpectedByte)),
+                Err(ParseError::UnexpectedEnd(_)) => (NO_VALUE, Some(RowError::UnexpectedEnd)),
+                Err(ParseError::OutOfRange(error)) => (NO_VALUE, Some(RowError::OutOfRange(error))),
+                Err(ParseError::Contradiction(_)) => (NO_VALUE, Some(RowError::Contradiction)),
+            };
+            assert_eq!((parsed[row], row_error(parsed_statuses[row])), expected, "{description} {row}");
+        }
+    }
+}
+
+#[test]
+fn bounds_and_items_of_formats() {
+    let format = Format::new("%d/%m/%Y").unwrap();
+    let parser = format.for_dates().unwrap();
+    let (mut dates, mut statuses) = ([0; 3], [0; 3]);
+    let errors = columns::dates_parse_format(b"29/02/2024", &[0, 10, 3, 11], &parser, &mut dates, &mut statuses);
+    assert_eq!((errors, dates), (2, [2_460_370, NO_VALUE, NO_VALUE]));
+    assert_eq!([1, 2].map(|row| row_error(statuses[row])), [Some(RowError::InvalidBounds); 2]);
+    let time = Format::new("%H:%M").unwrap();
+    let (mut bytes, mut bounds) = ([0; 45 * 3], [9; 4]);
+    assert_eq!(columns::dates_format(&dates, &time, &mut bytes, &mut bounds, &mut statuses), 3);
+    let row_errors = statuses.map(row_error);
+    let invalid = Some(RowError::InvalidDate);
+    assert_eq!((row_errors, bounds), ([Some(RowError::UnsupportedItem), invalid, invalid], [0; 4]));
+}
+
 #[test]
 fn no_room() {
+    let day_first = Format::new("%d/%m/%Y").unwrap();
+    let parser = Format::new("%d/%m/%Y").unwrap().for_dates().unwrap();
+    for [bytes, bounds, rows] in [[74, 2, 1], [75, 1, 1], [75, 3, 1], [75, 2, 2]] {
+        let format = || columns::dates_format(&[0], &day_first, &mut vec![0; bytes], &mut vec![0; bounds], &mut vec![0; rows]);
+        assert!(catch_unwind(format).is_err());
+    }
+    for [bounds, dates, rows] in [[1, 1, 1], [3, 1, 1], [2, 2, 1], [2, 1, 2]] {
+        let parse = || columns::dates_parse_format(b"", &vec![0; bounds], &parser, &mut vec![0; dates], &mut vec![0; rows]);
+        assert!(catch_unwind(parse).is_err());
+    }
     let mut bytes = [0; 12];
     assert!(catch_unwind(move || columns::dates_calendar_texts(&[0], &mut bytes, &mut [0; 2], &mut [0])).is_err());
     assert!(catch_unwind(|| columns::dates_parse(b"", &[], &mut [], &mut [])).is_err());

@@ -14,7 +14,7 @@ struct Draw(u64);
 impl Draw {
     fn word(&mut self) -> u64 {
         self.0 = self.0.wrapping_mul(6_364_136_223_846_793_005).wrapping_add(1_442_695_040_888_963_407);
-        self.0 ^ self.0 >> 29
+        self.0 ^ (self.0 >> 29)
     }
 
     fn below(&mut self, limit: u64) -> u64 {
@@ -23,7 +23,7 @@ impl Draw {
 
     /// A number of nanoseconds that is a duration, of any size.
     fn duration(&mut self) -> i128 {
-        let number = i128::from(self.word() as i64) << 30 | i128::from(self.word() >> 34);
+        let number = (i128::from(self.word() as i64) << 30) | i128::from(self.word() >> 34);
         (number >> self.below(93)).clamp(LEAST, GREATEST)
     }
 }

@@ -255,7 +255,7 @@ fn drawn(state: &mut u64) -> u64 {
 }
 
 fn below(state: &mut u64, number: i128) -> i128 {
-    let wide = i128::from(drawn(state)) << 63 | i128::from(drawn(state) >> 1);
+    let wide = (i128::from(drawn(state)) << 63) | i128::from(drawn(state) >> 1);
     wide % number
 }
 

@@ -2,6 +2,7 @@
 
 use fotsevindre::columns::{RowError, row_error, zone_instants, zone_offsets};
 use fotsevindre::{Local, OffsetDateTime, PlainDateTime, Policy, Zone};
+use std::panic::catch_unwind;
 
 const CET: &str = "CET-1CEST,M3.5.0,M10.5.0/3";
 
@@ -68,6 +69,31 @@ fn columns() {
         assert_eq!(seconds, wanted);
     }
     assert_eq!(statuses.map(row_error), [Some(RowError::SkippedTime), Some(RowError::RepeatedTime), None]);
+    assert_eq!(zone_instants(&berlin, &[i64::MIN, i64::MAX, 0], Policy::Later, &mut seconds, &mut statuses), 2);
+    assert_eq!((seconds, row_error(statuses[0])), ([i64::MIN, i64::MIN, -3600], Some(RowError::ResultOutOfRange)));
+    assert!(catch_unwind(|| zone_offsets(&berlin, &[0], &mut [0; 2], &mut [0])).is_err());
+    assert!(catch_unwind(|| zone_offsets(&berlin, &[0], &mut [0], &mut [0; 2])).is_err());
+    assert!(catch_unwind(|| zone_instants(&berlin, &[0], Policy::Later, &mut [0; 2], &mut [0])).is_err());
+    assert!(catch_unwind(|| zone_instants(&berlin, &[0], Policy::Later, &mut [0], &mut [0; 2])).is_err());
+}
+
+/// Each row is the result for one value, in order and in steps across changes.
+#[test]
+fn rows_of_columns() {
+    let berlin = Zone::parse_posix(CET).unwrap();
+    let first = 1_700_000_000;
+    let rows: Vec<i64> = (0..9000).map(|row| first + row * 1777 + row % 5 * 31_556_952).collect();
+    let (mut offsets, mut seconds, mut statuses) = (vec![0; rows.len()], vec![0; rows.len()], vec![9; rows.len()]);
+    assert_eq!(zone_offsets(&berlin, &rows, &mut offsets, &mut statuses), 0);
+    assert!(rows.iter().zip(&offsets).all(|(second, offset)| berlin.offset_at(*second) == *offset));
+    for policy in [Policy::Compatible, Policy::Earlier, Policy::Later, Policy::Reject] {
+        zone_instants(&berlin, &rows, policy, &mut seconds, &mut statuses);
+        for (row, instant) in rows.iter().zip(&seconds) {
+            let moment = berlin.resolve(at(*row).local()).by(policy);
+            assert_eq!(moment.map_or(i64::MIN, |moment| moment.unix_timestamp()), *instant, "{row} {policy:?}");
+        }
+    }
+    assert!(offsets.contains(&3600) && offsets.contains(&7200) && statuses.contains(&0) && !statuses.iter().all(|one| *one == 0));
 }
 
 #[test]

@@ -10,6 +10,7 @@ mod edits;
 mod fault;
 mod items;
 mod lexer;
+mod operand;
 mod translate;
 mod tree;
 
@@ -17,5 +18,6 @@ pub use edits::Edits;
 pub use fault::Fault;
 pub use items::{Item, Kind};
 pub use lexer::TokenKind;
-pub use translate::{Change, Options, Source, translated};
+pub use operand::operand;
+pub use translate::{Change, Options, Source, sign_cast, translated};
 pub use tree::write_crates;

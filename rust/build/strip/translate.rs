@@ -2,6 +2,7 @@ use super::edits::Edits;
 use super::fault::Fault;
 use super::items::{Item, Items, Kind};
 use super::lexer::{Token, TokenKind, tokens};
+use super::operand::operand;
 use std::ops::Range;
 use std::path::PathBuf;
 
@@ -91,6 +92,7 @@ pub fn translated(source: &Source, options: &Options) -> Result<String, Fault> {
         path(source, at, options, &mut edits);
         link(source, at, &mut edits);
         hasher(source, at, options, &mut edits);
+        sign_cast(source, at, &mut edits);
     }
     for item in &source.items {
         if is_left_out(source, item, options) {
@@ -154,6 +156,20 @@ fn link(source: &Source, at: usize, edits: &mut Edits) {
 fn hasher(source: &Source, at: usize, options: &Options, edits: &mut Edits) {
     if options.standard == "core" && source.word(at) == "DefaultHasher" && source.word(at + 1) == "," {
         edits.comment_out(source.bytes(&(at..at + 2)));
+    }
+}
+
+/// Replaces `x.cast_signed()` and `x.cast_unsigned()`, which came with Rust 1.87, by a function that
+/// constants can call.
+pub fn sign_cast(source: &Source, at: usize, edits: &mut Edits) {
+    let method = match source.word(at + 1) {
+        "cast_signed" => "into_signed",
+        "cast_unsigned" => "into_unsigned",
+        _ => return,
+    };
+    if source.word(at) == "." {
+        edits.open(&operand(source, at), "crate::signs::Bits(");
+        edits.replace(source.bytes(&(at..at + 2)), format!(").{method}"));
     }
 }
 

@@ -4,6 +4,9 @@ use std::fs;
 use std::io;
 use std::path::{Path, PathBuf};
 
+/// The module of the casts that [`translated`] writes.
+const SIGNS: &str = include_str!("signs.rs");
+
 /// Writes the crates of a folder as Rust: the files of each into a folder of its name, and a file
 /// `library.rs` that declares all of them as modules. Returns the number of files.
 ///
@@ -11,7 +14,7 @@ use std::path::{Path, PathBuf};
 ///
 /// Returns the first file that isn't understood, or can't be read or written.
 pub fn write_crates(folder: &Path, out: &Path, options: &Options) -> Result<usize, Fault> {
-    let mut library = String::new();
+    let mut library = format!("#[allow(unused)]\npub(crate) mod signs {{\n{SIGNS}}}\n");
     let mut count = 0;
     for krate in options.crates {
         let source = folder.join(krate).join("src");
@@ -19,7 +22,7 @@ pub fn write_crates(folder: &Path, out: &Path, options: &Options) -> Result<usiz
         count += write_folder(krate, &source, &out.join(krate), options)?;
         let root = out.join(krate).join(if source.join("main.rt").exists() { "main.rs" } else { "lib.rs" });
         library.push_str(&format!(
-            "#[path = {root:?}]\n#[allow(unused, unsafe_code, missing_docs, clippy::all)]\npub(crate) mod {krate};\n"
+            "#[path = {root:?}]\n#[allow(unused, unsafe_code, missing_docs, clippy::all)]\n#[warn(clippy::incompatible_msrv)]\npub(crate) mod {krate};\n"
         ));
     }
     write(&out.join("library.rs"), &library)?;
