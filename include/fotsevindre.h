@@ -615,29 +615,26 @@ fots_date_result fots_date_on_or_before(fots_date date, uint32_t weekday);
 /* ---- working days
  *
  * A weekmask is the sum of its working days: 1 for Monday, 2 for Tuesday, 4, 8, 16, 32, and 64 for
- * Sunday. After the errors of other arguments come FOTS_INVALID_WEEKMASK for a weekmask above 127,
- * and FOTS_TOO_MANY_HOLIDAYS and FOTS_INVALID_HOLIDAYS unless the holidays are at most
- * FOTS_MAX_HOLIDAYS dates in strictly ascending order. The examples have FOTS_MONDAY_TO_FRIDAY and
- * no holidays. */
+ * Sunday. The examples have FOTS_MONDAY_TO_FRIDAY and no holidays. */
 #define FOTS_MONDAY_TO_FRIDAY 31u
 
-/* Returns 1 if the date is a working day, else 0. Tuesday 2000-02-29 is 1. */
-fots_component_result fots_date_is_workday(fots_date date, uint32_t weekmask, const fots_date *holidays, size_t holidays_length);
+/* Checks a weekmask and its holidays once, for any number of calls. Errors: FOTS_INVALID_WEEKMASK
+ * for a weekmask above 127, and FOTS_TOO_MANY_HOLIDAYS and FOTS_INVALID_HOLIDAYS unless the holidays
+ * are at most FOTS_MAX_HOLIDAYS dates in strictly ascending order. The other calls report a struct
+ * with an invalid weekmask or length first. */
+fots_workdays_result fots_workdays_new(uint32_t weekmask, const fots_date *holidays, size_t holidays_length);
 
-/* Return the first working day after the date, or the last one before it; FOTS_RESULT_OUT_OF_RANGE.
- * For Friday 2000-03-03: 2000-03-06 and 2000-03-02. */
-fots_date_result fots_date_next_workday(fots_date date, uint32_t weekmask, const fots_date *holidays, size_t holidays_length);
-fots_date_result fots_date_previous_workday(fots_date date, uint32_t weekmask, const fots_date *holidays, size_t holidays_length);
+/* Returns 1 if the date is a working day, else 0. Tuesday 2000-02-29 is 1. */
+fots_component_result fots_workdays_contains(const fots_workdays *workdays, fots_date date);
 
 /* Returns the n-th working day after the date, or before it if `days` is negative; for 0 the date
  * itself, or the first working day after it; FOTS_RESULT_OUT_OF_RANGE. 2000-02-29 and 10 is
  * 2000-03-14. */
-fots_date_result fots_date_add_workdays(fots_date date, int32_t days, uint32_t weekmask, const fots_date *holidays, size_t holidays_length);
+fots_date_result fots_workdays_add(const fots_workdays *workdays, fots_date date, int32_t days);
 
 /* Returns the number of working days from the earlier date on, without the later date; negative or
  * 0 if `other` is earlier. From 2000-01-01 to 2001-01-01 it is 260, and back -260. */
-fots_number_result fots_date_workdays_between(fots_date date, fots_date other, uint32_t weekmask, const fots_date *holidays,
-    size_t holidays_length);
+fots_number_result fots_workdays_between(const fots_workdays *workdays, fots_date date, fots_date other);
 
 /* How a date moves to a working day, with the names of the ISDA Definitions. */
 enum fots_convention {
@@ -651,22 +648,9 @@ enum fots_convention {
 /* Returns the working day that the date moves to. Errors: FOTS_INVALID_CONVENTION, and at last
  * FOTS_RESULT_OUT_OF_RANGE. Saturday 2000-04-29 moves to 2000-05-01 by FOTS_FOLLOWING, and to
  * 2000-04-28 by FOTS_MODIFIED_FOLLOWING. */
-fots_date_result fots_date_adjust(fots_date date, uint32_t convention, uint32_t weekmask, const fots_date *holidays, size_t holidays_length);
-
-/* ---- working days, checked once
- *
- * The calls above check all holidays each time. fots_workdays_new checks them once, for any number
- * of faster calls. These report a struct with an invalid weekmask or length first, as
- * FOTS_INVALID_WEEKMASK or FOTS_TOO_MANY_HOLIDAYS. */
-fots_workdays_result fots_workdays_new(uint32_t weekmask, const fots_date *holidays, size_t holidays_length);
-
-/* Like fots_date_is_workday, fots_date_add_workdays, fots_date_workdays_between, fots_date_adjust,
- * fots_dates_add_workdays and fots_dates_workdays_between. The next working day is the one that
- * adding 1 gives, and adding -1 gives the previous one. */
-fots_component_result fots_workdays_contains(const fots_workdays *workdays, fots_date date);
-fots_date_result fots_workdays_add(const fots_workdays *workdays, fots_date date, int32_t days);
-fots_number_result fots_workdays_between(const fots_workdays *workdays, fots_date date, fots_date other);
 fots_date_result fots_workdays_adjust(const fots_workdays *workdays, fots_date date, uint32_t convention);
+
+/* Add working days to dates, and count them between dates, like the calls for one date. */
 size_t fots_workdays_add_dates(const fots_workdays *workdays, const int32_t *dates, size_t dates_length, const int32_t *days,
     size_t days_length, int32_t *moved, size_t moved_length, uint8_t *statuses, size_t length);
 size_t fots_workdays_between_dates(const fots_workdays *workdays, const int32_t *dates, size_t dates_length, const int32_t *others,
@@ -1257,13 +1241,6 @@ size_t fots_dates_add_days(const int32_t *dates, size_t dates_length, const int6
 
 size_t fots_dates_add_months(const int32_t *dates, size_t dates_length, const int32_t *months, size_t months_length, int32_t *moved,
     size_t moved_length, uint8_t *statuses, size_t length);
-
-/* These take one weekmask and one list of holidays, of any length, for all rows. */
-size_t fots_dates_add_workdays(const int32_t *dates, size_t dates_length, const int32_t *days, size_t days_length, uint32_t weekmask,
-    const fots_date *holidays, size_t holidays_length, int32_t *moved, size_t moved_length, uint8_t *statuses, size_t length);
-
-size_t fots_dates_workdays_between(const int32_t *dates, size_t dates_length, const int32_t *others, size_t others_length, uint32_t weekmask,
-    const fots_date *holidays, size_t holidays_length, int32_t *numbers, size_t numbers_length, uint8_t *statuses, size_t length);
 
 /* ---- columns of texts
  *

@@ -148,6 +148,7 @@ static void columns_in_place(void)
 {
     const size_t n = ROWS;
     const fots_date holiday = date_at(2460370);
+    const fots_workdays_result made = fots_workdays_new(FOTS_MONDAY_TO_FRIDAY, &holiday, 1);
     IN_PLACE(years, fots_dates_from_calendar_dates(column, n, months, n, month_days, n, found, n, statuses, n));
     IN_PLACE(years, fots_dates_from_ordinal_dates(column, n, ordinals, n, found, n, statuses, n));
     IN_PLACE(years, fots_dates_from_iso_week_dates(column, n, weeks, n, weekdays, n, found, n, statuses, n));
@@ -157,42 +158,8 @@ static void columns_in_place(void)
     IN_PLACE(dates, fots_dates_to_iso_week_dates(column, n, found, n, firsts, n, seconds, n, statuses, n));
     IN_PLACE(dates, fots_dates_add_days(column, n, days, n, found, n, statuses, n));
     IN_PLACE(dates, fots_dates_add_months(column, n, numbers, n, found, n, statuses, n));
-    IN_PLACE(dates, fots_dates_add_workdays(column, n, numbers, n, FOTS_MONDAY_TO_FRIDAY, &holiday, 1, found, n, statuses, n));
-    IN_PLACE(dates, fots_dates_workdays_between(column, n, others, n, FOTS_MONDAY_TO_FRIDAY, &holiday, 1, found, n, statuses, n));
-}
-
-/* Checks the working days of a week and holidays. */
-static void of_workdays(size_t n, uint32_t week, const fots_date *holidays, size_t length)
-{
-    COLUMN(fots_dates_add_workdays(dates, n, numbers, n, week, holidays, length, found, n, statuses, n),
-        fots_date_result single = fots_date_add_workdays(date_at(dates[k]), numbers[k], week, holidays, length), DATES_FOUND);
-    COLUMN(fots_dates_workdays_between(dates, n, others, n, week, holidays, length, found, n, statuses, n),
-        fots_number_result single = fots_date_workdays_between(date_at(dates[k]), date_at(others[k]), week, holidays, length),
-        found[k] == single.number);
-}
-
-/* Takes weeks, holidays near both ends and on every hundredth day, and invalid ones. */
-static void workdays(void)
-{
-    static fots_date holidays[FOTS_MAX_HOLIDAYS + 1];
-    for (int k = 0; k <= FOTS_MAX_HOLIDAYS; k++) {
-        holidays[k] = date_at(k < 9 ? FOTS_MIN_JULIAN_DAY + 3 * k : k < FOTS_MAX_HOLIDAYS - 9 ? 2400000 + 100 * k
-            : FOTS_MAX_JULIAN_DAY - 2 * (FOTS_MAX_HOLIDAYS - k));
-    }
-    for (uint32_t week = 0; week < 129; week += week == 96 ? 31 : 32) {
-        of_workdays(200, week, holidays, FOTS_MAX_HOLIDAYS);
-    }
-    for (size_t length = 0; length < 9; length += 4) {
-        of_workdays(ROWS, FOTS_MONDAY_TO_FRIDAY, holidays, length);
-    }
-    of_workdays(200, FOTS_MONDAY_TO_FRIDAY, holidays, FOTS_MAX_HOLIDAYS + 1);
-    of_workdays(200, 128, holidays, FOTS_MAX_HOLIDAYS + 1);
-    holidays[2] = holidays[1];
-    of_workdays(200, FOTS_MONDAY_TO_FRIDAY, holidays, 9);
-    holidays[2] = date_at(FOTS_NO_VALUE);
-    of_workdays(200, FOTS_MONDAY_TO_FRIDAY, holidays, 9);
-    of_workdays(200, FOTS_MONDAY_TO_FRIDAY, holidays, 2);
-    of_workdays(0, FOTS_MONDAY_TO_FRIDAY, holidays, 2);
+    IN_PLACE(dates, fots_workdays_add_dates(&made.workdays, column, n, numbers, n, found, n, statuses, n));
+    IN_PLACE(dates, fots_workdays_between_dates(&made.workdays, column, n, others, n, found, n, statuses, n));
 }
 
 /* Compares the conversion to ISO week dates at once with the one by dates. */
@@ -224,9 +191,9 @@ static void different_lengths(void)
     check(fots_dates_to_iso_week_dates(dates, 1, found, 1, firsts, 1, seconds, 0, statuses, 1) == FOTS_LENGTH_MISMATCH, "no weekday", 0, 0);
     check(fots_dates_add_days(dates, 1, days, 1, found, 0, statuses, 1) == FOTS_LENGTH_MISMATCH, "no date", 0, 0);
     check(fots_dates_add_months(dates, 1, numbers, 2, found, 1, statuses, 1) == FOTS_LENGTH_MISMATCH, "two months", 0, 0);
-    const fots_date holiday = date_at(2451545);
-    check(fots_dates_add_workdays(dates, 2, numbers, 2, 31, &holiday, 1, found, 2, statuses, 1) == FOTS_LENGTH_MISMATCH, "a status too few", 0, 0);
-    check(fots_dates_workdays_between(dates, 1, others, 0, 128, &holiday, 1, found, 1, statuses, 1) == FOTS_LENGTH_MISMATCH, "no other date", 0, 0);
+    const fots_workdays_result made = fots_workdays_new(128, NULL, 0);
+    check(fots_workdays_add_dates(&made.workdays, dates, 2, numbers, 2, found, 2, statuses, 1) == FOTS_LENGTH_MISMATCH, "a status too few", 0, 0);
+    check(fots_workdays_between_dates(&made.workdays, dates, 1, others, 0, found, 1, statuses, 1) == FOTS_LENGTH_MISMATCH, "no other date", 0, 0);
     check(fots_dates_from_julian_days(days, 0, found, 0, statuses, 0) == 0, "no rows", 0, 0);
     check(found[0] == 77 && statuses[0] == 77, "what stood there", found[0], statuses[0]);
 }
@@ -333,7 +300,6 @@ int main(void)
     columns(ROWS);
     columns_in_place();
     columns(1);
-    workdays();
     chained(ROWS);
     different_lengths();
     texts(ROWS);

@@ -144,56 +144,64 @@ static void drawn_months(void)
 /* Ten holidays of the United States in 2024. */
 static const int32_t of_2024[10][2] = {{1, 1}, {1, 15}, {2, 19}, {5, 27}, {6, 19}, {7, 4}, {9, 2}, {11, 11}, {11, 28}, {12, 25}};
 
+static fots_workdays week_of(uint32_t weekmask, const fots_date *holidays, size_t length)
+{
+    return fots_workdays_new(weekmask, holidays, length).workdays;
+}
+
 static void workdays(void)
 {
     fots_date holidays[10];
     for (int row = 0; row < 10; row++) {
         holidays[row] = day(2024, (uint32_t)of_2024[row][0], (uint32_t)of_2024[row][1]);
     }
-    const uint32_t week = FOTS_MONDAY_TO_FRIDAY;
-    check(fots_date_workdays_between(day(2024, 1, 1), day(2025, 1, 1), week, holidays, 10).number == 252, "the working days of 2024", 0, 0);
-    check(fots_date_workdays_between(day(2025, 1, 1), day(2024, 1, 1), week, holidays, 10).number == -252, "and back", 0, 0);
-    check(fots_date_workdays_between(day(2024, 1, 1), day(2025, 1, 1), week, holidays, 0).number == 262, "with no holidays", 0, 0);
-    check(fots_date_is_workday(day(2024, 7, 4), week, holidays, 10).number == 0, "a holiday", 0, 0);
-    check(fots_date_is_workday(day(2024, 7, 5), week, holidays, 10).number == 1, "the day after it", 0, 0);
-    is_day(fots_date_next_workday(day(2024, 8, 30), week, holidays, 10), day(2024, 9, 3), "after the Friday before Labor Day");
-    is_day(fots_date_previous_workday(day(2024, 9, 3), week, holidays, 10), day(2024, 8, 30), "before the Tuesday after it");
-    is_day(fots_date_adjust(day(2024, 8, 31), FOTS_FOLLOWING, week, holidays, 10), day(2024, 9, 3), "following");
-    is_day(fots_date_adjust(day(2024, 8, 31), FOTS_MODIFIED_FOLLOWING, week, holidays, 10), day(2024, 8, 30), "modified following");
-    is_day(fots_date_adjust(day(2024, 9, 1), FOTS_PRECEDING, week, holidays, 10), day(2024, 8, 30), "preceding");
-    is_day(fots_date_adjust(day(2024, 9, 1), FOTS_MODIFIED_PRECEDING, week, holidays, 10), day(2024, 9, 3), "modified preceding");
-    is_day(fots_date_adjust(day(2024, 9, 1), FOTS_UNADJUSTED, week, holidays, 10), day(2024, 9, 1), "unadjusted");
-    is_error(fots_date_next_workday(day(2024, 8, 30), 0, holidays, 10), FOTS_RESULT_OUT_OF_RANGE, "a week with no working day");
-    is_error(fots_date_next_workday(date_at(INT32_MAX), 128, holidays, 10), FOTS_INVALID_DATE, "no date");
-    is_error(fots_date_next_workday(day(2024, 8, 30), 128, holidays, SIZE_MAX / 8), FOTS_INVALID_WEEKMASK, "an eighth mark");
-    is_error(fots_date_adjust(day(2024, 8, 30), 5, 128, holidays, 10), FOTS_INVALID_CONVENTION, "no convention");
+    const fots_workdays of_year = week_of(FOTS_MONDAY_TO_FRIDAY, holidays, 10), none = week_of(FOTS_MONDAY_TO_FRIDAY, holidays, 0);
+    check(fots_workdays_between(&of_year, day(2024, 1, 1), day(2025, 1, 1)).number == 252, "the working days of 2024", 0, 0);
+    check(fots_workdays_between(&of_year, day(2025, 1, 1), day(2024, 1, 1)).number == -252, "and back", 0, 0);
+    check(fots_workdays_between(&none, day(2024, 1, 1), day(2025, 1, 1)).number == 262, "with no holidays", 0, 0);
+    check(fots_workdays_contains(&of_year, day(2024, 7, 4)).number == 0, "a holiday", 0, 0);
+    check(fots_workdays_contains(&of_year, day(2024, 7, 5)).number == 1, "the day after it", 0, 0);
+    is_day(fots_workdays_add(&of_year, day(2024, 8, 30), 1), day(2024, 9, 3), "after the Friday before Labor Day");
+    is_day(fots_workdays_add(&of_year, day(2024, 9, 3), -1), day(2024, 8, 30), "before the Tuesday after it");
+    is_day(fots_workdays_adjust(&of_year, day(2024, 8, 31), FOTS_FOLLOWING), day(2024, 9, 3), "following");
+    is_day(fots_workdays_adjust(&of_year, day(2024, 8, 31), FOTS_MODIFIED_FOLLOWING), day(2024, 8, 30), "modified following");
+    is_day(fots_workdays_adjust(&of_year, day(2024, 9, 1), FOTS_PRECEDING), day(2024, 8, 30), "preceding");
+    is_day(fots_workdays_adjust(&of_year, day(2024, 9, 1), FOTS_MODIFIED_PRECEDING), day(2024, 9, 3), "modified preceding");
+    is_day(fots_workdays_adjust(&of_year, day(2024, 9, 1), FOTS_UNADJUSTED), day(2024, 9, 1), "unadjusted");
+    is_error(fots_workdays_adjust(&of_year, day(2024, 8, 30), 5), FOTS_INVALID_CONVENTION, "no convention");
+    is_error(fots_workdays_add(&of_year, date_at(INT32_MAX), 1), FOTS_INVALID_DATE, "no date");
+    const fots_workdays never = week_of(0, holidays, 10);
+    is_error(fots_workdays_add(&never, day(2024, 8, 30), 1), FOTS_RESULT_OUT_OF_RANGE, "a week with no working day");
+    check(fots_workdays_new(128, holidays, SIZE_MAX / 8).status == FOTS_INVALID_WEEKMASK, "an eighth mark", 0, 0);
     static fots_date many[FOTS_MAX_HOLIDAYS + 1];
     for (int row = 0; row <= FOTS_MAX_HOLIDAYS; row++) {
         many[row] = date_at(2460000 + row);
     }
-    is_error(fots_date_next_workday(day(2024, 8, 30), week, many, FOTS_MAX_HOLIDAYS + 1), FOTS_TOO_MANY_HOLIDAYS, "a holiday too many");
-    is_day(fots_date_add_workdays(date_at(2459999), 1, 127, many, FOTS_MAX_HOLIDAYS), date_at(2460000 + FOTS_MAX_HOLIDAYS), "past as many as there can be");
+    check(fots_workdays_new(31, many, FOTS_MAX_HOLIDAYS + 1).status == FOTS_TOO_MANY_HOLIDAYS, "a holiday too many", 0, 0);
+    const fots_workdays full = week_of(127, many, FOTS_MAX_HOLIDAYS);
+    is_day(fots_workdays_add(&full, date_at(2459999), 1), date_at(2460000 + FOTS_MAX_HOLIDAYS), "past as many as there can be");
     many[7] = many[6];
-    is_error(fots_date_next_workday(day(2024, 8, 30), week, many, 8), FOTS_INVALID_HOLIDAYS, "a holiday twice");
+    check(fots_workdays_new(31, many, 8).status == FOTS_INVALID_HOLIDAYS, "a holiday twice", 0, 0);
     many[7] = date_at(INT32_MAX);
-    is_error(fots_date_next_workday(day(2024, 8, 30), week, many, 8), FOTS_INVALID_HOLIDAYS, "a holiday that is no date");
+    check(fots_workdays_new(31, many, 8).status == FOTS_INVALID_HOLIDAYS, "a holiday that is no date", 0, 0);
 
     /* Compares random weeks and moves with a count of one day at a time. */
     for (int turn = 0; turn < DRAWN; turn++) {
         const uint32_t marks = (uint32_t)(drawn() % 127) + 1;
+        const fots_workdays drawn_week = week_of(marks, holidays, 10);
         const fots_date date = date_at(holidays[0].julian_day - 40 + (int32_t)(drawn() % 440));
         const int32_t moves = (int32_t)(drawn() % 61) - 30;
         fots_date at = date;
-        for (int32_t left = moves; left != 0 || (moves == 0 && !fots_date_is_workday(at, marks, holidays, 10).number);) {
+        for (int32_t left = moves; left != 0 || (moves == 0 && !fots_workdays_contains(&drawn_week, at).number);) {
             at.julian_day += moves < 0 ? -1 : 1;
             int is_workday = (int)(marks >> (at.julian_day % 7) & 1);
             for (int row = 0; row < 10; row++) {
                 is_workday = is_workday && at.julian_day != holidays[row].julian_day;
             }
-            check((int)fots_date_is_workday(at, marks, holidays, 10).number == is_workday, "a drawn day", at.julian_day, (long long)marks);
+            check((int)fots_workdays_contains(&drawn_week, at).number == is_workday, "a drawn day", at.julian_day, (long long)marks);
             left -= left == 0 ? 0 : is_workday * (moves < 0 ? -1 : 1);
         }
-        is_day(fots_date_add_workdays(date, moves, marks, holidays, 10), at, "drawn working days");
+        is_day(fots_workdays_add(&drawn_week, date, moves), at, "drawn working days");
     }
 }
 

@@ -1,5 +1,5 @@
-/* Compares working days that are checked once with the calls that check them each time, and fills
- * structs with any bytes. */
+/* Compares working days with a count by whole weeks and each holiday, and fills structs with any
+ * bytes. */
 #include <stdlib.h>
 #include <string.h>
 
@@ -38,12 +38,74 @@ static int same_date(fots_date_result first, fots_date_result second)
     return first.status == second.status && first.date.julian_day == second.date.julian_day;
 }
 
-/* Compares each call with the one that checks the holidays. */
-static void same_days(uint32_t weekmask, const fots_date *holidays, size_t length, int rows)
+/* A week and its holidays, whose working days are counted without the library. */
+typedef struct Week {
+    uint32_t weekmask;
+    const fots_date *holidays;
+    size_t length;
+} Week;
+
+static int is_marked(const Week *week, int64_t julian_day)
+{
+    return (int)(week->weekmask >> ((julian_day % 7 + 7) % 7) & 1);
+}
+
+/* Returns the working days before a day, counted from the Monday before the first date. */
+static int64_t rank(const Week *week, int64_t julian_day)
+{
+    const int64_t monday = FOTS_MIN_JULIAN_DAY - (FOTS_MIN_JULIAN_DAY % 7 + 7) % 7, days = julian_day - monday;
+    int64_t before = 0;
+    for (int64_t index = 0; index < 7; index++) {
+        before += is_marked(week, index) * (days / 7 + (index < days % 7));
+    }
+    for (size_t index = 0; index < week->length && week->holidays[index].julian_day < julian_day; index++) {
+        before -= is_marked(week, week->holidays[index].julian_day);
+    }
+    return before;
+}
+
+static int is_workday(const Week *week, int64_t julian_day)
+{
+    return rank(week, julian_day) < rank(week, julian_day + 1);
+}
+
+/* Checks that a result is the working day with a rank, or out of range. */
+static void has_rank(fots_date_result result, const Week *week, int64_t wanted, const char *what, fots_date date, int32_t given)
+{
+    const int64_t least = rank(week, FOTS_MIN_JULIAN_DAY), past = rank(week, (int64_t)FOTS_MAX_JULIAN_DAY + 1), found = result.date.julian_day;
+    check(wanted < least || wanted >= past ? result.status == FOTS_RESULT_OUT_OF_RANGE
+        : result.status == FOTS_OK && is_workday(week, found) && rank(week, found) == wanted, what, date.julian_day, given);
+}
+
+static int is_same_month(fots_date first, fots_date second)
+{
+    const fots_calendar_date_result of_first = fots_date_to_calendar_date(first), of_second = fots_date_to_calendar_date(second);
+    return of_first.year == of_second.year && of_first.month == of_second.month;
+}
+
+/* Checks each convention. The modified ones stay in the month of the date if they can. */
+static void adjusts(const fots_workdays *workdays, const Week *week, fots_date date)
+{
+    const fots_date_result following = fots_workdays_adjust(workdays, date, FOTS_FOLLOWING);
+    const fots_date_result preceding = fots_workdays_adjust(workdays, date, FOTS_PRECEDING);
+    has_rank(following, week, rank(week, date.julian_day), "following", date, 0);
+    has_rank(preceding, week, rank(week, (int64_t)date.julian_day + 1) - 1, "preceding", date, 0);
+    check(same_date(fots_workdays_adjust(workdays, date, FOTS_MODIFIED_FOLLOWING),
+        following.status == FOTS_OK && is_same_month(following.date, date) ? following : preceding),
+        "modified following", date.julian_day, 0);
+    check(same_date(fots_workdays_adjust(workdays, date, FOTS_MODIFIED_PRECEDING),
+        preceding.status == FOTS_OK && is_same_month(preceding.date, date) ? preceding : following),
+        "modified preceding", date.julian_day, 0);
+    check(fots_workdays_adjust(workdays, date, FOTS_UNADJUSTED).date.julian_day == date.julian_day, "unadjusted", date.julian_day, 0);
+}
+
+/* Compares each call with the ranks of a week. */
+static void same_days(uint32_t weekmask, const fots_date *holidays, size_t length, int rows, int32_t status)
 {
     const fots_workdays_result made = fots_workdays_new(weekmask, holidays, length);
     const fots_workdays *workdays = &made.workdays;
-    check(made.status == fots_date_is_workday(date_at(0), weekmask, holidays, length).status, "the status", made.status, (long long)length);
+    const Week week = {weekmask, holidays, length};
+    check(made.status == status, "the status", made.status, (long long)length);
     if (made.status) {
         check(fots_workdays_contains(workdays, date_at(0)).status == FOTS_INVALID_WEEKMASK, "an error rejected", made.status, 0);
         return;
@@ -51,16 +113,19 @@ static void same_days(uint32_t weekmask, const fots_date *holidays, size_t lengt
     for (int row = 0; row < rows; row++) {
         const fots_date date = drawn_date(), other = drawn_date();
         const int32_t days = drawn_days();
-        const uint32_t convention = (uint32_t)(drawn() % 6);
-        const fots_component_result is = fots_workdays_contains(workdays, date), was = fots_date_is_workday(date, weekmask, holidays, length);
+        const int64_t before = rank(&week, date.julian_day), after = rank(&week, (int64_t)date.julian_day + 1);
+        const fots_date_result added = fots_workdays_add(workdays, date, days);
+        if (date.julian_day < FOTS_MIN_JULIAN_DAY || date.julian_day > FOTS_MAX_JULIAN_DAY) {
+            check(fots_workdays_contains(workdays, date).status == FOTS_INVALID_DATE && added.status == FOTS_INVALID_DATE, "no date",
+                date.julian_day, days);
+            continue;
+        }
+        check(fots_workdays_contains(workdays, date).number == (uint32_t)(after - before), "a working day", date.julian_day, (long long)length);
+        has_rank(added, &week, days > 0 ? after + days - 1 : before + days, "working days later", date, days);
+        adjusts(workdays, &week, date);
         const fots_number_result between = fots_workdays_between(workdays, date, other);
-        check(is.status == was.status && is.number == was.number, "a working day", date.julian_day, (long long)length);
-        check(same_date(fots_workdays_add(workdays, date, days), fots_date_add_workdays(date, days, weekmask, holidays, length)),
-            "working days later", date.julian_day, days);
-        check(between.number == fots_date_workdays_between(date, other, weekmask, holidays, length).number, "between", date.julian_day,
-            other.julian_day);
-        check(same_date(fots_workdays_adjust(workdays, date, convention), fots_date_adjust(date, convention, weekmask, holidays, length)),
-            "adjusted", date.julian_day, convention);
+        check(between.status ? between.status == FOTS_INVALID_DATE : between.number == rank(&week, other.julian_day) - before, "between",
+            date.julian_day, other.julian_day);
     }
 }
 
@@ -76,16 +141,16 @@ static void lists_of_holidays(void)
         }
         for (uint32_t weekmask = 0; weekmask <= 128; weekmask = 2 * weekmask + 1) {
             for (size_t length = 0; length <= FOTS_MAX_HOLIDAYS + 1; length = length < 16 ? length + 5 : length < 1024 ? 1024 : length + 1) {
-                same_days(weekmask, holidays, length, 400);
+                same_days(weekmask, holidays, length, 400, weekmask > 127 ? FOTS_INVALID_WEEKMASK : length > FOTS_MAX_HOLIDAYS ? FOTS_TOO_MANY_HOLIDAYS : FOTS_OK);
             }
         }
-        same_days(128, holidays, 0, 1);
-        same_days(96, holidays, FOTS_MAX_HOLIDAYS, 400);
+        same_days(128, holidays, 0, 1, FOTS_INVALID_WEEKMASK);
+        same_days(96, holidays, FOTS_MAX_HOLIDAYS, 400, FOTS_OK);
     }
     holidays[7] = holidays[6];
-    same_days(31, holidays, 8, 1);
+    same_days(31, holidays, 8, 1, FOTS_INVALID_HOLIDAYS);
     holidays[7] = date_at(FOTS_NO_VALUE);
-    same_days(31, holidays, 8, 1);
+    same_days(31, holidays, 8, 1, FOTS_INVALID_HOLIDAYS);
 }
 
 /* Compares the columns with single calls. */

@@ -254,18 +254,19 @@ static void workdays(int32_t julian_day, uint32_t number, int32_t count)
 {
     static const fots_date rising[] = {{2451545}, {2451604}}, falling[] = {{2451604}, {2451545}};
     fots_date date = date_at(julian_day), other = date_at(count);
-    int32_t no_week = number < 128 ? FOTS_OK : FOTS_INVALID_WEEKMASK, wrong = first_of(of_date(date), no_week);
+    int32_t no_week = number < 128 ? FOTS_OK : FOTS_INVALID_WEEKMASK, wrong = first_of(no_week, of_date(date));
     int32_t no_convention = (uint32_t)count <= 4 ? FOTS_OK : FOTS_INVALID_CONVENTION;
-    COMPONENT(wrong, fots_date_is_workday(date, number, rising, 2), julian_day);
-    DATE(wrong, fots_date_next_workday(date, number, rising, 2));
-    DATE(wrong, fots_date_previous_workday(date, number, rising, 2));
-    DATE(wrong, fots_date_add_workdays(date, count, number, rising, 2));
-    NUMBER(first_of(first_of(of_date(date), of_date(other)), no_week), fots_date_workdays_between(date, other, number, rising, 2),
-        julian_day);
-    DATE(first_of(first_of(of_date(date), no_convention), no_week), fots_date_adjust(date, (uint32_t)count, number, rising, 2));
-    DATE(first_of(wrong, FOTS_INVALID_HOLIDAYS), fots_date_next_workday(date, number, falling, 2));
+    fots_workdays_result made = fots_workdays_new(number, rising, 2);
+    status_is(no_week, made.status, made.workdays.weekmask < 128, "workdays_new", number, 0);
+    COMPONENT(wrong, fots_workdays_contains(&made.workdays, date), julian_day);
+    DATE(wrong, fots_workdays_add(&made.workdays, date, count));
+    NUMBER(first_of(wrong, of_date(other)), fots_workdays_between(&made.workdays, date, other), julian_day);
+    DATE(first_of(wrong, no_convention), fots_workdays_adjust(&made.workdays, date, (uint32_t)count));
+    made = fots_workdays_new(number, falling, 2);
+    status_is(first_of(no_week, FOTS_INVALID_HOLIDAYS), made.status, made.workdays.weekmask < 128, "falling holidays", number, 0);
     /* Their number is checked before they are read, so the array may be shorter. */
-    DATE(first_of(wrong, FOTS_TOO_MANY_HOLIDAYS), fots_date_next_workday(date, number, rising, FOTS_MAX_HOLIDAYS + 1));
+    made = fots_workdays_new(number, rising, FOTS_MAX_HOLIDAYS + 1);
+    status_is(first_of(no_week, FOTS_TOO_MANY_HOLIDAYS), made.status, made.workdays.weekmask < 128, "many holidays", number, 0);
 }
 
 static void rules(int32_t julian_day, uint32_t number, int32_t count)

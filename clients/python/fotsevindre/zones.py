@@ -31,28 +31,28 @@ class Local:
     instants: tuple[int, ...]
     offset_before: UtcOffset
     offset_after: UtcOffset
+    _zone: tuple[bytes, bytes] = dataclasses.field(repr=False, compare=False)
 
     def compatible(self) -> OffsetDateTime:
         """Returns the date-time that RFC 5545 and most calendars mean: in a gap the reading moved
         forward by its length, in a fold the first. `OverflowError` if it is out of range."""
-        return self.later() if self.kind is LocalKind.Gap else self.earlier()
+        return self._by(Policy.Compatible)
 
     def earlier(self) -> OffsetDateTime:
         """Returns the first date-time, in a gap the reading moved back by its length."""
-        return self._moved(self.offset_before, self.offset_after)
+        return self._by(Policy.Earlier)
 
     def later(self) -> OffsetDateTime:
         """Returns the second date-time, in a gap the reading moved forward by its length."""
-        return self._moved(self.offset_after, self.offset_before)
-
-    def _moved(self, offset: UtcOffset, other: UtcOffset) -> OffsetDateTime:
-        """Returns the reading at an offset, in a gap the same instant as at the other offset."""
-        is_gap = self.kind is LocalKind.Gap
-        return self.reading.assume_offset(other if is_gap else offset).to_offset(offset)
+        return self._by(Policy.Later)
 
     def reject(self) -> OffsetDateTime | None:
         """Returns the date-time if clocks show the reading once, else `None`."""
-        return self.earlier() if self.kind is LocalKind.Single else None
+        return self._by(Policy.Reject) if self.kind is LocalKind.Single else None
+
+    def _by(self, policy: Policy) -> OffsetDateTime:
+        """Returns the date-time that a policy selects."""
+        return _core.zone_moment(self._zone, self.reading.date(), self.reading.time(), policy)
 
 
 def _seconds(moment: OffsetDateTime | SupportsIndex) -> int:
@@ -144,7 +144,7 @@ class Zone:
         date, time = check(reading, PlainDateTime).date(), reading.time()
         kind, earlier, later, before, after = _core.zone_resolve(self._zone, date, time)
         instants = ((earlier,), (), (earlier, later))[kind - 1]
-        return Local(reading, LocalKind(kind), instants, before, after)
+        return Local(reading, LocalKind(kind), instants, before, after, self._zone)
 
     def in_zone(self, moment: OffsetDateTime) -> OffsetDateTime:
         """Returns the same instant in this zone, like `OffsetDateTime.in_zone`."""

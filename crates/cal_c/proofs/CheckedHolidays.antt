@@ -1,7 +1,7 @@
 -- Holidays of a struct, and working days by their ranks.
 use Rattle.std.proofs.Common.{◌≡◌, ℕ, zero, suc, ◌+◌, ◌-◌, ◌<◌, ◌≤◌, sym, ap, ◌∙◌, arith, subst, List, All, set, Bool, add-one, ◌≢◌, get_or-set_other, get_or-set_same, if◌then◌else◌, not, ◌%◌, false, pos, length, get_or, take, slice_get, Option, Some, None, true, inl, inr, ℤ, negsuc, ◌+ℤ◌, ◌-ℤ◌, ◌<ℤ◌, ◌≤ℤ◌}
 use Rattle.std.specs.Int.Signed.{lt_z, lt_z_yes, lt_z_no}
-use Rattle.std.specs.Prelude.{MatchOption}
+use Rattle.std.specs.Prelude.{MatchOption, Result, Ok, Err}
 use Rattle.std.specs.Int.{from_bool}
 use Rattle.std.proofs.lemmas.Bool.{cases_lt, cases_Bool}
 use Rattle.std.proofs.lemmas.Float.{T_from_true}
@@ -14,8 +14,12 @@ use Rattle.cal_schedule.specs.Ranks.{count-none, count-next, count-yes, count-no
 use Rattle.cal_schedule.specs.Workdays.{WorkWeek, is_marked, is_workday, nth_workday, workdays_from, workdays_before}
 use Rattle.cal_schedule.specs.WorkdaysSplit.{IsSplit, marked_count}
 use Rattle.cal_schedule.proofs.WorkdaysWeeks.{Rises, ranks, free, none-marked, workday-unmarked, marked-is}
-use Rattle.cal_c.specs.CheckedWorkdays.{HavePassed, IsDayOfRank, NoDayOfRank}
-use Rattle.cal_c.specs.Values.{IsJulianDay, dates_in, day_of}
+use Rattle.cal_text.proofs.Results.{one}
+use Rattle.cal_c.specs.CheckedWorkdays.{week_of, HasLimits, HavePassed, IsChecked, IsDayOfRank, IsForWeek, NoDayOfRank}
+use Rattle.cal_c.specs.Values.{IsJulianDay, dates_in, day_of, max_dates}
+use Rattle.cal_c.specs.Weekmasks.{IsWeekmask}
+use Rattle.cal_c.specs.declared.schedule.workdays.checked_workdays.CheckedWorkdays.{CheckedWorkdays}
+use Rattle.cal_c.specs.declared.status.TheConstants.{INVALID_WEEKMASK, TOO_MANY_HOLIDAYS}
 
 -- the marks of a week, counted
 pub mark-of : (w : WorkWeek) (marks : List Bool) (i : ℕ) → w.marks ≡ marks → i < 7 → get_or marks i false ≡ is_marked w i
@@ -215,3 +219,18 @@ rank-test w n a b e f =
         | inr off ↦ most ∙ sym off
       ]
     ]
+
+-- the result for working days with valid limits
+pub for_week : (c d : CheckedWorkdays) (Error : ℤ → Type 0) (Any : Type 0) (Then : WorkWeek → Type 0)
+    → ((IsWeekmask c.weekmask → ⊥) → ◌≡◌ {A = Result CheckedWorkdays ℤ} (Ok d) (Err INVALID_WEEKMASK))
+    → (IsWeekmask c.weekmask → max_dates < c.holidays_length → ◌≡◌ {A = Result CheckedWorkdays ℤ} (Ok d) (Err TOO_MANY_HOLIDAYS))
+    → (HasLimits c → ◌≡◌ {A = Result CheckedWorkdays ℤ} (Ok d) (Ok c)) → Any → (IsChecked d → Then (week_of d)) → IsForWeek c Error Any Then
+for_week c d Error Any Then weekmask holidays same any found = record {
+  invalid_weekmask = λ out. absurd (never (weekmask out));
+  too_many_holidays = λ is many. absurd (never (holidays is many));
+  any = λ limits. any;
+  value = λ checked. subst (λ (k : CheckedWorkdays). IsChecked k → Then (week_of k)) (one d c (same checked.limits)) found checked;
+}
+  where
+    never : {s : ℤ} → ◌≡◌ {A = Result CheckedWorkdays ℤ} (Ok d) (Err s) → ⊥
+    never e = cc

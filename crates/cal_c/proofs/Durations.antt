@@ -2,9 +2,9 @@
 use Rattle.std.proofs.Common.{◌≡◌, refl, ap, ℤ, Option, Some, None, SomeIff}
 use Rattle.cal_time.specs.SignedDuration.{IsDuration}
 use Rattle.cal_c.specs.Results.{duration_ok, duration_error, duration_or_out_of_range, IsDurationOrOutOfRange}
-use Rattle.cal_c.specs.Statuses.{result_out_of_range}
+use Rattle.cal_c.specs.declared.status.TheConstants.{RESULT_OUT_OF_RANGE}
 
-pub duration-none : (r : Option ℤ) (P : Type 0) (v : ℤ) → SomeIff r P v → (P → ⊥) → duration_or_out_of_range r ≡ duration_error result_out_of_range
+pub duration-none : (r : Option ℤ) (P : Type 0) (v : ℤ) → SomeIff r P v → (P → ⊥) → duration_or_out_of_range r ≡ duration_error RESULT_OUT_OF_RANGE
 duration-none None P v e out = refl
 duration-none (Some x) P v e out = absurd (out e.0)
 

@@ -9,7 +9,7 @@ use Rattle.cal_recurrence.specs.declared.recurrence.Recurrence.{Recurrence}
 use Rattle.cal_c.proofs.Days.{either}
 use Rattle.cal_c.specs.RecurrenceTexts.{recurrence_ok, recurrence_error, recurrence_parse_error}
 use Rattle.cal_c.specs.Recurrences.{AreDatesWritten}
-use Rattle.cal_c.specs.Statuses.{invalid_date}
+use Rattle.cal_c.specs.declared.status.TheConstants.{INVALID_DATE}
 use Rattle.cal_c.specs.Values.{IsJulianDay, day_of}
 use Rattle.cal_c.specs.declared.schedule.recurrences.results.RecurrenceResult.{RecurrenceResult}
 
@@ -42,7 +42,7 @@ answer-one its start from old a b r s lengths (e, v) (f, w) =
 pub record Clauses (text : List ℕ) (start from : ℤ) (old new : List ℤ) (r : RecurrenceResult) : Type 0 where
   pub unread : (fault : ParseRuleError) → recurrence_of text ≡ Err fault → (r ≡ recurrence_parse_error fault) × (new ≡ old)
   pub invalid_date : (its : Recurrence) → recurrence_of text ≡ Ok its → ¬ (IsJulianDay start × IsJulianDay from)
-      → (r ≡ recurrence_error invalid_date) × (new ≡ old)
+      → (r ≡ recurrence_error INVALID_DATE) × (new ≡ old)
   pub days : (its : Recurrence) → recurrence_of text ≡ Ok its → IsJulianDay start → IsJulianDay from → IsAnswer its start from old new r
 
 pub recurrence-one : (text : List ℕ) (start from : ℤ) (old a b : List ℤ) (r s : RecurrenceResult) (x : Result Recurrence ParseRuleError)

@@ -1,5 +1,5 @@
 -- The items of numbers, one after the other.
-use Rattle.std.proofs.Common.{◌≡◌, ℕ, ◌-◌, ◌≤◌, List, [], ◌∷◌, ◌++◌, length, map, take, drop, get_or, refl, sym, ap, ◌∙◌, subst, arith, append_assoc, length-append}
+use Rattle.std.proofs.Common.{◌≡◌, ℕ, ◌-◌, ◌≤◌, List, [], ◌∷◌, ◌++◌, length, map, take, drop, get_or, sym, ap, ◌∙◌, subst, arith, append_assoc, length-append}
 use Rattle.std.proofs.lemmas.List.{take_all, length-map}
 use Rattle.std.specs.Prelude.{Bool, true, false, ◌&&◌, IsTrue}
 use Rattle.cal_format.specs.declared.item.Item.{Item}
@@ -16,13 +16,6 @@ both-true true b h k = k
 both-true false b h k = cc
 
 -- What holds of an item and of the others holds of them all.
-pub none-of : (P : List Item → Type 0) → P [] → AreItemsOf [] P
-none-of P h = record { items = []; parts_are = refl; every = every }
-  where
-    every : (others : List Item) → [] ≡ map item_parts others → P others
-    every [] e = h
-    every (i ∷ others) e = absurd (omega (arith, ap length e))
-
 pub all-of : (P : Item → Type 0) (Q R : List Item → Type 0) (ps : List FormatItem) → ((i : Item) (items : List Item) → P i → Q items → R (i ∷ items)) → 1 ≤ length ps → IsItemOf (get_or ps 0 (parts 0 0)) P
     → AreItemsOf (take (length ps - 1) (drop 1 ps)) Q → AreItemsOf ps R
 all-of P Q R [] both some first others = absurd (omega arith)

@@ -1,24 +1,22 @@
 -- The clauses of the calls for zones leave one result for a zone.
-use Rattle.std.proofs.Common.{◌≡◌, ◌∙◌, ℕ, suc, refl, sym, ap, arith, subst, inl, inr}
+use Rattle.std.proofs.Common.{◌≡◌, ◌∙◌, ℕ, suc, sym, ap, arith, inl, inr}
 use Rattle.std.proofs.lemmas.Bool.{cases_lt}
 use Rattle.std.proofs.lemmas.Int.{ints, by_lt_z}
-use Rattle.std.specs.Prelude.{ℤ, pos, neg_ℤ, ◌<ℤ◌, ◌≤ℤ◌, length, Option, Some, None}
+use Rattle.std.specs.Prelude.{ℤ, pos, neg_ℤ, ◌<ℤ◌, ◌≤ℤ◌, length}
 use Rattle.std.specs.List.{slice_index_or}
-use Rattle.cal_datetime.specs.OffsetDateTime.{LocalAndOffset}
 use Rattle.cal_zone.specs.declared.change.Change.{Change}
+use Rattle.cal_zone.specs.declared.instants.Instants.{Instants}
 use Rattle.cal_zone.specs.declared.local.Local.{Local}
-use Rattle.cal_zone.specs.declared.local.Local.TheVariants.{Single, Gap, Fold}
-use Rattle.cal_zone.specs.Local.{IsInRange, moved_back, moved_forward}
+use Rattle.cal_zone.specs.declared.policy.Policy.{Policy}
+use Rattle.cal_zone.specs.Policy.{instant_by, moment_by}
 use Rattle.cal_zone.specs.Split.{IsSplit}
 use Rattle.cal_zone.specs.Timeline.{Timeline, InOrder, IsMoment, at, no_change}
 use Rattle.cal_zone.proofs.OneLocal.{instants-one, local-one}
 use Rattle.cal_c.specs.Results.{int64_ok}
-use Rattle.cal_c.specs.Zones.{local_ok, missing_status, moment_or_error, IsByPolicy, IsMomentByPolicy, IsNextResult, IsPreviousResult, IsResolved}
-use Rattle.cal_c.specs.ZoneColumns.{instant_by, IsInstantByPolicy}
+use Rattle.cal_c.specs.Zones.{local_ok, moment_or_error, IsMomentByPolicy, IsNextResult, IsPreviousResult, IsResolved}
+use Rattle.cal_c.specs.ZoneColumns.{instant_or_error, IsInstantByPolicy}
 use Rattle.cal_c.specs.declared.results.Int64Result.{Int64Result}
 use Rattle.cal_c.specs.declared.results.MomentResult.{MomentResult}
-use Rattle.cal_c.specs.declared.zones.policy.Policy.{Policy}
-use Rattle.cal_c.specs.declared.zones.policy.Policy.TheVariants.{Compatible, Earlier, Later, Reject}
 use Rattle.cal_c.specs.declared.zones.results.LocalResult.{LocalResult}
 
 -- ---- changes
@@ -61,35 +59,15 @@ pub resolved-one : (z : Timeline) → InOrder z → (l : ℤ) (r s : LocalResult
 resolved-one z order l r s (its, p, e) (others, q, f) =
     e ∙ ap (local_ok l) (instants-one z order l its others p.set q.set p.explained q.explained) ∙ sym f
 
-in_range-one : (m : LocalAndOffset) (r s : Option LocalAndOffset) → IsInRange m r → IsInRange m s → r ≡ s
-in_range-one m None None h k = refl
-in_range-one m None (Some s) h k = absurd (h k.0)
-in_range-one m (Some r) None h k = absurd (k h.0)
-in_range-one m (Some r) (Some s) h k = ap (λ (x : LocalAndOffset). Some x) (h.1 ∙ sym k.1)
-
-policy-one : (p : Policy) (local : Local) (r s : Option LocalAndOffset) → IsByPolicy p local r → IsByPolicy p local s → r ≡ s
-policy-one Compatible (Single m) r s h k = h ∙ sym k
-policy-one Compatible (Gap gap) r s h k = in_range-one (moved_forward gap) r s h k
-policy-one Compatible (Fold e l) r s h k = h ∙ sym k
-policy-one Earlier (Single m) r s h k = h ∙ sym k
-policy-one Earlier (Gap gap) r s h k = in_range-one (moved_back gap) r s h k
-policy-one Earlier (Fold e l) r s h k = h ∙ sym k
-policy-one Later (Single m) r s h k = h ∙ sym k
-policy-one Later (Gap gap) r s h k = in_range-one (moved_forward gap) r s h k
-policy-one Later (Fold e l) r s h k = h ∙ sym k
-policy-one Reject local r s h k = h ∙ sym k
-
 pub moment-one : (z : Timeline) → InOrder z → (l : ℤ) (p : Policy) (r s : MomentResult) → IsMomentByPolicy z l p r → IsMomentByPolicy z l p s → r ≡ s
-moment-one z order l p r s (local, is, (m, by, e)) (other, its, (n, its_by, f)) =
-    let same = local-one z order l local other is its in
-    let taken = policy-one p other m n (subst (λ (x : Local). IsByPolicy p x m) same by) its_by in
-    e ∙ ap (λ (x : Local). moment_or_error (missing_status p x) m) same ∙ ap (moment_or_error (missing_status p other)) taken ∙ sym f
+moment-one z order l p r s (local, is, e) (other, its, f) =
+    e ∙ ap (λ (x : Local). moment_or_error (moment_by p x)) (local-one z order l local other is its) ∙ sym f
 
 instant-one : (z : Timeline) → InOrder z → (l : ℤ) (p : Policy) (r s : Int64Result) → IsMoment l → IsInstantByPolicy z l p r → IsInstantByPolicy z l p s → r ≡ s
 instant-one z order l p r s is a b =
     let (its, first, e) = a.value is in
     let (others, second, f) = b.value is in
-    e ∙ ap (instant_by p l) (instants-one z order l its others first.set second.set first.explained second.explained) ∙ sym f
+    e ∙ ap (λ (x : Instants). instant_or_error (instant_by p l x)) (instants-one z order l its others first.set second.set first.explained second.explained) ∙ sym f
 
 pub row-one : (z : Timeline) → InOrder z → (l : ℤ) (p : Policy) (r s : Int64Result) → IsInstantByPolicy z l p r → IsInstantByPolicy z l p s → r ≡ s
 row-one z order l p r s a b =

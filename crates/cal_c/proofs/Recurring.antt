@@ -9,7 +9,7 @@ use Rattle.cal_time.specs.WeekdayCycle.{weekday_of_index-index}
 use Rattle.cal_time.specs.declared.Month.{Month}
 use Rattle.cal_time.specs.declared.Weekday.{Weekday}
 use Rattle.cal_c.specs.Recurrences.{AreDates, AreListsShort, AreMonths, ArePlain, AreWeekdays, IsFrequency, IsRule, IsRuleStatus}
-use Rattle.cal_c.specs.Statuses.{invalid_date, invalid_frequency, invalid_weekday, month_status}
+use Rattle.cal_c.specs.declared.status.TheConstants.{INVALID_DATE, INVALID_WEEKDAY, INVALID_FREQUENCY, MONTH_OUT_OF_RANGE}
 use Rattle.cal_c.specs.Values.{IsWeekday}
 use Rattle.cal_c.specs.declared.schedule.recurrences.rule_parts.RuleParts.{RuleParts}
 
@@ -24,7 +24,7 @@ pub weekday_numbered : (w : Weekday) (k : ℕ) → weekdays.index w + 1 ≡ k �
 weekday_numbered w k e = let same : weekdays.index w ≡ k - 1 = omega (arith, e) in sym (weekday_of_index-index w) ∙ ap weekdays.weekday_of_index same
 
 -- The status of the first invalid part.
-pub refused_dates : (p : RuleParts) → ¬ AreDates p → (¬ IsRule p) × IsRuleStatus p invalid_date
+pub refused_dates : (p : RuleParts) → ¬ AreDates p → (¬ IsRule p) × IsRuleStatus p INVALID_DATE
 refused_dates p out = (
   λ is. out is.plain.dates,
   record {
@@ -37,7 +37,7 @@ refused_dates p out = (
   },
 )
 
-pub refused_frequency : (p : RuleParts) → AreDates p → ¬ IsFrequency p.frequency → (¬ IsRule p) × IsRuleStatus p invalid_frequency
+pub refused_frequency : (p : RuleParts) → AreDates p → ¬ IsFrequency p.frequency → (¬ IsRule p) × IsRuleStatus p INVALID_FREQUENCY
 refused_frequency p dates out = (
   λ is. out is.plain.frequency,
   record {
@@ -50,7 +50,7 @@ refused_frequency p dates out = (
   },
 )
 
-pub refused_week_start : (p : RuleParts) → AreDates p → IsFrequency p.frequency → ¬ IsWeekday p.week_start → (¬ IsRule p) × IsRuleStatus p invalid_weekday
+pub refused_week_start : (p : RuleParts) → AreDates p → IsFrequency p.frequency → ¬ IsWeekday p.week_start → (¬ IsRule p) × IsRuleStatus p INVALID_WEEKDAY
 refused_week_start p dates frequency out = (
   λ is. out is.plain.week_start,
   record {
@@ -63,7 +63,7 @@ refused_week_start p dates frequency out = (
   },
 )
 
-pub refused_months : (p : RuleParts) → ArePlain p → AreListsShort p → ¬ AreMonths p.months.now → (¬ IsRule p) × IsRuleStatus p month_status
+pub refused_months : (p : RuleParts) → ArePlain p → AreListsShort p → ¬ AreMonths p.months.now → (¬ IsRule p) × IsRuleStatus p MONTH_OUT_OF_RANGE
 refused_months p plain short out = (
   λ is. out is.months,
   record {
@@ -77,7 +77,7 @@ refused_months p plain short out = (
 )
 
 pub refused_weekdays : (p : RuleParts) → ArePlain p → AreListsShort p → AreMonths p.months.now → ¬ AreWeekdays p.weekdays.now
-    → (¬ IsRule p) × IsRuleStatus p invalid_weekday
+    → (¬ IsRule p) × IsRuleStatus p INVALID_WEEKDAY
 refused_weekdays p plain short months out = (
   λ is. out is.weekdays,
   record {

@@ -10,7 +10,7 @@ use Rattle.cal_schedule.specs.declared.workdays.convention.Convention.TheVariant
 use Rattle.cal_c.specs.Columns.{IsByte}
 use Rattle.cal_c.specs.Results.{date_error, date_or_out_of_range, number_ok, IsDateWith}
 use Rattle.cal_c.specs.Schedule.{day_count_number, period_ok, IsNumberWith, IsPeriodWith}
-use Rattle.cal_c.specs.Statuses.{result_out_of_range}
+use Rattle.cal_c.specs.declared.status.TheConstants.{RESULT_OUT_OF_RANGE}
 use Rattle.cal_c.specs.Values.{IsJulianDay, day_of}
 use Rattle.cal_c.specs.Weekmasks.{convention_number}
 use Rattle.cal_c.proofs.Days.{IsDateWith-at}
@@ -19,7 +19,7 @@ pub day-if-any : (Has : ℕ → Type 0) (A : Type 0) (r : Option ℕ) → IfSome
 day-if-any Has A None has none a = absurd (none a)
 day-if-any Has A (Some n) has none a = IsDateWith-at Has n has.0 has.1
 
-pub past-if-any : (A : Type 0) (r : Option ℕ) → IfSome r (λ n. A) → (A → ⊥) → date_or_out_of_range r ≡ date_error result_out_of_range
+pub past-if-any : (A : Type 0) (r : Option ℕ) → IfSome r (λ n. A) → (A → ⊥) → date_or_out_of_range r ≡ date_error RESULT_OUT_OF_RANGE
 past-if-any A None some out = refl
 past-if-any A (Some n) some out = absurd (out some)
 

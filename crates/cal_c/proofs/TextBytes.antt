@@ -7,12 +7,12 @@ use Rattle.cal_time.specs.MonthCycle.{month_of_index-index}
 use Rattle.cal_time.specs.Weekday as weekdays
 use Rattle.cal_time.specs.WeekdayCycle.{weekday_of_index-index}
 use Rattle.cal_c.proofs.Filled.{copied-over}
-use Rattle.cal_c.specs.Statuses.{ok_status}
+use Rattle.cal_c.specs.declared.status.TheConstants.{OK}
 use Rattle.cal_c.specs.Texts.{text_ok, month_name, weekday_name}
 use Rattle.cal_c.specs.declared.texts.TextResult.{TextResult}
 
 abbrev pub text_with : List ℕ → List ℕ → TextResult
-text_with text bytes = record { status = ok_status; length = length text; bytes = bytes }
+text_with text bytes = record { status = OK; length = length text; bytes = bytes }
 
 pub copied-over-zeros : (text copied : List ℕ) → copied ≡ text → text_with text (copied ++ drop (length text) (replicate 40 0)) ≡ text_ok text
 copied-over-zeros text copied same = ap (text_with text) (copied-over 40 0 text copied same)

@@ -8,7 +8,8 @@ use Rattle.cal_time.specs.declared.error.Component.TheVariants.{Year, Month, Jul
 use Rattle.cal_c.specs.Columns.{IsByte, date_row}
 use Rattle.cal_c.specs.Moments.{moment_ok, moment_error}
 use Rattle.cal_c.specs.Results.{date_ok, date_error, no_value}
-use Rattle.cal_c.specs.Statuses.{ok_status, component_status}
+use Rattle.cal_c.specs.declared.status.TheConstants.{OK}
+use Rattle.cal_c.specs.Statuses.{component_status}
 use Rattle.cal_c.specs.TextColumns.{moment_row}
 use Rattle.cal_c.specs.Texts.{IsSyntaxError, StopsAt, no_position, parsed_date_ok, parsed_date_error, parsed_date_error_at, parsed_moment_ok, parsed_moment_error, parsed_moment_error_at}
 use Rattle.cal_c.specs.declared.texts.ParseDateResult.{ParseDateResult}
@@ -56,7 +57,7 @@ date-row r b s d fits byte is es ed =
 pub date_of_done : (r : ParseDateResult) (b n : ℕ) → FitsSigned w32 r.date → IsByteOf b r.status → r ≡ parsed_date_ok n
     → date_row (to_z w32 (of_z w32 r.date)) b ≡ date_ok (julian_day_at n)
 date_of_done r b n fits byte e =
-    date-row r b ok_status (julian_day_at n) fits byte (omega (arith, ints), omega (arith, ints)) (ap (λ x. x.status) e) (ap (λ x. x.date) e)
+    date-row r b OK (julian_day_at n) fits byte (omega (arith, ints), omega (arith, ints)) (ap (λ x. x.status) e) (ap (λ x. x.date) e)
 
 pub date_of_refused_at : (r : ParseDateResult) (b : ℕ) (s : ℤ) (at : ℕ) → FitsSigned w32 r.date → IsByteOf b r.status → IsByte s → r ≡ parsed_date_error_at s at
     → date_row (to_z w32 (of_z w32 r.date)) b ≡ date_error s
@@ -84,7 +85,7 @@ moment-row r b s d t o fits fits_o byte is es ed et eo =
 pub moment_of_done : (r : ParseMomentResult) (b : ℕ) (m : LocalAndOffset) → FitsSigned w32 r.date → FitsSigned w32 r.offset → IsByteOf b r.status → r ≡ parsed_moment_ok m
     → moment_row (to_z w32 (of_z w32 r.date)) r.time (to_z w32 (of_z w32 r.offset)) b ≡ moment_ok m
 moment_of_done r b m fits fits_o byte e =
-    moment-row r b ok_status _ _ _ fits fits_o byte (omega (arith, ints), omega (arith, ints)) (ap (λ x. x.status) e) (ap (λ x. x.date) e) (ap (λ x. x.time) e) (ap (λ x. x.offset) e)
+    moment-row r b OK _ _ _ fits fits_o byte (omega (arith, ints), omega (arith, ints)) (ap (λ x. x.status) e) (ap (λ x. x.date) e) (ap (λ x. x.time) e) (ap (λ x. x.offset) e)
 
 pub moment_of_refused : (r : ParseMomentResult) (b : ℕ) (s : ℤ) → FitsSigned w32 r.date → FitsSigned w32 r.offset → IsByteOf b r.status → IsByte s → r ≡ parsed_moment_error s
     → moment_row (to_z w32 (of_z w32 r.date)) r.time (to_z w32 (of_z w32 r.offset)) b ≡ moment_error s

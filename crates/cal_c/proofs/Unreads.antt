@@ -7,14 +7,15 @@ use Rattle.cal_text.specs.Position.{IsErrorAtStop}
 use Rattle.cal_text.specs.Parsing.{component_of}
 use Rattle.cal_text.specs.declared.error.ParseError.{ParseError}
 use Rattle.cal_text.specs.declared.error.ParseError.TheVariants.{UnexpectedByte, UnexpectedEnd, OutOfRange}
-use Rattle.cal_c.specs.Statuses.{unexpected_byte, unexpected_end, component_status}
+use Rattle.cal_c.specs.declared.status.TheConstants.{UNEXPECTED_BYTE, UNEXPECTED_END}
+use Rattle.cal_c.specs.Statuses.{component_status}
 use Rattle.cal_c.specs.Texts.{IsSyntaxError, no_position}
 use Rattle.cal_c.specs.ParseErrors.{of_parse_error}
 
 pub unreadable : {R : Type 0} (error_at : ℤ → ℕ → R) (IsText : List ℕ → Type 0) (text : List ℕ) (e : ParseError) (r : R) → component_of e ≡ None
     → IsErrorAtStop IsText text e → r ≡ of_parse_error error_at e → IsSyntaxError IsText text error_at r
-unreadable error_at IsText text (UnexpectedByte at) r none is gives = (at, unexpected_byte, record { position = is.0; status = inl (refl, is.1) }, gives)
-unreadable error_at IsText text (UnexpectedEnd at) r none is gives = (at, unexpected_end, record { position = is.0; status = inr (refl, is.1) }, gives)
+unreadable error_at IsText text (UnexpectedByte at) r none is gives = (at, UNEXPECTED_BYTE, record { position = is.0; status = inl (refl, is.1) }, gives)
+unreadable error_at IsText text (UnexpectedEnd at) r none is gives = (at, UNEXPECTED_END, record { position = is.0; status = inr (refl, is.1) }, gives)
 unreadable error_at IsText text (OutOfRange why) r none is gives = absurd (none-some why (sym none))
 
 pub refused : {R : Type 0} (error_at : ℤ → ℕ → R) (e : ParseError) (why : ComponentRange) → component_of e ≡ Some why

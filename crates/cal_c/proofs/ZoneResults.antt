@@ -25,7 +25,7 @@ use Rattle.cal_c.specs.Values.{need◌else◌then◌}
 use Rattle.cal_c.specs.Zones.{local_ok, policy_number, yearly_in, zone_in, zone_of_parts, AreInstantsOf, HasZone, IsForZone, IsMade, IsPartsError, IsPartsOf, IsPolicy, IsResolved}
 use Rattle.cal_c.specs.declared.zones.checked_zone.CheckedParts.{CheckedParts}
 use Rattle.cal_c.specs.declared.zones.checked_zone.CheckedZone.{CheckedZone}
-use Rattle.cal_c.specs.declared.zones.policy.Policy.{Policy}
+use Rattle.cal_zone.specs.declared.policy.Policy.{Policy}
 use Rattle.cal_c.specs.declared.zones.results.LocalResult.{LocalResult}
 use Rattle.cal_c.specs.declared.zones.results.PartsResult.{PartsResult}
 

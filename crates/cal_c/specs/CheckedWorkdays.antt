@@ -5,8 +5,8 @@ use Rattle.cal_time.specs.IsoWeekDate.{count_before}
 use Rattle.cal_schedule.specs.Workdays.{WorkWeek, is_workday, nth_workday}
 use Rattle.cal_schedule.specs.WorkdaysSplit.{marked_count}
 use Rattle.cal_c.specs.Results.{date_or_out_of_range, date_error, number_ok, number_error}
-use Rattle.cal_c.specs.Statuses.{invalid_date, invalid_weekmask, ok_status, too_many_holidays}
-use Rattle.cal_c.specs.Values.{IsJulianDay, day_of, max_dates}
+use Rattle.cal_c.specs.declared.status.TheConstants.{OK, INVALID_DATE, INVALID_WEEKMASK, TOO_MANY_HOLIDAYS}
+use Rattle.cal_c.specs.Values.{need◌else◌then◌, IsJulianDay, day_of, max_dates}
 use Rattle.cal_c.specs.Weekmasks.{work_week, workdays_between, AreHolidays, IsWeekmask}
 use Rattle.cal_c.specs.declared.results.DateResult.{DateResult}
 use Rattle.cal_c.specs.declared.results.NumberResult.{NumberResult}
@@ -36,21 +36,25 @@ pub record IsChecked (c : CheckedWorkdays) : Type 0 where
 abbrev pub IsSomeDate : DateResult → Type 0
 IsSomeDate r = (found : Option ℕ) × IfSome found IsDate × (r ≡ date_or_out_of_range found)
 
+-- A call that takes working days: an error for a struct without valid limits, any result of a kind
+-- for one with them, and the result for its working week if it is checked.
+pub record IsForWeek (c : CheckedWorkdays) (Error : ℤ → Type 0) (Any : Type 0) (Then : WorkWeek → Type 0) : Type 0 where
+  pub invalid_weekmask : (IsWeekmask c.weekmask → ⊥) → Error INVALID_WEEKMASK
+  pub too_many_holidays : IsWeekmask c.weekmask → max_dates < c.holidays_length → Error TOO_MANY_HOLIDAYS
+  pub any : HasLimits c → Any
+  pub value : IsChecked c → Then (week_of c)
+
 -- The result of `fots_workdays_add`.
-pub record IsDateWorkdaysLaterIn (c : CheckedWorkdays) (date days : ℤ) (r : DateResult) : Type 0 where
-  pub invalid_weekmask : (IsWeekmask c.weekmask → ⊥) → r ≡ date_error invalid_weekmask
-  pub too_many_holidays : IsWeekmask c.weekmask → max_dates < c.holidays_length → r ≡ date_error too_many_holidays
-  pub invalid_date : HasLimits c → (IsJulianDay date → ⊥) → r ≡ date_error invalid_date
-  pub any : HasLimits c → IsJulianDay date → IsSomeDate r
-  pub day : IsChecked c → IsJulianDay date → r ≡ date_or_out_of_range (nth_workday (week_of c) days (day_of date))
+abbrev pub IsDateWorkdaysLater : CheckedWorkdays → ℤ → ℤ → DateResult → Type 0
+IsDateWorkdaysLater c date days r = IsForWeek c (λ s. r ≡ date_error s)
+    (need IsJulianDay date else r ≡ date_error INVALID_DATE then IsSomeDate r)
+    (λ w. IsJulianDay date → r ≡ date_or_out_of_range (nth_workday w days (day_of date)))
 
 -- The result of `fots_workdays_between`.
-pub record IsWorkdaysBetweenIn (c : CheckedWorkdays) (date other : ℤ) (r : NumberResult) : Type 0 where
-  pub invalid_weekmask : (IsWeekmask c.weekmask → ⊥) → r ≡ number_error invalid_weekmask
-  pub too_many_holidays : IsWeekmask c.weekmask → max_dates < c.holidays_length → r ≡ number_error too_many_holidays
-  pub invalid_date : HasLimits c → (IsJulianDay date × IsJulianDay other → ⊥) → r ≡ number_error invalid_date
-  pub any : HasLimits c → IsJulianDay date → IsJulianDay other → r.status ≡ ok_status
-  pub value : IsChecked c → IsJulianDay date → IsJulianDay other → r ≡ number_ok (workdays_between (week_of c) (day_of date) (day_of other))
+abbrev pub IsWorkdaysBetween : CheckedWorkdays → ℤ → ℤ → NumberResult → Type 0
+IsWorkdaysBetween c date other r = IsForWeek c (λ s. r ≡ number_error s)
+    (need IsJulianDay date × IsJulianDay other else r ≡ number_error INVALID_DATE then r.status ≡ OK)
+    (λ w. IsJulianDay date → IsJulianDay other → r ≡ number_ok (workdays_between w (day_of date) (day_of other)))
 
 -- The rank of a day is the number of working days before it. The first i holidays are those with at
 -- most this rank.

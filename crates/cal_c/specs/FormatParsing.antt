@@ -13,7 +13,8 @@ use Rattle.cal_format.specs.Reading.{holds_time, holds_offset}
 use Rattle.cal_format.specs.Scanning.{AreHeld}
 use Rattle.cal_format.specs.Text.{text_of}
 use Rattle.cal_c.specs.Results.{no_value}
-use Rattle.cal_c.specs.Statuses.{ok_status, unexpected_byte, unexpected_end, contradiction, component_status}
+use Rattle.cal_c.specs.declared.status.TheConstants.{OK, UNEXPECTED_BYTE, UNEXPECTED_END, CONTRADICTION}
+use Rattle.cal_c.specs.Statuses.{component_status}
 use Rattle.cal_c.specs.Texts.{no_position, parsed_moment_ok}
 use Rattle.cal_c.specs.declared.formats.parse_results.ParseTimeResult.{ParseTimeResult}
 use Rattle.cal_c.specs.declared.formats.parse_results.ParseOffsetResult.{ParseOffsetResult}
@@ -41,13 +42,13 @@ IsTextOfMoment items text m =
 -- ---- results
 -- The result with a time of day or an offset, or with an error at a position.
 abbrev pub parsed_time_ok : ℕ → ParseTimeResult
-parsed_time_ok t = record { status = ok_status; time = t; position = no_position }
+parsed_time_ok t = record { status = OK; time = t; position = no_position }
 
 abbrev pub parsed_time_error_at : ℤ → ℕ → ParseTimeResult
 parsed_time_error_at s at = record { status = s; time = 18_446_744_073_709_551_615; position = at }
 
 abbrev pub parsed_offset_ok : ℤ → ParseOffsetResult
-parsed_offset_ok o = record { status = ok_status; offset = o; position = no_position }
+parsed_offset_ok o = record { status = OK; offset = o; position = no_position }
 
 abbrev pub parsed_offset_error_at : ℤ → ℕ → ParseOffsetResult
 parsed_offset_error_at s at = record { status = s; offset = no_value; position = at }
@@ -59,10 +60,10 @@ parsed_pair_ok z = parsed_moment_ok (record { local = z; offset = pos 0 })
 -- The status and the position of an error. A component that contradicts the others has its status
 -- in place of a position.
 abbrev pub parse_status : ParseError → ℤ
-parse_status (UnexpectedByte at) = unexpected_byte
-parse_status (UnexpectedEnd at) = unexpected_end
+parse_status (UnexpectedByte at) = UNEXPECTED_BYTE
+parse_status (UnexpectedEnd at) = UNEXPECTED_END
 parse_status (OutOfRange why) = component_status why.component
-parse_status (Contradiction c) = contradiction
+parse_status (Contradiction c) = CONTRADICTION
 
 abbrev pub parse_position : ParseError → ℕ
 parse_position (UnexpectedByte at) = at

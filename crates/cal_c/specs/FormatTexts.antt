@@ -1,19 +1,19 @@
 -- Texts of formats.
 use Rattle.std.specs.Prelude.{◌≡◌, ℕ, ◌<◌, ◌≤◌, ℤ, List, ◌++◌, length, drop, Bool, IsTrue}
-use Rattle.cal_c.specs.Statuses.{ok_status, buffer_too_short, unsupported_item}
+use Rattle.cal_c.specs.declared.status.TheConstants.{OK, UNSUPPORTED_ITEM, BUFFER_TOO_SHORT}
 use Rattle.cal_c.specs.declared.formats.results.LengthResult.{LengthResult}
 
 -- ---- the length of a text
 -- The result with the length of a text, or with an error.
 abbrev pub length_ok : ℕ → LengthResult
-length_ok n = record { status = ok_status; length = n }
+length_ok n = record { status = OK; length = n }
 
 abbrev pub length_error : ℤ → LengthResult
 length_error s = record { status = s; length = 0 }
 
 -- The buffer is too short for a text of n bytes.
 abbrev pub too_short : ℕ → LengthResult
-too_short n = record { status = buffer_too_short; length = n }
+too_short n = record { status = BUFFER_TOO_SHORT; length = n }
 
 -- The call fails, and the buffer stays as it is.
 pub record IsUnprinted (old new : List ℕ) (r error : LengthResult) : Type 0 where
@@ -28,5 +28,5 @@ pub record IsWritten (text old new : List ℕ) (r : LengthResult) : Type 0 where
 
 -- The text of a value is written, if the items show only what the value has.
 pub record IsPrinted (shown : Bool) (text old new : List ℕ) (r : LengthResult) : Type 0 where
-  pub unsupported_item : (IsTrue shown → ⊥) → IsUnprinted old new r (length_error unsupported_item)
+  pub unsupported_item : (IsTrue shown → ⊥) → IsUnprinted old new r (length_error UNSUPPORTED_ITEM)
   pub written : IsTrue shown → IsWritten text old new r

@@ -13,7 +13,7 @@ use Rattle.cal_format.specs.declared.item.Padding.TheVariants as padding
 use Rattle.cal_format.specs.declared.item.Syntax.{Syntax}
 use Rattle.cal_format.specs.Format.{Spells, IsFormatError}
 use Rattle.cal_format.specs.Reading.{index}
-use Rattle.cal_c.specs.Statuses.{ok_status, unexpected_byte, unknown_item, too_many_items}
+use Rattle.cal_c.specs.declared.status.TheConstants.{OK, UNEXPECTED_BYTE, UNKNOWN_ITEM, TOO_MANY_ITEMS}
 use Rattle.cal_c.specs.Texts.{no_position}
 use Rattle.cal_c.specs.declared.formats.format_parts.FormatItem.{FormatItem}
 use Rattle.cal_c.specs.declared.formats.format_parts.FormatParts.{FormatParts}
@@ -70,14 +70,14 @@ no_format = record { length = 4_294_967_295; items = replicate 64 (parts 0 0) }
 
 -- The results of making a format.
 abbrev pub format_ok : List Item → FormatResult
-format_ok items = record { status = ok_status; format = format_of items; position = no_position }
+format_ok items = record { status = OK; format = format_of items; position = no_position }
 
 abbrev pub format_error_at : ℤ → ℕ → FormatResult
 format_error_at s at = record { status = s; format = no_format; position = at }
 
 abbrev pub format_error : FormatError → FormatResult
-format_error (UnknownItem at) = format_error_at unknown_item at
-format_error TooLong = format_error_at too_many_items no_position
+format_error (UnknownItem at) = format_error_at UNKNOWN_ITEM at
+format_error TooLong = format_error_at TOO_MANY_ITEMS no_position
 
 -- The bytes spell at most 64 items.
 abbrev pub SpellsFormat : Syntax → List ℕ → List Item → Type 0
@@ -86,6 +86,6 @@ SpellsFormat s bytes items = Spells s bytes items [] × (length items ≤ 64)
 -- The result is the format that a text spells. Else the text is not UTF-8 from a position on, or no
 -- item begins at a position, or there are too many items.
 pub record IsFormatOf (s : Syntax) (bytes : List ℕ) (r : FormatResult) : Type 0 where
-  pub not_utf8 : (IsUtf8 bytes → ⊥) → r ≡ format_error_at unexpected_byte (utf8_valid_len bytes)
+  pub not_utf8 : (IsUtf8 bytes → ⊥) → r ≡ format_error_at UNEXPECTED_BYTE (utf8_valid_len bytes)
   pub value : IsUtf8 bytes → (items : List Item) → SpellsFormat s bytes items → r ≡ format_ok items
   pub fault : IsUtf8 bytes → (((items : List Item) × SpellsFormat s bytes items) → ⊥) → (e : FormatError) × IsFormatError s 0 0 bytes e × (r ≡ format_error e)

@@ -6,7 +6,7 @@ use Rattle.cal_time.specs.UtcOffset.{IsOffset}
 use Rattle.cal_datetime.specs.DateTime.{date_time, date_at, time_at, IsDateTime}
 use Rattle.cal_datetime.specs.OffsetDateTime.{LocalAndOffset}
 use Rattle.cal_c.specs.Results.{no_value}
-use Rattle.cal_c.specs.Statuses.{ok_status}
+use Rattle.cal_c.specs.declared.status.TheConstants.{OK}
 use Rattle.cal_c.specs.Values.{IsJulianDay, day_of}
 use Rattle.cal_c.specs.declared.results.Moment.{Moment}
 use Rattle.cal_c.specs.declared.results.MomentResult.{MomentResult}
@@ -28,7 +28,7 @@ local_and_offset_in m = record { local = local_in m; offset = m.offset }
 -- The result with a moment.
 abbrev pub moment_ok : LocalAndOffset → MomentResult
 moment_ok m =
-    record { status = ok_status; moment = record { date = julian_day_at (date_at m.local); offset = m.offset; time = time_at m.local } }
+    record { status = OK; moment = record { date = julian_day_at (date_at m.local); offset = m.offset; time = time_at m.local } }
 
 -- The result with an error.
 abbrev pub moment_error : ℤ → MomentResult

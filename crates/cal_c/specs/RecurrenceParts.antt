@@ -13,7 +13,7 @@ use Rattle.cal_recurrence.specs.declared.recurrence.RuleEnd.TheVariants.{Never, 
 use Rattle.cal_c.specs.RecurrenceTexts.{error_part, reason_status}
 use Rattle.cal_c.specs.Recurrences.{frequency_number}
 use Rattle.cal_c.specs.Results.{no_value}
-use Rattle.cal_c.specs.Statuses.{ok_status}
+use Rattle.cal_c.specs.declared.status.TheConstants.{OK}
 use Rattle.cal_c.specs.Texts.{no_position}
 use Rattle.cal_c.specs.declared.schedule.recurrences.recurrence_parts.RecurrenceParts.{RecurrenceParts}
 use Rattle.cal_c.specs.declared.schedule.recurrences.parsing.ParseRecurrenceResult.{ParseRecurrenceResult}
@@ -90,5 +90,5 @@ no_parts = record {
 
 -- The result of parsing: the parts of the recurrence, or the first wrong part of the text.
 abbrev pub parse_recurrence_result : Result Recurrence ParseRuleError → ParseRecurrenceResult
-parse_recurrence_result (Ok its) = record { status = ok_status; part = 0; position = no_position; recurrence = parts_of its }
+parse_recurrence_result (Ok its) = record { status = OK; part = 0; position = no_position; recurrence = parts_of its }
 parse_recurrence_result (Err fault) = record { status = reason_status fault.reason; part = error_part fault.reason; position = fault.position; recurrence = no_parts }

@@ -7,7 +7,7 @@ use Rattle.cal_recurrence.specs.declared.fault.ParseRuleErrorKind.{ParseRuleErro
 use Rattle.cal_recurrence.specs.declared.fault.ParseRuleErrorKind.TheVariants.{Unknown, Twice, TooMany, Value, Excluded, Alone, Missing}
 use Rattle.cal_recurrence.specs.Written.{text_of}
 use Rattle.cal_recurrence.specs.declared.recurrence.Recurrence.{Recurrence}
-use Rattle.cal_c.specs.Statuses.{ok_status, too_many_values, missing_frequency, duplicate_part, invalid_value, unknown_part}
+use Rattle.cal_c.specs.declared.status.TheConstants.{OK, UNKNOWN_PART, DUPLICATE_PART, TOO_MANY_VALUES, INVALID_VALUE, MISSING_FREQUENCY}
 use Rattle.cal_c.specs.Texts.{no_position}
 use Rattle.cal_c.specs.declared.schedule.recurrences.results.RecurrenceResult.{RecurrenceResult}
 use Rattle.cal_c.specs.declared.schedule.recurrences.formatting.RecurrenceTextResult.{RecurrenceTextResult}
@@ -31,13 +31,13 @@ part_number Seconds = 14
 
 -- The status of a reason.
 abbrev pub reason_status : ParseRuleErrorKind → ℤ
-reason_status Unknown = unknown_part
-reason_status (Twice part) = duplicate_part
-reason_status (TooMany part) = too_many_values
-reason_status (Value part) = invalid_value
-reason_status (Excluded part) = invalid_value
-reason_status (Alone part) = invalid_value
-reason_status Missing = missing_frequency
+reason_status Unknown = UNKNOWN_PART
+reason_status (Twice part) = DUPLICATE_PART
+reason_status (TooMany part) = TOO_MANY_VALUES
+reason_status (Value part) = INVALID_VALUE
+reason_status (Excluded part) = INVALID_VALUE
+reason_status (Alone part) = INVALID_VALUE
+reason_status Missing = MISSING_FREQUENCY
 
 -- The number of the part of a reason, or 0.
 abbrev pub error_part : ParseRuleErrorKind → ℕ
@@ -51,7 +51,7 @@ error_part Missing = 0
 
 -- The result with a number of days written.
 abbrev pub recurrence_ok : ℕ → RecurrenceResult
-recurrence_ok count = record { status = ok_status; part = 0; length = count; position = no_position }
+recurrence_ok count = record { status = OK; part = 0; length = count; position = no_position }
 
 -- The result with an error outside the text.
 abbrev pub recurrence_error : ℤ → RecurrenceResult
@@ -65,7 +65,7 @@ recurrence_parse_error fault =
 -- The result with a text, filled with zeros up to 4064 bytes.
 abbrev pub recurrence_text_ok : List ℕ → RecurrenceTextResult
 recurrence_text_ok text =
-    record { status = ok_status; part = 0; position = no_position; length = length text; bytes = text ++ replicate (4064 - length text) 0 }
+    record { status = OK; part = 0; position = no_position; length = length text; bytes = text ++ replicate (4064 - length text) 0 }
 
 -- The result with the first wrong part of the text.
 abbrev pub recurrence_text_error : ParseRuleError → RecurrenceTextResult

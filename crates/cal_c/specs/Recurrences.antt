@@ -14,7 +14,7 @@ use Rattle.cal_time.specs.Month.{month_of_index}
 use Rattle.cal_time.specs.Weekday.{weekday_of_index}
 use Rattle.cal_time.specs.declared.Month.{Month}
 use Rattle.cal_time.specs.declared.Weekday.{Weekday}
-use Rattle.cal_c.specs.Statuses.{invalid_date, invalid_frequency, invalid_weekday, ok_status, too_many_dates, too_many_parts, month_status}
+use Rattle.cal_c.specs.declared.status.TheConstants.{OK, INVALID_DATE, INVALID_WEEKDAY, INVALID_FREQUENCY, TOO_MANY_PARTS, MONTH_OUT_OF_RANGE, TOO_MANY_DATES}
 use Rattle.cal_c.specs.Values.{IsJulianDay, IsMonth, IsWeekday, dates_in, day_of, max_dates}
 use Rattle.cal_c.specs.declared.schedule.recurrences.rule_from_parts.PlainParts.{PlainParts}
 use Rattle.cal_c.specs.declared.schedule.recurrences.rule_parts.RuleParts.{RuleParts}
@@ -83,12 +83,12 @@ pub record IsRule (p : RuleParts) : Type 0 where
 
 -- The status of the first invalid part.
 pub record IsRuleStatus (p : RuleParts) (s : ℤ) : Type 0 where
-  pub dates : ¬ AreDates p → s ≡ invalid_date
-  pub frequency : AreDates p → ¬ IsFrequency p.frequency → s ≡ invalid_frequency
-  pub week_start : AreDates p → IsFrequency p.frequency → ¬ IsWeekday p.week_start → s ≡ invalid_weekday
-  pub few : ArePlain p → ¬ AreListsShort p → s ≡ too_many_parts
-  pub months : ArePlain p → AreListsShort p → ¬ AreMonths p.months.now → s ≡ month_status
-  pub weekdays : ArePlain p → AreListsShort p → AreMonths p.months.now → ¬ AreWeekdays p.weekdays.now → s ≡ invalid_weekday
+  pub dates : ¬ AreDates p → s ≡ INVALID_DATE
+  pub frequency : AreDates p → ¬ IsFrequency p.frequency → s ≡ INVALID_FREQUENCY
+  pub week_start : AreDates p → IsFrequency p.frequency → ¬ IsWeekday p.week_start → s ≡ INVALID_WEEKDAY
+  pub few : ArePlain p → ¬ AreListsShort p → s ≡ TOO_MANY_PARTS
+  pub months : ArePlain p → AreListsShort p → ¬ AreMonths p.months.now → s ≡ MONTH_OUT_OF_RANGE
+  pub weekdays : ArePlain p → AreListsShort p → AreMonths p.months.now → ¬ AreWeekdays p.weekdays.now → s ≡ INVALID_WEEKDAY
 
 -- The parts p that are single numbers, except the interval.
 abbrev pub plain_in : RuleParts → PlainParts
@@ -129,8 +129,8 @@ pub record IsSet (p : RuleParts) : Type 0 where
 -- The status of the first invalid part or list.
 pub record IsSetStatus (p : RuleParts) (s : ℤ) : Type 0 where
   pub rule : ¬ IsRule p → IsRuleStatus p s
-  pub few : IsRule p → ¬ AreDatesFew p → s ≡ too_many_dates
-  pub dates : IsRule p → AreDatesFew p → ¬ AreListedDates p → s ≡ invalid_date
+  pub few : IsRule p → ¬ AreDatesFew p → s ≡ TOO_MANY_DATES
+  pub dates : IsRule p → AreDatesFew p → ¬ AreListedDates p → s ≡ INVALID_DATE
 
 -- The set with the parts p: their rule with the other dates and without the exceptions. The
 -- definitions of a set don't read where a list is in memory.
@@ -143,7 +143,7 @@ set_in p = record {
 
 -- The result with a number of days written.
 abbrev pub days_ok : ℕ → DaysResult
-days_ok count = record { status = ok_status; length = count }
+days_ok count = record { status = OK; length = count }
 
 -- The result with an error.
 abbrev pub days_error : ℤ → DaysResult

@@ -4,31 +4,31 @@ use Rattle.cal_schedule.specs.declared.year_fraction.DayCount.{DayCount}
 use Rattle.cal_schedule.specs.declared.year_fraction.DayCount.TheVariants.{Actual360, Actual365Fixed, Thirty360, ThirtyE360, ActualActual}
 use Rattle.cal_schedule.specs.Period.{date_period, Parts}
 use Rattle.cal_c.specs.Results.{no_value}
-use Rattle.cal_c.specs.Statuses.{ok_status}
+use Rattle.cal_c.specs.declared.status.TheConstants.{OK}
 use Rattle.cal_c.specs.declared.results.NumberResult.{NumberResult}
 use Rattle.cal_c.specs.declared.schedule.results.PeriodResult.{PeriodResult}
 use Rattle.cal_c.specs.declared.schedule.results.YearFractionResult.{YearFractionResult}
 
 -- The result is a number with a property.
 pub record IsNumberWith (Has : ℤ → Type 0) (r : NumberResult) : Type 0 where
-  pub status_is : r.status ≡ ok_status
+  pub status_is : r.status ≡ OK
   pub has : Has r.number
 
 -- ---- periods
 abbrev pub period_ok : Parts → PeriodResult
-period_ok p = record { status = ok_status; years = p.years; months = p.months; days = p.days }
+period_ok p = record { status = OK; years = p.years; months = p.months; days = p.days }
 
 abbrev pub period_error : ℤ → PeriodResult
 period_error s = record { status = s; years = no_value; months = no_value; days = no_value }
 
 -- The result is a period with a property.
 pub record IsPeriodWith (Has : Parts → Type 0) (r : PeriodResult) : Type 0 where
-  pub status_is : r.status ≡ ok_status
+  pub status_is : r.status ≡ OK
   pub has : Has (date_period r.years r.months r.days)
 
 -- ---- day counts
 abbrev pub year_fraction_ok : ℤ → ℕ → YearFractionResult
-year_fraction_ok z y = record { status = ok_status; denominator = y; numerator = z }
+year_fraction_ok z y = record { status = OK; denominator = y; numerator = z }
 
 abbrev pub year_fraction_error : ℤ → YearFractionResult
 year_fraction_error s = record { status = s; denominator = 0; numerator = neg_ℤ (pos 9_223_372_036_854_775_808) }

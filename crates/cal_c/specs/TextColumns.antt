@@ -14,7 +14,8 @@ use Rattle.cal_text.specs.Rfc3339Form.{IsMomentText}
 use Rattle.cal_c.specs.Columns.{int_at, nat_at, is_error}
 use Rattle.cal_c.specs.Moments.{moment_ok, moment_error}
 use Rattle.cal_c.specs.Results.{date_ok, date_error}
-use Rattle.cal_c.specs.Statuses.{ok_status, result_out_of_range, invalid_date, invalid_time, invalid_offset, bounds_status, component_status}
+use Rattle.cal_c.specs.declared.status.TheConstants.{OK, RESULT_OUT_OF_RANGE, INVALID_DATE, INVALID_TIME, INVALID_OFFSET, INVALID_BOUNDS}
+use Rattle.cal_c.specs.Statuses.{component_status}
 use Rattle.cal_c.specs.Texts.{HasDateSyntax, HasMomentSyntax, HasDateError, HasMomentError, StopsAt}
 use Rattle.cal_c.specs.Values.{IsJulianDay, day_of, moment_of}
 use Rattle.cal_c.specs.declared.results.DateResult.{DateResult}
@@ -60,7 +61,7 @@ pub record IsParsedDate (bytes : List ℕ) (r : DateResult) : Type 0 where
 
 -- The same for the bytes between two bounds.
 pub record IsParsedDateRow (bytes : List ℕ) (from to : ℤ) (r : DateResult) : Type 0 where
-  pub bounds : (AreBoundsWithin bytes from to → ⊥) → r ≡ date_error bounds_status
+  pub bounds : (AreBoundsWithin bytes from to → ⊥) → r ≡ date_error INVALID_BOUNDS
   pub read : AreBoundsWithin bytes from to → IsParsedDate (bytes_between bytes from to) r
 
 -- The result of `fots_moment_parse` without the position.
@@ -71,20 +72,20 @@ pub record IsParsedMoment (bytes : List ℕ) (r : MomentResult) : Type 0 where
 
 -- The same for the bytes between two bounds.
 pub record IsParsedMomentRow (bytes : List ℕ) (from to : ℤ) (r : MomentResult) : Type 0 where
-  pub bounds : (AreBoundsWithin bytes from to → ⊥) → r ≡ moment_error bounds_status
+  pub bounds : (AreBoundsWithin bytes from to → ⊥) → r ≡ moment_error INVALID_BOUNDS
   pub read : AreBoundsWithin bytes from to → IsParsedMoment (bytes_between bytes from to) r
 
 -- The result of `fots_date_calendar_text`.
 pub record IsDateTextRow (date : ℤ) (bytes : List ℕ) (status : ℕ) : Type 0 where
-  pub invalid_date : (IsJulianDay date → ⊥) → (bytes ≡ []) × (pos status ≡ invalid_date)
-  pub value : IsJulianDay date → (bytes ≡ text (day_of date)) × (pos status ≡ ok_status)
+  pub invalid_date : (IsJulianDay date → ⊥) → (bytes ≡ []) × (pos status ≡ INVALID_DATE)
+  pub value : IsJulianDay date → (bytes ≡ text (day_of date)) × (pos status ≡ OK)
 
 -- The result of `fots_moment_text`.
 pub record IsMomentTextRow (date : ℤ) (time : ℕ) (offset : ℤ) (bytes : List ℕ) (status : ℕ) : Type 0 where
-  pub invalid_date : (IsJulianDay date → ⊥) → (bytes ≡ []) × (pos status ≡ invalid_date)
-  pub invalid_time : IsJulianDay date → (IsTime time → ⊥) → (bytes ≡ []) × (pos status ≡ invalid_time)
-  pub invalid_offset : IsJulianDay date → IsTime time → (IsOffset offset → ⊥) → (bytes ≡ []) × (pos status ≡ invalid_offset)
+  pub invalid_date : (IsJulianDay date → ⊥) → (bytes ≡ []) × (pos status ≡ INVALID_DATE)
+  pub invalid_time : IsJulianDay date → (IsTime time → ⊥) → (bytes ≡ []) × (pos status ≡ INVALID_TIME)
+  pub invalid_offset : IsJulianDay date → IsTime time → (IsOffset offset → ⊥) → (bytes ≡ []) × (pos status ≡ INVALID_OFFSET)
   pub result_out_of_range : IsJulianDay date → IsTime time → IsOffset offset → (HasMomentText (moment_of date time offset) → ⊥)
-      → (bytes ≡ []) × (pos status ≡ result_out_of_range)
+      → (bytes ≡ []) × (pos status ≡ RESULT_OUT_OF_RANGE)
   pub value : IsJulianDay date → IsTime time → IsOffset offset → HasMomentText (moment_of date time offset)
-      → (bytes ≡ moment_text (moment_of date time offset)) × (pos status ≡ ok_status)
+      → (bytes ≡ moment_text (moment_of date time offset)) × (pos status ≡ OK)

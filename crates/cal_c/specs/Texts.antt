@@ -11,7 +11,7 @@ use Rattle.cal_text.specs.Position.{HasSome, IsPosition}
 use Rattle.cal_text.specs.Parsing.{HasError, IsDateError}
 use Rattle.cal_text.specs.Rfc3339Form.{HasMomentForm, IsMomentError}
 use Rattle.cal_c.specs.Results.{no_value}
-use Rattle.cal_c.specs.Statuses.{ok_status, unexpected_byte, unexpected_end}
+use Rattle.cal_c.specs.declared.status.TheConstants.{OK, UNEXPECTED_BYTE, UNEXPECTED_END}
 use Rattle.cal_c.specs.declared.texts.TextResult.{TextResult}
 use Rattle.cal_c.specs.declared.texts.ParseDateResult.{ParseDateResult}
 use Rattle.cal_c.specs.declared.texts.ParseMomentResult.{ParseMomentResult}
@@ -19,7 +19,7 @@ use Rattle.cal_c.specs.declared.texts.ParseMomentResult.{ParseMomentResult}
 -- ---- texts
 -- The result with a text, filled with zeros up to 40 bytes.
 abbrev pub text_ok : List ℕ → TextResult
-text_ok text = record { status = ok_status; length = length text; bytes = text ++ replicate (40 - length text) 0 }
+text_ok text = record { status = OK; length = length text; bytes = text ++ replicate (40 - length text) 0 }
 
 abbrev pub text_error : ℤ → TextResult
 text_error s = record { status = s; length = 0; bytes = replicate 40 0 }
@@ -53,7 +53,7 @@ HasMomentError bytes why = HasError HasMomentForm IsMomentError bytes why
 -- the end.
 pub record StopsAt (IsText : List ℕ → Type 0) (bytes : List ℕ) (at : ℕ) (s : ℤ) : Type 0 where
   pub position : IsPosition IsText bytes at
-  pub status : ((s ≡ unexpected_byte) × (at < length bytes)) ⊎ ((s ≡ unexpected_end) × (at ≡ length bytes))
+  pub status : ((s ≡ UNEXPECTED_BYTE) × (at < length bytes)) ⊎ ((s ≡ UNEXPECTED_END) × (at ≡ length bytes))
 
 -- The result is an error at the position at which the bytes stop matching the form.
 abbrev pub IsSyntaxError : {R : Type 0} → (List ℕ → Type 0) → List ℕ → (ℤ → ℕ → R) → R → Type 0
@@ -64,7 +64,7 @@ abbrev pub no_position : ℕ
 no_position = 18_446_744_073_709_551_615
 
 abbrev pub parsed_date_ok : ℕ → ParseDateResult
-parsed_date_ok n = record { status = ok_status; date = julian_day_at n; position = no_position }
+parsed_date_ok n = record { status = OK; date = julian_day_at n; position = no_position }
 
 abbrev pub parsed_date_error_at : ℤ → ℕ → ParseDateResult
 parsed_date_error_at s at = record { status = s; date = no_value; position = at }
@@ -74,7 +74,7 @@ parsed_date_error s = parsed_date_error_at s no_position
 
 abbrev pub parsed_moment_ok : LocalAndOffset → ParseMomentResult
 parsed_moment_ok m =
-    record { status = ok_status; date = julian_day_at (date_at m.local); time = time_at m.local; offset = m.offset; position = no_position }
+    record { status = OK; date = julian_day_at (date_at m.local); time = time_at m.local; offset = m.offset; position = no_position }
 
 abbrev pub parsed_moment_error_at : ℤ → ℕ → ParseMomentResult
 parsed_moment_error_at s at = record { status = s; date = no_value; time = 18_446_744_073_709_551_615; offset = no_value; position = at }

@@ -1,5 +1,5 @@
 -- Time zones for C: bytes and what a call found in them, and the results of the calls for them.
-use Rattle.std.specs.Prelude.{◌≡◌, ◌⊎◌, ◌↔◌, ◌==◌, ◌++◌, ℕ, ◌<◌, ◌≤◌, nat_lt, Bool, if◌then◌else◌, List, [], length, ℤ, pos, neg_ℤ, ◌-ℤ◌, Option, Some, None}
+use Rattle.std.specs.Prelude.{◌≡◌, ◌⊎◌, ◌↔◌, ◌==◌, ◌++◌, ℕ, ◌<◌, ◌≤◌, nat_lt, Bool, if◌then◌else◌, List, [], length, ℤ, pos, neg_ℤ, ◌-ℤ◌, Result, Ok, Err}
 use Rattle.cal_time.specs.Month.{month_of_index}
 use Rattle.cal_time.specs.Weekday.{weekday_of_index}
 use Rattle.cal_datetime.specs.DateTime.{IsDateTime}
@@ -14,13 +14,17 @@ use Rattle.cal_zone.specs.declared.change_error.ChangeError.TheVariants.{FirstOf
 use Rattle.cal_zone.specs.declared.instants.Instants.{Instants}
 use Rattle.cal_zone.specs.declared.instants.Instants.TheVariants as instants
 use Rattle.cal_zone.specs.declared.local.Local.{Local}
-use Rattle.cal_zone.specs.declared.local.Local.TheVariants.{Single, Gap, Fold}
+use Rattle.cal_zone.specs.declared.local_time_error.LocalTimeError.{LocalTimeError}
+use Rattle.cal_zone.specs.declared.local_time_error.LocalTimeError.TheVariants.{Skipped, Repeated, OutOfRange}
 use Rattle.cal_zone.specs.declared.local_type.LocalType.{LocalType}
+use Rattle.cal_zone.specs.declared.policy.Policy.{Policy}
+use Rattle.cal_zone.specs.declared.policy.Policy.TheVariants.{Compatible, Earlier, Later, Reject}
 use Rattle.cal_zone.specs.declared.yearly.Yearly.{Yearly}
 use Rattle.cal_zone.specs.declared.timeline_error.TimelineError.{TimelineError}
 use Rattle.cal_zone.specs.declared.timeline_error.TimelineError.TheVariants as timeline
 use Rattle.cal_zone.specs.Instants.{Names, IsExplained}
-use Rattle.cal_zone.specs.Local.{IsLocalOf, IsCompatible, IsEarlier, IsLater, reject}
+use Rattle.cal_zone.specs.Local.{IsLocalOf}
+use Rattle.cal_zone.specs.Policy.{moment_by}
 use Rattle.cal_zone.specs.Rule.{changes_from, IsCalm}
 use Rattle.cal_zone.specs.Table.{changes_in, IsReadable}
 use Rattle.cal_zone.specs.Timeline as zones
@@ -31,13 +35,11 @@ use Rattle.cal_tzif.specs.declared.zone_error.ZoneErrorKind.TheVariants as kinds
 use Rattle.cal_c.specs.FormatTexts.{IsUnprinted, IsWritten, length_error}
 use Rattle.cal_c.specs.Moments.{moment_ok, moment_error, IsMomentOrError}
 use Rattle.cal_c.specs.Results.{no_value, int64_ok, int64_error}
-use Rattle.cal_c.specs.Statuses.{ok_status, result_out_of_range, unexpected_end, unsupported_item, skipped_time, repeated_time, not_a_zone_file, unsupported_version, leap_seconds, missing_local_type, invalid_type_index, invalid_local_type, invalid_abbreviation, changes_out_of_order, overlapping_changes, missing_newline, invalid_posix_offset, invalid_rule_day, invalid_rule_time, months_too_close, trailing_bytes}
+use Rattle.cal_c.specs.declared.status.TheConstants.{OK, RESULT_OUT_OF_RANGE, UNEXPECTED_END, UNSUPPORTED_ITEM, SKIPPED_TIME, REPEATED_TIME, NOT_A_ZONE_FILE, UNSUPPORTED_VERSION, LEAP_SECONDS, MISSING_LOCAL_TYPE, INVALID_TYPE_INDEX, INVALID_LOCAL_TYPE, INVALID_ABBREVIATION, CHANGES_OUT_OF_ORDER, OVERLAPPING_CHANGES, MISSING_NEWLINE, INVALID_POSIX_OFFSET, INVALID_RULE_DAY, INVALID_RULE_TIME, MONTHS_TOO_CLOSE, TRAILING_BYTES}
 use Rattle.cal_c.specs.Texts.{no_position}
 use Rattle.cal_c.specs.declared.formats.results.LengthResult.{LengthResult}
 use Rattle.cal_c.specs.declared.results.Int64Result.{Int64Result}
 use Rattle.cal_c.specs.declared.results.MomentResult.{MomentResult}
-use Rattle.cal_c.specs.declared.zones.policy.Policy.{Policy}
-use Rattle.cal_c.specs.declared.zones.policy.Policy.TheVariants.{Compatible, Earlier, Later, Reject}
 use Rattle.cal_c.specs.declared.zones.results.LocalResult.{LocalResult}
 use Rattle.cal_c.specs.declared.zones.results.LocalTypeResult.{LocalTypeResult}
 use Rattle.cal_c.specs.declared.zones.checked_zone.CheckedParts.{CheckedParts}
@@ -106,36 +108,36 @@ pub record IsForZone (c : CheckedZone) (Then : Timeline → Type 0) (Else : Type
 -- ---- parsing
 -- The status of an error.
 abbrev pub timeline_status : TimelineError → ℤ
-timeline_status (timeline.Change FirstOffset) = invalid_local_type
-timeline_status (timeline.Change (Offset k)) = invalid_local_type
-timeline_status (timeline.Change (Instant k)) = changes_out_of_order
-timeline_status (timeline.Change (NotRising k)) = changes_out_of_order
-timeline_status (timeline.Change (Overlap k)) = overlapping_changes
-timeline_status timeline.Junction = overlapping_changes
+timeline_status (timeline.Change FirstOffset) = INVALID_LOCAL_TYPE
+timeline_status (timeline.Change (Offset k)) = INVALID_LOCAL_TYPE
+timeline_status (timeline.Change (Instant k)) = CHANGES_OUT_OF_ORDER
+timeline_status (timeline.Change (NotRising k)) = CHANGES_OUT_OF_ORDER
+timeline_status (timeline.Change (Overlap k)) = OVERLAPPING_CHANGES
+timeline_status timeline.Junction = OVERLAPPING_CHANGES
 
 abbrev pub zone_status : ZoneErrorKind → ℤ
-zone_status kinds.Truncated = unexpected_end
-zone_status kinds.Magic = not_a_zone_file
-zone_status kinds.Version = unsupported_version
-zone_status kinds.LeapSeconds = leap_seconds
-zone_status kinds.NoType = missing_local_type
-zone_status kinds.TypeIndex = invalid_type_index
-zone_status kinds.Offset = invalid_local_type
-zone_status kinds.Daylight = invalid_local_type
-zone_status kinds.NameIndex = invalid_abbreviation
-zone_status kinds.NotAscii = invalid_abbreviation
+zone_status kinds.Truncated = UNEXPECTED_END
+zone_status kinds.Magic = NOT_A_ZONE_FILE
+zone_status kinds.Version = UNSUPPORTED_VERSION
+zone_status kinds.LeapSeconds = LEAP_SECONDS
+zone_status kinds.NoType = MISSING_LOCAL_TYPE
+zone_status kinds.TypeIndex = INVALID_TYPE_INDEX
+zone_status kinds.Offset = INVALID_LOCAL_TYPE
+zone_status kinds.Daylight = INVALID_LOCAL_TYPE
+zone_status kinds.NameIndex = INVALID_ABBREVIATION
+zone_status kinds.NotAscii = INVALID_ABBREVIATION
 zone_status (kinds.Timeline error) = timeline_status error
-zone_status kinds.Newline = missing_newline
-zone_status kinds.Name = invalid_abbreviation
-zone_status kinds.PosixOffset = invalid_posix_offset
-zone_status kinds.Day = invalid_rule_day
-zone_status kinds.Time = invalid_rule_time
-zone_status kinds.Months = months_too_close
-zone_status kinds.Trailing = trailing_bytes
+zone_status kinds.Newline = MISSING_NEWLINE
+zone_status kinds.Name = INVALID_ABBREVIATION
+zone_status kinds.PosixOffset = INVALID_POSIX_OFFSET
+zone_status kinds.Day = INVALID_RULE_DAY
+zone_status kinds.Time = INVALID_RULE_TIME
+zone_status kinds.Months = MONTHS_TOO_CLOSE
+zone_status kinds.Trailing = TRAILING_BYTES
 
 -- The result has the parts of this zone.
 pub record IsPartsOf (bytes : List ℕ) (z : Timeline) (r : PartsResult) : Type 0 where
-  pub status : r.status ≡ ok_status
+  pub status : r.status ≡ OK
   pub position : r.position ≡ no_position
   pub parts : HasParts bytes r.parts
   pub zone : zone_of_parts bytes r.parts ≡ z
@@ -161,7 +163,7 @@ daylight_number is_daylight = if is_daylight then 1 else 0
 -- error.
 abbrev pub local_type_ok : List ℕ → LocalType → LocalTypeResult
 local_type_ok bytes t = record {
-  status = ok_status;
+  status = OK;
   offset = t.offset;
   is_daylight = daylight_number t.is_daylight;
   abbreviation = t.name_start;
@@ -174,22 +176,22 @@ local_type_error s = record { status = s; offset = no_value; is_daylight = 0; ab
 -- The result is the Unix time of the next or the previous change, or out of range without one.
 pub data IsNextResult (z : Timeline) (seconds : ℤ) (r : Int64Result) : Type 0 where
   change : (c : Change) → IsNextChange z seconds c → r ≡ int64_ok c.at → IsNextResult z seconds r
-  none : NoNextChange z seconds → r ≡ int64_error result_out_of_range → IsNextResult z seconds r
+  none : NoNextChange z seconds → r ≡ int64_error RESULT_OUT_OF_RANGE → IsNextResult z seconds r
 
 pub data IsPreviousResult (z : Timeline) (seconds : ℤ) (r : Int64Result) : Type 0 where
   change : (c : Change) → IsPreviousChange z seconds c → r ≡ int64_ok c.at → IsPreviousResult z seconds r
-  none : NoPreviousChange z seconds → r ≡ int64_error result_out_of_range → IsPreviousResult z seconds r
+  none : NoPreviousChange z seconds → r ≡ int64_error RESULT_OUT_OF_RANGE → IsPreviousResult z seconds r
 
 -- The result is the same instant by the clocks of the zone.
 abbrev pub IsMomentInZone : Timeline → LocalAndOffset → MomentResult → Type 0
 IsMomentInZone z m r =
-    let offset = zones.offset_at z (unix_seconds (instant m)) in IsMomentOrError result_out_of_range (local_at (instant m) offset) offset r
+    let offset = zones.offset_at z (unix_seconds (instant m)) in IsMomentOrError RESULT_OUT_OF_RANGE (local_at (instant m) offset) offset r
 
 -- ---- texts
 -- The text of a local date-time at an offset, with an abbreviation of at most 15 bytes.
 pub record IsPrintedAt (a : List ℕ) (local offset : ℤ) (items : List Item) (old new : List ℕ) (r : LengthResult) : Type 0 where
-  pub out_of_range : (IsDateTime local → ⊥) → IsUnprinted old new r (length_error result_out_of_range)
-  pub unsupported_item : IsDateTime local → 15 < length a → IsUnprinted old new r (length_error unsupported_item)
+  pub out_of_range : (IsDateTime local → ⊥) → IsUnprinted old new r (length_error RESULT_OUT_OF_RANGE)
+  pub unsupported_item : IsDateTime local → 15 < length a → IsUnprinted old new r (length_error UNSUPPORTED_ITEM)
   pub text : IsDateTime local → length a ≤ 15 → IsWritten (text_in_zone a items (moment_of_offset_date_time (record { local = local; offset = offset }))) old new r
 
 -- The text of the same instant by the clocks of the zone.
@@ -207,12 +209,12 @@ pub record AreInstantsOf (z : Timeline) (reading : ℤ) (its : Instants) : Type 
 -- The offset at an instant that shows a reading is the reading less the instant.
 abbrev pub instants_ok : ℕ → ℤ → ℤ → ℤ → LocalResult
 instants_ok kind reading earlier later =
-    record { status = ok_status; kind = kind; earlier = earlier; later = later; earlier_offset = reading -ℤ earlier; later_offset = reading -ℤ later }
+    record { status = OK; kind = kind; earlier = earlier; later = later; earlier_offset = reading -ℤ earlier; later_offset = reading -ℤ later }
 
 -- In a gap the reading is moved back by the offset after it, and forward by the offset before it.
 abbrev pub gap_ok : ℤ → ℤ → ℤ → LocalResult
 gap_ok reading before after =
-    record { status = ok_status; kind = 2; earlier = reading -ℤ after; later = reading -ℤ before; earlier_offset = before; later_offset = after }
+    record { status = OK; kind = 2; earlier = reading -ℤ after; later = reading -ℤ before; earlier_offset = before; later_offset = after }
 
 -- The result with the instants of a reading, or with an error.
 abbrev pub local_ok : ℤ → Instants → LocalResult
@@ -234,7 +236,7 @@ local_error s = record {
 abbrev pub IsResolved : Timeline → ℤ → LocalResult → Type 0
 IsResolved z reading r = (its : Instants) × AreInstantsOf z reading its × (r ≡ local_ok reading its)
 
--- ---- policies, which are numbered from 0, `Compatible`
+-- ---- policies
 -- Policies are numbered from 0, `Compatible`, to 3, `Reject`.
 abbrev pub policy_number : Policy → ℕ
 policy_number Compatible = 0
@@ -245,31 +247,17 @@ policy_number Reject = 3
 abbrev pub IsPolicy : ℕ → Type 0
 IsPolicy k = k ≤ 3
 
--- The date-time of a reading by a policy, or `None`.
-abbrev pub IsByPolicy : Policy → Local → Option LocalAndOffset → Type 0
-IsByPolicy Compatible local r = IsCompatible local r
-IsByPolicy Earlier local r = IsEarlier local r
-IsByPolicy Later local r = IsLater local r
-IsByPolicy Reject local r = r ≡ reject local
+-- The status of a reading that means nothing by a policy.
+abbrev pub local_time_status : LocalTimeError → ℤ
+local_time_status Skipped = SKIPPED_TIME
+local_time_status Repeated = REPEATED_TIME
+local_time_status OutOfRange = RESULT_OUT_OF_RANGE
 
--- The status of a reading that has no date-time by the policy `Reject`, or by any policy.
-abbrev pub rejected_status : Local → ℤ
-rejected_status (Single m) = result_out_of_range
-rejected_status (Gap gap) = skipped_time
-rejected_status (Fold earlier later) = repeated_time
-
-abbrev pub missing_status : Policy → Local → ℤ
-missing_status Compatible local = result_out_of_range
-missing_status Earlier local = result_out_of_range
-missing_status Later local = result_out_of_range
-missing_status Reject local = rejected_status local
-
--- The result with a moment, or with this status for `None`.
-abbrev pub moment_or_error : ℤ → Option LocalAndOffset → MomentResult
-moment_or_error s (Some m) = moment_ok m
-moment_or_error s None = moment_error s
+-- The result with a moment, or with an error.
+abbrev pub moment_or_error : Result LocalAndOffset LocalTimeError → MomentResult
+moment_or_error (Ok m) = moment_ok m
+moment_or_error (Err e) = moment_error (local_time_status e)
 
 -- The result is the moment of a reading by a policy, or an error if it has none.
 abbrev pub IsMomentByPolicy : Timeline → ℤ → Policy → MomentResult → Type 0
-IsMomentByPolicy z reading policy r =
-    (local : Local) × IsLocalOf z reading local × ((m : Option LocalAndOffset) × IsByPolicy policy local m × (r ≡ moment_or_error (missing_status policy local) m))
+IsMomentByPolicy z reading policy r = (local : Local) × IsLocalOf z reading local × (r ≡ moment_or_error (moment_by policy local))

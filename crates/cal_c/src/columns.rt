@@ -29,10 +29,9 @@ mod constructors;
 mod months;
 mod statuses;
 mod texts;
-mod workdays;
 mod zones;
 
-use statuses::OK;
+use crate::status::OK;
 
 /// The result of a call whose arrays differ in length.
 const LENGTH_MISMATCH: usize = usize::MAX;
@@ -74,5 +73,5 @@ fn count_errors_in_block(statuses: &[u8]) -> u8
 fn error_bit(status: u8) -> u8
     ensures { result ≡ (if is_error status then 1 else 0) }
 {
-    if status == OK { 0 } else { 1 }
+    if status == OK as u8 { 0 } else { 1 }
 }

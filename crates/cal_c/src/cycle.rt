@@ -3,7 +3,6 @@ ghost use Rattle.std.specs.Prelude.{◌≡◌, ◌+◌, ◌-◌, ◌%◌, pos, i
 ghost use Rattle.cal_time.specs.Lengths.{is_leap_year, days_in_year, days_in_month};
 ghost use Rattle.cal_time.specs.Weeks.{weeks_in_year};
 ghost use Rattle.cal_c.specs.Results.{number_ok, number_error};
-ghost use Rattle.cal_c.specs.Statuses.{invalid_weekday, month_status};
 ghost use Rattle.cal_c.specs.Values.{IsMonth, IsWeekday};
 
 use crate::results::NumberResult;
@@ -14,7 +13,7 @@ use cal_time::util::{days_in_year, is_leap_year, weeks_in_year};
 /// Returns the number of days of a month in a year. For 2 and 2000 it is 29.
 #[unsafe(no_mangle)]
 pub extern "C" fn fots_month_length(month: u32, year: i32) -> NumberResult
-    ensures month { ¬ IsMonth month → result ≡ number_error month_status }
+    ensures month { ¬ IsMonth month → result ≡ number_error MONTH_OUT_OF_RANGE }
     ensures value { IsMonth month → result ≡ number_ok (pos (days_in_month year month)) }
 {
     let month = or_error!(NumberResult, valid_month(month), MONTH_OUT_OF_RANGE);
@@ -24,7 +23,7 @@ pub extern "C" fn fots_month_length(month: u32, year: i32) -> NumberResult
 /// Returns the month `n` months later. January comes after December. Nine months after 7 is 4.
 #[unsafe(no_mangle)]
 pub extern "C" fn fots_month_nth_next(month: u32, n: u32) -> NumberResult
-    ensures month { ¬ IsMonth month → result ≡ number_error month_status }
+    ensures month { ¬ IsMonth month → result ≡ number_error MONTH_OUT_OF_RANGE }
     ensures value { IsMonth month → result ≡ number_ok (pos ((month - 1 + n) % 12 + 1)) }
 {
     let month = or_error!(NumberResult, valid_month(month), MONTH_OUT_OF_RANGE);
@@ -34,7 +33,7 @@ pub extern "C" fn fots_month_nth_next(month: u32, n: u32) -> NumberResult
 /// Returns the month `n` months earlier. December comes before January. Nine months before 4 is 7.
 #[unsafe(no_mangle)]
 pub extern "C" fn fots_month_nth_prev(month: u32, n: u32) -> NumberResult
-    ensures month { ¬ IsMonth month → result ≡ number_error month_status }
+    ensures month { ¬ IsMonth month → result ≡ number_error MONTH_OUT_OF_RANGE }
     ensures value { IsMonth month → result ≡ number_ok (pos ((month + 11 - n % 12) % 12 + 1)) }
 {
     let month = or_error!(NumberResult, valid_month(month), MONTH_OUT_OF_RANGE);
@@ -44,7 +43,7 @@ pub extern "C" fn fots_month_nth_prev(month: u32, n: u32) -> NumberResult
 /// Returns the weekday `n` days later. Ten days after 7 is 3.
 #[unsafe(no_mangle)]
 pub extern "C" fn fots_weekday_nth_next(weekday: u32, n: u32) -> NumberResult
-    ensures invalid_weekday { ¬ IsWeekday weekday → result ≡ number_error invalid_weekday }
+    ensures invalid_weekday { ¬ IsWeekday weekday → result ≡ number_error INVALID_WEEKDAY }
     ensures value { IsWeekday weekday → result ≡ number_ok (pos ((weekday - 1 + n) % 7 + 1)) }
 {
     let weekday = or_error!(NumberResult, valid_weekday(weekday), INVALID_WEEKDAY);
@@ -54,7 +53,7 @@ pub extern "C" fn fots_weekday_nth_next(weekday: u32, n: u32) -> NumberResult
 /// Returns the weekday `n` days earlier. Ten days before 3 is 7.
 #[unsafe(no_mangle)]
 pub extern "C" fn fots_weekday_nth_prev(weekday: u32, n: u32) -> NumberResult
-    ensures invalid_weekday { ¬ IsWeekday weekday → result ≡ number_error invalid_weekday }
+    ensures invalid_weekday { ¬ IsWeekday weekday → result ≡ number_error INVALID_WEEKDAY }
     ensures value { IsWeekday weekday → result ≡ number_ok (pos ((weekday + 6 - n % 7) % 7 + 1)) }
 {
     let weekday = or_error!(NumberResult, valid_weekday(weekday), INVALID_WEEKDAY);
@@ -64,7 +63,7 @@ pub extern "C" fn fots_weekday_nth_prev(weekday: u32, n: u32) -> NumberResult
 /// Returns the number of a weekday from 1, Sunday, to 7, Saturday. For Friday, 5, it is 6.
 #[unsafe(no_mangle)]
 pub extern "C" fn fots_weekday_number_from_sunday(weekday: u32) -> NumberResult
-    ensures invalid_weekday { ¬ IsWeekday weekday → result ≡ number_error invalid_weekday }
+    ensures invalid_weekday { ¬ IsWeekday weekday → result ≡ number_error INVALID_WEEKDAY }
     ensures value { IsWeekday weekday → result ≡ number_ok (pos (weekday % 7 + 1)) }
 {
     let weekday = or_error!(NumberResult, valid_weekday(weekday), INVALID_WEEKDAY);

@@ -2,7 +2,6 @@
 ghost use Rattle.std.specs.Prelude.{◌≡◌, pos, ◌+ℤ◌, ◌*ℤ◌};
 ghost use Rattle.cal_time.specs.SignedDuration.{microsecond, millisecond, second, minute, hour, day, week, cut, subsec_nanoseconds};
 ghost use Rattle.cal_c.specs.Results.{IsDurationOrOutOfRange, IsInt64OrOutOfRange, duration_ok, number_ok, number_error, int64_ok, int64_error};
-ghost use Rattle.cal_c.specs.Statuses.{invalid_duration};
 ghost use Rattle.cal_c.specs.Values.{IsDurationPair, nanoseconds_in};
 
 use crate::results::{Duration, DurationResult, Int64Result, NumberResult};
@@ -98,7 +97,7 @@ pub extern "C" fn fots_duration_nanoseconds(nanoseconds: i64) -> DurationResult
 /// Returns the whole weeks, truncated toward zero. For 15 days it is 2.
 #[unsafe(no_mangle)]
 pub extern "C" fn fots_duration_whole_weeks(duration: Duration) -> Int64Result
-    ensures invalid_duration { ¬ IsDurationPair duration → result ≡ int64_error invalid_duration }
+    ensures invalid_duration { ¬ IsDurationPair duration → result ≡ int64_error INVALID_DURATION }
     ensures value { IsDurationPair duration
         → result ≡ int64_ok (cut (nanoseconds_in duration) (pos week)) }
 {
@@ -109,7 +108,7 @@ pub extern "C" fn fots_duration_whole_weeks(duration: Duration) -> Int64Result
 /// Returns the whole days, truncated toward zero. For -47 hours it is -1.
 #[unsafe(no_mangle)]
 pub extern "C" fn fots_duration_whole_days(duration: Duration) -> Int64Result
-    ensures invalid_duration { ¬ IsDurationPair duration → result ≡ int64_error invalid_duration }
+    ensures invalid_duration { ¬ IsDurationPair duration → result ≡ int64_error INVALID_DURATION }
     ensures value { IsDurationPair duration
         → result ≡ int64_ok (cut (nanoseconds_in duration) (pos day)) }
 {
@@ -120,7 +119,7 @@ pub extern "C" fn fots_duration_whole_days(duration: Duration) -> Int64Result
 /// Returns the whole hours, truncated toward zero. For -47 hours it is -47.
 #[unsafe(no_mangle)]
 pub extern "C" fn fots_duration_whole_hours(duration: Duration) -> Int64Result
-    ensures invalid_duration { ¬ IsDurationPair duration → result ≡ int64_error invalid_duration }
+    ensures invalid_duration { ¬ IsDurationPair duration → result ≡ int64_error INVALID_DURATION }
     ensures value { IsDurationPair duration
         → result ≡ int64_ok (cut (nanoseconds_in duration) (pos hour)) }
 {
@@ -131,7 +130,7 @@ pub extern "C" fn fots_duration_whole_hours(duration: Duration) -> Int64Result
 /// Returns the whole minutes, truncated toward zero. For -47 hours it is -2820.
 #[unsafe(no_mangle)]
 pub extern "C" fn fots_duration_whole_minutes(duration: Duration) -> Int64Result
-    ensures invalid_duration { ¬ IsDurationPair duration → result ≡ int64_error invalid_duration }
+    ensures invalid_duration { ¬ IsDurationPair duration → result ≡ int64_error INVALID_DURATION }
     ensures value { IsDurationPair duration
         → result ≡ int64_ok (cut (nanoseconds_in duration) (pos minute)) }
 {
@@ -142,7 +141,7 @@ pub extern "C" fn fots_duration_whole_minutes(duration: Duration) -> Int64Result
 /// Returns the whole seconds, truncated toward zero. For -1.5 seconds it is -1.
 #[unsafe(no_mangle)]
 pub extern "C" fn fots_duration_whole_seconds(duration: Duration) -> Int64Result
-    ensures invalid_duration { ¬ IsDurationPair duration → result ≡ int64_error invalid_duration }
+    ensures invalid_duration { ¬ IsDurationPair duration → result ≡ int64_error INVALID_DURATION }
     ensures value { IsDurationPair duration
         → result ≡ int64_ok (cut (nanoseconds_in duration) (pos second)) }
 {
@@ -154,7 +153,7 @@ pub extern "C" fn fots_duration_whole_seconds(duration: Duration) -> Int64Result
 /// -1.5 seconds it is -1500.
 #[unsafe(no_mangle)]
 pub extern "C" fn fots_duration_whole_milliseconds(duration: Duration) -> Int64Result
-    ensures invalid_duration { ¬ IsDurationPair duration → result ≡ int64_error invalid_duration }
+    ensures invalid_duration { ¬ IsDurationPair duration → result ≡ int64_error INVALID_DURATION }
     ensures value { IsDurationPair duration
         → IsInt64OrOutOfRange (cut (nanoseconds_in duration) (pos millisecond)) result }
 {
@@ -166,7 +165,7 @@ pub extern "C" fn fots_duration_whole_milliseconds(duration: Duration) -> Int64R
 /// -1.5 seconds it is -1500000.
 #[unsafe(no_mangle)]
 pub extern "C" fn fots_duration_whole_microseconds(duration: Duration) -> Int64Result
-    ensures invalid_duration { ¬ IsDurationPair duration → result ≡ int64_error invalid_duration }
+    ensures invalid_duration { ¬ IsDurationPair duration → result ≡ int64_error INVALID_DURATION }
     ensures value { IsDurationPair duration
         → IsInt64OrOutOfRange (cut (nanoseconds_in duration) (pos microsecond)) result }
 {
@@ -178,7 +177,7 @@ pub extern "C" fn fots_duration_whole_microseconds(duration: Duration) -> Int64R
 /// -1500000000.
 #[unsafe(no_mangle)]
 pub extern "C" fn fots_duration_whole_nanoseconds(duration: Duration) -> Int64Result
-    ensures invalid_duration { ¬ IsDurationPair duration → result ≡ int64_error invalid_duration }
+    ensures invalid_duration { ¬ IsDurationPair duration → result ≡ int64_error INVALID_DURATION }
     ensures value { IsDurationPair duration → IsInt64OrOutOfRange (nanoseconds_in duration) result }
 {
     let duration = or_error!(Int64Result, valid_duration(duration), INVALID_DURATION);
@@ -189,7 +188,7 @@ pub extern "C" fn fots_duration_whole_nanoseconds(duration: Duration) -> Int64Re
 /// -500.
 #[unsafe(no_mangle)]
 pub extern "C" fn fots_duration_subsec_milliseconds(duration: Duration) -> NumberResult
-    ensures invalid_duration { ¬ IsDurationPair duration → result ≡ number_error invalid_duration }
+    ensures invalid_duration { ¬ IsDurationPair duration → result ≡ number_error INVALID_DURATION }
     ensures value { IsDurationPair duration
         → result ≡ number_ok (cut (subsec_nanoseconds (nanoseconds_in duration)) (pos millisecond)) }
 {
@@ -201,7 +200,7 @@ pub extern "C" fn fots_duration_subsec_milliseconds(duration: Duration) -> Numbe
 /// -500000.
 #[unsafe(no_mangle)]
 pub extern "C" fn fots_duration_subsec_microseconds(duration: Duration) -> NumberResult
-    ensures invalid_duration { ¬ IsDurationPair duration → result ≡ number_error invalid_duration }
+    ensures invalid_duration { ¬ IsDurationPair duration → result ≡ number_error INVALID_DURATION }
     ensures value { IsDurationPair duration
         → result ≡ number_ok (cut (subsec_nanoseconds (nanoseconds_in duration)) (pos microsecond)) }
 {

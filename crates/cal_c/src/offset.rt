@@ -2,7 +2,7 @@
 ghost use Rattle.std.specs.Prelude.{◌≡◌, ◌<◌, ◌≤◌, neg_ℤ, unsigned_abs};
 ghost use Rattle.cal_time.specs.UtcOffset.{IsOffset, offset_of, whole_hours, whole_minutes, minutes_past_hour, seconds_past_minute};
 ghost use Rattle.cal_c.specs.Results.{offset_ok, offset_error, offset_hms_ok, offset_hms_error, number_ok, number_error};
-ghost use Rattle.cal_c.specs.Statuses.{invalid_offset, offset_hour_status, offset_minute_status, offset_second_status, seconds_status};
+ghost use Rattle.cal_c.specs.declared.status.TheConstants.{OFFSET_HOUR_OUT_OF_RANGE, OFFSET_MINUTE_OUT_OF_RANGE, OFFSET_SECOND_OUT_OF_RANGE};
 
 use crate::results::{NumberResult, OffsetHmsResult, OffsetResult};
 use crate::status::{INVALID_OFFSET, OK, SECONDS_OUT_OF_RANGE};
@@ -14,11 +14,11 @@ use cal_time::UtcOffset;
 /// outside -59 to 59. -1, 30 and 0 give -5400.
 #[unsafe(no_mangle)]
 pub extern "C" fn fots_offset_from_hms(hours: i32, minutes: i32, seconds: i32) -> OffsetResult
-    ensures hour { 25 < unsigned_abs hours → result ≡ offset_error offset_hour_status }
+    ensures hour { 25 < unsigned_abs hours → result ≡ offset_error OFFSET_HOUR_OUT_OF_RANGE }
     ensures minute { unsigned_abs hours ≤ 25 → 59 < unsigned_abs minutes
-        → result ≡ offset_error offset_minute_status }
+        → result ≡ offset_error OFFSET_MINUTE_OUT_OF_RANGE }
     ensures second { unsigned_abs hours ≤ 25 → unsigned_abs minutes ≤ 59 → 59 < unsigned_abs seconds
-        → result ≡ offset_error offset_second_status }
+        → result ≡ offset_error OFFSET_SECOND_OUT_OF_RANGE }
     ensures value { unsigned_abs hours ≤ 25 → unsigned_abs minutes ≤ 59 → unsigned_abs seconds ≤ 59
         → result ≡ offset_ok (offset_of hours minutes seconds) }
 {
@@ -35,7 +35,7 @@ pub extern "C" fn fots_offset_from_hms(hours: i32, minutes: i32, seconds: i32) -
 /// Creates an offset from seconds, from -93599 to 93599. Returns the error `seconds` outside.
 #[unsafe(no_mangle)]
 pub extern "C" fn fots_offset_from_whole_seconds(seconds: i64) -> OffsetResult
-    ensures seconds { ¬ IsOffset seconds → result ≡ offset_error seconds_status }
+    ensures seconds { ¬ IsOffset seconds → result ≡ offset_error SECONDS_OUT_OF_RANGE }
     ensures value { IsOffset seconds → result ≡ offset_ok seconds }
 {
     let seconds =
@@ -47,7 +47,7 @@ pub extern "C" fn fots_offset_from_whole_seconds(seconds: i64) -> OffsetResult
 /// Returns the hours, minutes and seconds, all of one sign. For -5400 they are -1, -30 and 0.
 #[unsafe(no_mangle)]
 pub extern "C" fn fots_offset_as_hms(offset: i32) -> OffsetHmsResult
-    ensures invalid_offset { ¬ IsOffset offset → result ≡ offset_hms_error invalid_offset }
+    ensures invalid_offset { ¬ IsOffset offset → result ≡ offset_hms_error INVALID_OFFSET }
     ensures value { IsOffset offset → result ≡ offset_hms_ok offset }
 {
     let offset = or_error!(OffsetHmsResult, valid_offset(offset), INVALID_OFFSET);
@@ -63,7 +63,7 @@ pub extern "C" fn fots_offset_as_hms(offset: i32) -> OffsetHmsResult
 /// Negates an offset. -5400 becomes 5400.
 #[unsafe(no_mangle)]
 pub extern "C" fn fots_offset_neg(offset: i32) -> OffsetResult
-    ensures invalid_offset { ¬ IsOffset offset → result ≡ offset_error invalid_offset }
+    ensures invalid_offset { ¬ IsOffset offset → result ≡ offset_error INVALID_OFFSET }
     ensures value { IsOffset offset → result ≡ offset_ok (neg_ℤ offset) }
 {
     let offset = or_error!(OffsetResult, valid_offset(offset), INVALID_OFFSET);
@@ -73,7 +73,7 @@ pub extern "C" fn fots_offset_neg(offset: i32) -> OffsetResult
 /// Returns the whole hours, truncated toward zero. For -5400 it is -1.
 #[unsafe(no_mangle)]
 pub extern "C" fn fots_offset_whole_hours(offset: i32) -> NumberResult
-    ensures invalid_offset { ¬ IsOffset offset → result ≡ number_error invalid_offset }
+    ensures invalid_offset { ¬ IsOffset offset → result ≡ number_error INVALID_OFFSET }
     ensures value { IsOffset offset → result ≡ number_ok (whole_hours offset) }
 {
     let offset = or_error!(NumberResult, valid_offset(offset), INVALID_OFFSET);
@@ -83,7 +83,7 @@ pub extern "C" fn fots_offset_whole_hours(offset: i32) -> NumberResult
 /// Returns the whole minutes, truncated toward zero. For -5400 it is -90.
 #[unsafe(no_mangle)]
 pub extern "C" fn fots_offset_whole_minutes(offset: i32) -> NumberResult
-    ensures invalid_offset { ¬ IsOffset offset → result ≡ number_error invalid_offset }
+    ensures invalid_offset { ¬ IsOffset offset → result ≡ number_error INVALID_OFFSET }
     ensures value { IsOffset offset → result ≡ number_ok (whole_minutes offset) }
 {
     let offset = or_error!(NumberResult, valid_offset(offset), INVALID_OFFSET);
@@ -93,7 +93,7 @@ pub extern "C" fn fots_offset_whole_minutes(offset: i32) -> NumberResult
 /// Returns the minutes past the whole hours, with the sign of the offset. For -5400 it is -30.
 #[unsafe(no_mangle)]
 pub extern "C" fn fots_offset_minutes_past_hour(offset: i32) -> NumberResult
-    ensures invalid_offset { ¬ IsOffset offset → result ≡ number_error invalid_offset }
+    ensures invalid_offset { ¬ IsOffset offset → result ≡ number_error INVALID_OFFSET }
     ensures value { IsOffset offset → result ≡ number_ok (minutes_past_hour offset) }
 {
     let offset = or_error!(NumberResult, valid_offset(offset), INVALID_OFFSET);
@@ -103,7 +103,7 @@ pub extern "C" fn fots_offset_minutes_past_hour(offset: i32) -> NumberResult
 /// Returns the seconds past the whole minutes, with the sign of the offset. For -5400 it is 0.
 #[unsafe(no_mangle)]
 pub extern "C" fn fots_offset_seconds_past_minute(offset: i32) -> NumberResult
-    ensures invalid_offset { ¬ IsOffset offset → result ≡ number_error invalid_offset }
+    ensures invalid_offset { ¬ IsOffset offset → result ≡ number_error INVALID_OFFSET }
     ensures value { IsOffset offset → result ≡ number_ok (seconds_past_minute offset) }
 {
     let offset = or_error!(NumberResult, valid_offset(offset), INVALID_OFFSET);

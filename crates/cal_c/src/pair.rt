@@ -3,7 +3,6 @@ ghost use Rattle.std.specs.Prelude.{◌≡◌, ◌+ℤ◌, ◌-ℤ◌};
 ghost use Rattle.cal_time.specs.Pair.{pair_number};
 ghost use Rattle.cal_time.specs.Time.{IsTime};
 ghost use Rattle.cal_c.specs.Results.{pair_error, IsPairOrOutOfRange};
-ghost use Rattle.cal_c.specs.Statuses.{invalid_date, invalid_time, invalid_duration};
 ghost use Rattle.cal_c.specs.Values.{need◌else◌then◌, IsJulianDay, IsDurationPair, day_of, nanoseconds_in};
 
 use crate::results::{Duration, PairResult};
@@ -15,9 +14,9 @@ use cal_time::{add_to_pair, sub_from_pair};
 /// 2000-02-29 23:00 it is 2000-03-01 1:00.
 #[unsafe(no_mangle)]
 pub extern "C" fn fots_add_to_pair(date: i32, time: u64, duration: Duration) -> PairResult
-    ensures { need IsJulianDay date else result ≡ pair_error invalid_date then
-        need IsTime time else result ≡ pair_error invalid_time then
-        need IsDurationPair duration else result ≡ pair_error invalid_duration then
+    ensures { need IsJulianDay date else result ≡ pair_error INVALID_DATE then
+        need IsTime time else result ≡ pair_error INVALID_TIME then
+        need IsDurationPair duration else result ≡ pair_error INVALID_DURATION then
         IsPairOrOutOfRange (pair_number (day_of date) time +ℤ nanoseconds_in duration) result }
 {
     let date = or_error!(PairResult, valid_date(date), INVALID_DATE);
@@ -30,9 +29,9 @@ pub extern "C" fn fots_add_to_pair(date: i32, time: u64, duration: Duration) -> 
 /// hours before 2000-03-01 1:00 it is 2000-02-29 23:00.
 #[unsafe(no_mangle)]
 pub extern "C" fn fots_sub_from_pair(date: i32, time: u64, duration: Duration) -> PairResult
-    ensures { need IsJulianDay date else result ≡ pair_error invalid_date then
-        need IsTime time else result ≡ pair_error invalid_time then
-        need IsDurationPair duration else result ≡ pair_error invalid_duration then
+    ensures { need IsJulianDay date else result ≡ pair_error INVALID_DATE then
+        need IsTime time else result ≡ pair_error INVALID_TIME then
+        need IsDurationPair duration else result ≡ pair_error INVALID_DURATION then
         IsPairOrOutOfRange (pair_number (day_of date) time -ℤ nanoseconds_in duration) result }
 {
     let date = or_error!(PairResult, valid_date(date), INVALID_DATE);

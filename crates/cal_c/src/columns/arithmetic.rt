@@ -6,9 +6,9 @@ ghost use Rattle.cal_time.specs.Arithmetic.{IsDateNumber};
 ghost use Rattle.cal_c.specs.Columns.{int_at, nat_at, SameLength, AreRows, date_row, IsDateDaysLater};
 ghost use Rattle.cal_c.specs.Values.{need◌else◌then◌};
 
-use super::statuses::{INVALID_DATE, OK, RESULT_OUT_OF_RANGE};
 use super::{LENGTH_MISMATCH, NO_VALUE, count_errors};
 use crate::day_number::{LAST_DAY_NUMBER, clamped_number, is_julian_day, julian_day};
+use crate::status::{INVALID_DATE, OK, RESULT_OUT_OF_RANGE};
 
 /// The number of rows whose days are clamped at once.
 const CLAMPED: usize = 256;
@@ -64,11 +64,11 @@ fn date_days_later(date: i32, days: i32) -> (i32, u8)
 {
     let moved = wrapped_day_number(clamped_number(date), days);
     if !is_julian_day(date) {
-        (NO_VALUE, INVALID_DATE)
+        (NO_VALUE, INVALID_DATE as u8)
     } else if moved > LAST_DAY_NUMBER {
-        (NO_VALUE, RESULT_OUT_OF_RANGE)
+        (NO_VALUE, RESULT_OUT_OF_RANGE as u8)
     } else {
-        (julian_day(moved), OK)
+        (julian_day(moved), OK as u8)
     }
 }
 

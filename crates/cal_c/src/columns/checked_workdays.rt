@@ -1,18 +1,18 @@
-//! Columns of dates plus working days, and of working days between dates, by checked working days.
+//! Columns of dates plus working days, and of working days between dates.
 ghost use Rattle.std.specs.Prelude.{◌≡◌, IfErr, IfOk, length, pos, ◌∷◌, []};
 ghost use Rattle.cal_schedule.specs.Workdays.{nth_workday};
-ghost use Rattle.cal_c.specs.CheckedWorkdays.{week_of, IsChecked, IsDateWorkdaysLaterIn, IsSomeDate, IsWorkdaysBetweenIn};
+ghost use Rattle.cal_c.specs.CheckedWorkdays.{week_of, IsChecked, IsDateWorkdaysLater, IsSomeDate, IsWorkdaysBetween};
 ghost use Rattle.cal_c.specs.Columns.{int_at, nat_at, SameLength, AreRows, date_row, number_row, IsByte};
 ghost use Rattle.cal_c.specs.Results.{date_or_out_of_range, date_error, number_ok, number_error};
-ghost use Rattle.cal_c.specs.Statuses.{invalid_date, ok_status};
 ghost use Rattle.cal_c.specs.Values.{need◌else◌then◌, IsJulianDay, day_of};
 ghost use Rattle.cal_c.specs.Weekmasks.{workdays_between};
 
-use super::statuses::{INVALID_DATE, OK, RESULT_OUT_OF_RANGE, byte_status};
+use super::statuses::byte_status;
 use super::{LENGTH_MISMATCH, NO_VALUE, count_errors};
 use crate::day_number::{day_number, julian_day};
 use crate::schedule::workdays::checked_workdays::CheckedWorkdays;
 use crate::schedule::workdays::ranks::RankedWorkdays;
+use crate::status::{INVALID_DATE, OK, RESULT_OUT_OF_RANGE};
 
 /// Adds working days to dates, like `fots_workdays_add`.
 #[unsafe(no_mangle)]
@@ -25,7 +25,7 @@ pub extern "C" fn fots_workdays_add_dates(
 ) -> usize
     ensures { need SameLength (length dates.now) (length days.now ∷ length moved.old ∷ length statuses.old ∷ [])
         else (result ≡ usize.MAX) × (moved.new ≡ moved.old) × (statuses.new ≡ statuses.old) then
-        AreRows statuses.new result (λ k. IsDateWorkdaysLaterIn workdays.now (int_at dates.now k)
+        AreRows statuses.new result (λ k. IsDateWorkdaysLater workdays.now (int_at dates.now k)
         (int_at days.now k) (date_row (int_at moved.new k) (nat_at statuses.new k))) }
 {
     let ranked = RankedWorkdays::new(workdays);
@@ -43,7 +43,7 @@ pub extern "C" fn fots_workdays_between_dates(
 ) -> usize
     ensures { need SameLength (length dates.now) (length others.now ∷ length numbers.old ∷ length statuses.old ∷ [])
         else (result ≡ usize.MAX) × (numbers.new ≡ numbers.old) × (statuses.new ≡ statuses.old) then
-        AreRows statuses.new result (λ k. IsWorkdaysBetweenIn workdays.now (int_at dates.now k)
+        AreRows statuses.new result (λ k. IsWorkdaysBetween workdays.now (int_at dates.now k)
         (int_at others.now k) (number_row (int_at numbers.new k) (nat_at statuses.new k))) }
 {
     let ranked = RankedWorkdays::new(workdays);
@@ -55,16 +55,16 @@ fn add_row(date: i32, days: i32, workdays: &Result<RankedWorkdays<'_>, i32>) -> 
     ensures error { IfErr workdays.now (λ status. IsByte status
         → date_row result.0 result.1 ≡ date_error status) }
     ensures invalid_date { IfOk workdays.now (λ c. ¬ IsJulianDay date
-        → date_row result.0 result.1 ≡ date_error invalid_date) }
+        → date_row result.0 result.1 ≡ date_error INVALID_DATE) }
     ensures any { IfOk workdays.now (λ c. IsJulianDay date → IsSomeDate (date_row result.0 result.1)) }
     ensures value { IfOk workdays.now (λ c. IsChecked c → IsJulianDay date → date_row result.0 result.1
         ≡ date_or_out_of_range (nth_workday (week_of c) days (day_of date))) }
 {
     let workdays = or_return!(workdays, status => (NO_VALUE, byte_status(*status)));
-    let day = or_return!(day_number(date), (NO_VALUE, INVALID_DATE));
+    let day = or_return!(day_number(date), (NO_VALUE, INVALID_DATE as u8));
     match workdays.add(day, days) {
-        Some(day) => (julian_day(day), OK),
-        None => (NO_VALUE, RESULT_OUT_OF_RANGE),
+        Some(day) => (julian_day(day), OK as u8),
+        None => (NO_VALUE, RESULT_OUT_OF_RANGE as u8),
     }
 }
 
@@ -73,15 +73,15 @@ fn between_row(date: i32, other: i32, workdays: &Result<RankedWorkdays<'_>, i32>
     ensures error { IfErr workdays.now (λ status. IsByte status
         → number_row result.0 result.1 ≡ number_error status) }
     ensures invalid_date { IfOk workdays.now (λ c. ¬ (IsJulianDay date × IsJulianDay other)
-        → number_row result.0 result.1 ≡ number_error invalid_date) }
+        → number_row result.0 result.1 ≡ number_error INVALID_DATE) }
     ensures any { IfOk workdays.now (λ c. IsJulianDay date → IsJulianDay other
-        → pos result.1 ≡ ok_status) }
+        → pos result.1 ≡ OK) }
     ensures value { IfOk workdays.now (λ c. IsChecked c → IsJulianDay date → IsJulianDay other
         → number_row result.0 result.1
         ≡ number_ok (workdays_between (week_of c) (day_of date) (day_of other))) }
 {
     let workdays = or_return!(workdays, status => (NO_VALUE, byte_status(*status)));
-    let day = or_return!(day_number(date), (NO_VALUE, INVALID_DATE));
-    let other = or_return!(day_number(other), (NO_VALUE, INVALID_DATE));
-    (workdays.between(day, other), OK)
+    let day = or_return!(day_number(date), (NO_VALUE, INVALID_DATE as u8));
+    let other = or_return!(day_number(other), (NO_VALUE, INVALID_DATE as u8));
+    (workdays.between(day, other), OK as u8)
 }

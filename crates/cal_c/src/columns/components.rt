@@ -4,9 +4,9 @@ ghost use Rattle.cal_c.specs.Columns.{int_at, nat_at, SameLength, AreRows, calen
 ghost use Rattle.cal_c.specs.Values.{need◌else◌then◌};
 
 use super::constructors::status_of_calendar_date;
-use super::statuses::{INVALID_DATE, OK};
 use super::{LENGTH_MISMATCH, NO_VALUE, count_errors};
 use crate::day_number::{LAST_DAY_NUMBER, clamped_number, day_number, is_julian_day};
+use crate::status::{INVALID_DATE, OK};
 use crate::values::valid_date;
 use cal_date::day_number::{
     days_since_monday, from_calendar_date, to_calendar_date, to_iso_week_date,
@@ -113,9 +113,9 @@ fn calendar_date_row_of(date: i32) -> (i32, u8, u8, u8)
 {
     let (year, month, day) = to_calendar_date(clamped_number(date));
     if is_julian_day(date) {
-        (year, month as u8, day as u8, OK)
+        (year, month as u8, day as u8, OK as u8)
     } else {
-        (NO_VALUE, 0, 0, INVALID_DATE)
+        (NO_VALUE, 0, 0, INVALID_DATE as u8)
     }
 }
 
@@ -123,9 +123,9 @@ fn calendar_date_row_of(date: i32) -> (i32, u8, u8, u8)
 fn ordinal_date_row_of(date: i32) -> (i32, u16, u8)
     ensures { IsOrdinalDateOf date (ordinal_date_row result.0 result.1 result.2) }
 {
-    let date = or_return!(valid_date(date), (NO_VALUE, 0, INVALID_DATE));
+    let date = or_return!(valid_date(date), (NO_VALUE, 0, INVALID_DATE as u8));
     let (year, ordinal) = date.to_ordinal_date();
-    (year, ordinal, OK)
+    (year, ordinal, OK as u8)
 }
 
 /// Returns the ISO week date of a date, and the status.
@@ -134,9 +134,9 @@ fn iso_week_date_row_of(date: i32) -> (i32, u8, u8, u8)
 {
     let (year, week, weekday) = to_iso_week_date(clamped_number(date));
     if is_julian_day(date) {
-        (year, week, weekday, OK)
+        (year, week, weekday, OK as u8)
     } else {
-        (NO_VALUE, 0, 0, INVALID_DATE)
+        (NO_VALUE, 0, 0, INVALID_DATE as u8)
     }
 }
 
@@ -145,8 +145,8 @@ fn weekday_row(date: i32) -> (u8, u8)
     ensures { IsWeekdayNumberOf date result.0 result.1 }
 {
     match day_number(date) {
-        Some(number) => (days_since_monday(number) + 1, OK),
-        None => (0, INVALID_DATE),
+        Some(number) => (days_since_monday(number) + 1, OK as u8),
+        None => (0, INVALID_DATE as u8),
     }
 }
 
@@ -158,8 +158,8 @@ fn iso_week_date_of_calendar_date(year: i32, month: u8, day: u8) -> (i32, u8, u8
     let number = from_calendar_date(year, month, day).min(LAST_DAY_NUMBER);
     let (iso_year, week, weekday) = to_iso_week_date(number);
     let status = status_of_calendar_date(year, month, day);
-    if status == OK {
-        (iso_year, week, weekday, OK)
+    if status == OK as u8 {
+        (iso_year, week, weekday, OK as u8)
     } else {
         (NO_VALUE, 0, 0, status)
     }

@@ -3,15 +3,15 @@ ghost use Rattle.std.specs.Prelude.{◌≡◌, pos, length, ◌∷◌, []};
 ghost use Rattle.cal_time.specs.Date.{julian_day_at, IsYear, IsDayOfMonth};
 ghost use Rattle.cal_c.specs.Columns.{int_at, nat_at, SameLength, AreRows, date_row, IsDateOfJulianDay, IsDateOfCalendarDate, IsDateOfOrdinalDate, IsDateOfIsoWeekDate};
 ghost use Rattle.cal_c.specs.Results.{date_ok, date_or_out_of_range, date_error};
-ghost use Rattle.cal_c.specs.Statuses.{year_status, month_status, day_status};
 ghost use Rattle.cal_c.specs.Values.{need◌else◌then◌, IsMonth};
 
-use super::statuses::{
-    DAY_OUT_OF_RANGE, INVALID_WEEKDAY, JULIAN_DAY_OUT_OF_RANGE, MONTH_OUT_OF_RANGE, OK,
-    RESULT_OUT_OF_RANGE, YEAR_OUT_OF_RANGE, status_byte,
-};
+use super::statuses::status_byte;
 use super::{LENGTH_MISMATCH, NO_VALUE, count_errors};
 use crate::day_number::{FIRST_JULIAN_DAY, LAST_JULIAN_DAY, julian_day};
+use crate::status::{
+    DAY_OUT_OF_RANGE, INVALID_WEEKDAY, JULIAN_DAY_OUT_OF_RANGE, MONTH_OUT_OF_RANGE, OK,
+    RESULT_OUT_OF_RANGE, YEAR_OUT_OF_RANGE,
+};
 use crate::values::valid_weekday;
 use cal_date::day_number::{from_calendar_date, is_day_of_month};
 use cal_time::Date;
@@ -91,7 +91,7 @@ pub extern "C" fn fots_dates_from_iso_week_dates(
 pub(super) fn ok_row(date: Date) -> (i32, u8)
     ensures { date_row result.0 result.1 ≡ date_ok (julian_day_at date) }
 {
-    (date.to_julian_day(), OK)
+    (date.to_julian_day(), OK as u8)
 }
 
 /// Returns the row of an error.
@@ -109,7 +109,7 @@ pub(super) fn row_or_out_of_range(date: Option<Date>) -> (i32, u8)
 {
     match date {
         Some(date) => ok_row(date),
-        None => error_row(RESULT_OUT_OF_RANGE),
+        None => error_row(RESULT_OUT_OF_RANGE as u8),
     }
 }
 
@@ -118,9 +118,9 @@ fn row_from_julian_day(julian_day: i64) -> (i32, u8)
     ensures { IsDateOfJulianDay julian_day (date_row result.0 result.1) }
 {
     if julian_day >= FIRST_JULIAN_DAY && julian_day <= LAST_JULIAN_DAY {
-        (julian_day as i32, OK)
+        (julian_day as i32, OK as u8)
     } else {
-        (NO_VALUE, JULIAN_DAY_OUT_OF_RANGE)
+        (NO_VALUE, JULIAN_DAY_OUT_OF_RANGE as u8)
     }
 }
 
@@ -130,8 +130,8 @@ fn row_from_calendar_date(year: i32, month: u8, day: u8) -> (i32, u8)
 {
     let date = julian_day(from_calendar_date(year, month, day));
     let status = status_of_calendar_date(year, month, day);
-    if status == OK {
-        (date, OK)
+    if status == OK as u8 {
+        (date, OK as u8)
     } else {
         error_row(status)
     }
@@ -140,21 +140,21 @@ fn row_from_calendar_date(year: i32, month: u8, day: u8) -> (i32, u8)
 /// Returns the status of a year, a month and a day, or of the first error: month, year or day.
 #[inline(always)]
 pub(super) fn status_of_calendar_date(year: i32, month: u8, day: u8) -> u8
-    ensures month { ¬ IsMonth month → pos result ≡ month_status }
-    ensures year { IsMonth month → ¬ IsYear year → pos result ≡ year_status }
+    ensures month { ¬ IsMonth month → pos result ≡ MONTH_OUT_OF_RANGE }
+    ensures year { IsMonth month → ¬ IsYear year → pos result ≡ YEAR_OUT_OF_RANGE }
     ensures day { IsMonth month → IsYear year → ¬ IsDayOfMonth year month day
-        → pos result ≡ day_status }
+        → pos result ≡ DAY_OUT_OF_RANGE }
     ensures value { IsMonth month → IsYear year → IsDayOfMonth year month day → result ≡ 0 }
 {
     let is_day = is_day_of_month(year, month, day);
     if month == 0 || month > 12 {
-        MONTH_OUT_OF_RANGE
+        MONTH_OUT_OF_RANGE as u8
     } else if year < MIN_YEAR || year > MAX_YEAR {
-        YEAR_OUT_OF_RANGE
+        YEAR_OUT_OF_RANGE as u8
     } else if is_day {
-        OK
+        OK as u8
     } else {
-        DAY_OUT_OF_RANGE
+        DAY_OUT_OF_RANGE as u8
     }
 }
 
@@ -174,7 +174,7 @@ fn row_from_iso_week_date(year: i32, week: u8, weekday: u8) -> (i32, u8)
 {
     let weekday = or_return!(
         valid_weekday(u32::from(weekday)),
-        error_row(INVALID_WEEKDAY)
+        error_row(INVALID_WEEKDAY as u8)
     );
     match Date::from_iso_week_date(year, week, weekday) {
         Ok(date) => ok_row(date),

@@ -4,9 +4,9 @@ ghost use Rattle.cal_c.specs.Columns.{int_at, nat_at, SameLength, AreRows, date_
 ghost use Rattle.cal_c.specs.Values.{need◌else◌then◌};
 
 use super::constructors::error_row;
-use super::statuses::{INVALID_DATE, OK, RESULT_OUT_OF_RANGE};
 use super::{LENGTH_MISMATCH, count_errors};
 use crate::day_number::{clamped_number, is_julian_day, julian_day};
+use crate::status::{INVALID_DATE, OK, RESULT_OUT_OF_RANGE};
 use cal_schedule::day_number::{clamped_date_in_month, month_number_and_day};
 use cal_time::limits::MONTHS;
 
@@ -38,10 +38,10 @@ fn date_months_later(date: i32, months: i32) -> (i32, u8)
     let index = index.wrapping_add(months.cast_unsigned());
     let later = clamped_date_in_month(index.min(LAST_MONTH), day);
     if !is_julian_day(date) {
-        error_row(INVALID_DATE)
+        error_row(INVALID_DATE as u8)
     } else if index > LAST_MONTH {
-        error_row(RESULT_OUT_OF_RANGE)
+        error_row(RESULT_OUT_OF_RANGE as u8)
     } else {
-        (julian_day(later), OK)
+        (julian_day(later), OK as u8)
     }
 }

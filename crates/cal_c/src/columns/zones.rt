@@ -1,22 +1,22 @@
 //! Columns of Unix times and of readings in one zone.
 ghost use Rattle.std.specs.Prelude.{◌≡◌, MatchOption, length, ◌∷◌, []};
+ghost use Rattle.cal_zone.specs.Policy.{instant_by};
 ghost use Rattle.cal_zone.specs.Span.{IsSpan};
 ghost use Rattle.cal_zone.specs.Timeline.{offset_at, InOrder, IsMoment};
 ghost use Rattle.cal_c.specs.Columns.{int_at, nat_at, SameLength, AreRows};
 ghost use Rattle.cal_c.specs.Results.{int64_error, offset_error, offset_ok};
-ghost use Rattle.cal_c.specs.Statuses.{invalid_policy, invalid_zone};
 ghost use Rattle.cal_c.specs.Values.{need◌else◌then◌};
-ghost use Rattle.cal_c.specs.ZoneColumns.{instant_by, int64_row, offset_row, IsInstantByPolicy, IsInstantOfReading, IsOffsetAt};
+ghost use Rattle.cal_c.specs.ZoneColumns.{instant_or_error, int64_row, offset_row, IsInstantByPolicy, IsInstantOfReading, IsOffsetAt};
 ghost use Rattle.cal_c.specs.Zones.{AreInstantsOf};
 
-use super::statuses::{
+use super::statuses::byte_status;
+use super::{LENGTH_MISMATCH, NO_VALUE, count_errors};
+use crate::status::{
     INVALID_POLICY, INVALID_ZONE, OK, REPEATED_TIME, RESULT_OUT_OF_RANGE, SKIPPED_TIME,
 };
-use super::{LENGTH_MISMATCH, NO_VALUE, count_errors};
 use crate::zones::checked_zone::CheckedZone;
-use crate::zones::policy::Policy;
-use crate::zones::results::at_offset;
-use cal_zone::{Guesses, Instants, Span, UncheckedZone};
+use crate::zones::policy::{local_time_status, valid_policy};
+use cal_zone::{Guesses, Instants, Policy, Span, UncheckedZone};
 
 /// Writes the offsets at Unix times, like `fots_zone_offset`.
 #[unsafe(no_mangle)]
@@ -54,7 +54,7 @@ pub extern "C" fn fots_zone_instants(
 {
     let resolver = Resolver {
         zone: zone.unchecked(),
-        policy: Policy::from_number(policy),
+        policy: valid_policy(policy),
     };
     let mut guesses = Guesses::new();
     let mut span = Span::empty();
@@ -75,13 +75,13 @@ fn row_of_offset(
     guesses: &mut Guesses,
     span: &mut Span,
 ) -> (i32, u8)
-    ensures { MatchOption zone.now (offset_row result.0 result.1 ≡ offset_error invalid_zone)
+    ensures { MatchOption zone.now (offset_row result.0 result.1 ≡ offset_error INVALID_ZONE)
         (λ z. InOrder z → IsSpan z span.old → IsSpan z span.new
         × (offset_row result.0 result.1 ≡ offset_ok (offset_at z seconds))) }
 {
     match zone {
-        Some(zone) => (offset_in(seconds, zone, guesses, span), OK),
-        None => (NO_VALUE, INVALID_ZONE),
+        Some(zone) => (offset_in(seconds, zone, guesses, span), OK as u8),
+        None => (NO_VALUE, INVALID_ZONE as u8),
     }
 }
 
@@ -103,17 +103,17 @@ fn row_of_instant(
     guesses: &mut Guesses,
     span: &mut Span,
 ) -> (i64, u8)
-    ensures { MatchOption resolver.now.zone (int64_row result.0 result.1 ≡ int64_error invalid_zone)
+    ensures { MatchOption resolver.now.zone (int64_row result.0 result.1 ≡ int64_error INVALID_ZONE)
         (λ z. InOrder z → IsSpan z span.old → IsSpan z span.new × MatchOption resolver.now.policy
-        (int64_row result.0 result.1 ≡ int64_error invalid_policy)
+        (int64_row result.0 result.1 ≡ int64_error INVALID_POLICY)
         (λ policy. IsInstantByPolicy z reading policy (int64_row result.0 result.1))) }
 {
     match &resolver.zone {
         Some(zone) => match &resolver.policy {
             Some(policy) => instant_by_policy(reading, zone, *policy, guesses, span),
-            None => (i64::MIN, INVALID_POLICY),
+            None => (i64::MIN, INVALID_POLICY as u8),
         },
-        None => (i64::MIN, INVALID_ZONE),
+        None => (i64::MIN, INVALID_ZONE as u8),
     }
 }
 
@@ -129,7 +129,7 @@ fn instant_by_policy(
         × IsInstantByPolicy zone.now reading policy (int64_row result.0 result.1) }
 {
     if reading < -1_152_921_504_606_846_976 || 1_152_921_504_606_846_976 < reading {
-        return (i64::MIN, RESULT_OUT_OF_RANGE);
+        return (i64::MIN, RESULT_OUT_OF_RANGE as u8);
     }
     choose(reading, instants_in(reading, zone, guesses, span), policy)
 }
@@ -159,21 +159,10 @@ fn instants_in(
 /// Returns the row of a reading whose instants are known.
 fn choose(reading: i64, instants: Instants, policy: Policy) -> (i64, u8)
     requires { IsMoment reading }
-    ensures { int64_row result.0 result.1 ≡ instant_by policy reading instants }
+    ensures { int64_row result.0 result.1 ≡ instant_or_error (instant_by policy reading instants) }
 {
-    match instants {
-        Instants::Single(instant) => (instant, OK),
-        Instants::Gap { before, after, .. } => match policy {
-            Policy::Compatible => (at_offset(reading, before), OK),
-            Policy::Earlier => (at_offset(reading, after), OK),
-            Policy::Later => (at_offset(reading, before), OK),
-            Policy::Reject => (i64::MIN, SKIPPED_TIME),
-        },
-        Instants::Fold { earlier, later } => match policy {
-            Policy::Compatible => (earlier, OK),
-            Policy::Earlier => (earlier, OK),
-            Policy::Later => (later, OK),
-            Policy::Reject => (i64::MIN, REPEATED_TIME),
-        },
+    match instants.select(reading, policy) {
+        Ok(instant) => (instant, OK as u8),
+        Err(error) => (i64::MIN, byte_status(local_time_status(error))),
     }
 }

@@ -3,7 +3,6 @@ ghost use Rattle.std.specs.Prelude.{◌≡◌, pos, ◌+ℤ◌, ◌-ℤ◌, ◌*
 ghost use Rattle.cal_time.specs.SignedDuration.{day, whole_days};
 ghost use Rattle.cal_c.specs.Columns.{IsDateDaysLater};
 ghost use Rattle.cal_c.specs.Results.{IsDateOrOutOfRange, date_ok, date_error, duration_ok, duration_error};
-ghost use Rattle.cal_c.specs.Statuses.{invalid_date, invalid_duration};
 ghost use Rattle.cal_c.specs.Values.{need◌else◌then◌, IsJulianDay, clamped_julian_day, IsDurationPair, nanoseconds_in};
 
 use crate::day_number::{
@@ -17,7 +16,7 @@ use crate::values::valid_duration;
 /// Returns the next day. Fails for the last day, 366963559. After 2451604 it is 2451605.
 #[unsafe(no_mangle)]
 pub extern "C" fn fots_date_next_day(date: i32) -> DateResult
-    ensures invalid_date { ¬ IsJulianDay date → result ≡ date_error invalid_date }
+    ensures invalid_date { ¬ IsJulianDay date → result ≡ date_error INVALID_DATE }
     ensures value { IsJulianDay date → IsDateOrOutOfRange (date +ℤ pos 1) result }
 {
     if !is_julian_day(date) {
@@ -29,7 +28,7 @@ pub extern "C" fn fots_date_next_day(date: i32) -> DateResult
 /// Returns the previous day. Fails for the first day, -363521074. Before 2451604 it is 2451603.
 #[unsafe(no_mangle)]
 pub extern "C" fn fots_date_previous_day(date: i32) -> DateResult
-    ensures invalid_date { ¬ IsJulianDay date → result ≡ date_error invalid_date }
+    ensures invalid_date { ¬ IsJulianDay date → result ≡ date_error INVALID_DATE }
     ensures value { IsJulianDay date → IsDateOrOutOfRange (date -ℤ pos 1) result }
 {
     if !is_julian_day(date) {
@@ -42,8 +41,8 @@ pub extern "C" fn fots_date_previous_day(date: i32) -> DateResult
 /// 2020-12-31 plus 47 hours is 2021-01-01.
 #[unsafe(no_mangle)]
 pub extern "C" fn fots_date_checked_add(date: i32, duration: Duration) -> DateResult
-    ensures { need IsJulianDay date else result ≡ date_error invalid_date then
-        need IsDurationPair duration else result ≡ date_error invalid_duration then
+    ensures { need IsJulianDay date else result ≡ date_error INVALID_DATE then
+        need IsDurationPair duration else result ≡ date_error INVALID_DURATION then
         IsDateOrOutOfRange (date +ℤ whole_days (nanoseconds_in duration)) result }
 {
     if !is_julian_day(date) {
@@ -56,8 +55,8 @@ pub extern "C" fn fots_date_checked_add(date: i32, duration: Duration) -> DateRe
 /// Adds the whole days of a duration, truncated toward zero. A result out of range is clamped.
 #[unsafe(no_mangle)]
 pub extern "C" fn fots_date_saturating_add(date: i32, duration: Duration) -> DateResult
-    ensures { need IsJulianDay date else result ≡ date_error invalid_date then
-        need IsDurationPair duration else result ≡ date_error invalid_duration then
+    ensures { need IsJulianDay date else result ≡ date_error INVALID_DATE then
+        need IsDurationPair duration else result ≡ date_error INVALID_DURATION then
         result ≡ date_ok (clamped_julian_day (date +ℤ whole_days (nanoseconds_in duration))) }
 {
     if !is_julian_day(date) {
@@ -71,8 +70,8 @@ pub extern "C" fn fots_date_saturating_add(date: i32, duration: Duration) -> Dat
 /// range. 2020-12-31 minus 47 hours is 2020-12-30.
 #[unsafe(no_mangle)]
 pub extern "C" fn fots_date_checked_sub(date: i32, duration: Duration) -> DateResult
-    ensures { need IsJulianDay date else result ≡ date_error invalid_date then
-        need IsDurationPair duration else result ≡ date_error invalid_duration then
+    ensures { need IsJulianDay date else result ≡ date_error INVALID_DATE then
+        need IsDurationPair duration else result ≡ date_error INVALID_DURATION then
         IsDateOrOutOfRange (date -ℤ whole_days (nanoseconds_in duration)) result }
 {
     if !is_julian_day(date) {
@@ -85,8 +84,8 @@ pub extern "C" fn fots_date_checked_sub(date: i32, duration: Duration) -> DateRe
 /// Subtracts the whole days of a duration, truncated toward zero. A result out of range is clamped.
 #[unsafe(no_mangle)]
 pub extern "C" fn fots_date_saturating_sub(date: i32, duration: Duration) -> DateResult
-    ensures { need IsJulianDay date else result ≡ date_error invalid_date then
-        need IsDurationPair duration else result ≡ date_error invalid_duration then
+    ensures { need IsJulianDay date else result ≡ date_error INVALID_DATE then
+        need IsDurationPair duration else result ≡ date_error INVALID_DURATION then
         result ≡ date_ok (clamped_julian_day (date -ℤ whole_days (nanoseconds_in duration))) }
 {
     if !is_julian_day(date) {
@@ -113,7 +112,7 @@ pub extern "C" fn fots_date_add_days(date: i32, days: i64) -> DateResult
 #[unsafe(no_mangle)]
 pub extern "C" fn fots_date_duration_since(date: i32, other: i32) -> DurationResult
     ensures invalid_date { ¬ (IsJulianDay date × IsJulianDay other)
-        → result ≡ duration_error invalid_date }
+        → result ≡ duration_error INVALID_DATE }
     ensures value { IsJulianDay date → IsJulianDay other
         → result ≡ duration_ok ((date -ℤ other) *ℤ pos day) }
 {

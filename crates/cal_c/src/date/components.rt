@@ -4,7 +4,6 @@ ghost use Rattle.cal_time.specs.Date.{year_at, month_at, day_of_month_at, ordina
 ghost use Rattle.cal_time.specs.IsoWeekDate.{iso_week_at, weekday_count};
 ghost use Rattle.cal_c.specs.Columns.{IsCalendarDateOf, IsOrdinalDateOf, IsIsoWeekDateOf};
 ghost use Rattle.cal_c.specs.Results.{number_ok, number_error};
-ghost use Rattle.cal_c.specs.Statuses.{invalid_date};
 ghost use Rattle.cal_c.specs.Values.{IsJulianDay, day_of};
 
 use crate::day_number::day_number;
@@ -60,7 +59,7 @@ pub extern "C" fn fots_date_to_iso_week_date(date: i32) -> IsoWeekDateResult
 /// Returns the year, from -999999 to 999999. For 2451604 it is 2000.
 #[unsafe(no_mangle)]
 pub extern "C" fn fots_date_year(date: i32) -> NumberResult
-    ensures invalid_date { ¬ IsJulianDay date → result ≡ number_error invalid_date }
+    ensures invalid_date { ¬ IsJulianDay date → result ≡ number_error INVALID_DATE }
     ensures value { IsJulianDay date → result ≡ number_ok (year_at (day_of date)) }
 {
     let date = or_error!(NumberResult, valid_date(date), INVALID_DATE);
@@ -70,7 +69,7 @@ pub extern "C" fn fots_date_year(date: i32) -> NumberResult
 /// Returns the month, from 1 to 12. For 2451604 it is 2.
 #[unsafe(no_mangle)]
 pub extern "C" fn fots_date_month(date: i32) -> NumberResult
-    ensures invalid_date { ¬ IsJulianDay date → result ≡ number_error invalid_date }
+    ensures invalid_date { ¬ IsJulianDay date → result ≡ number_error INVALID_DATE }
     ensures value { IsJulianDay date → result ≡ number_ok (pos (month_at (day_of date))) }
 {
     let date = or_error!(NumberResult, valid_date(date), INVALID_DATE);
@@ -80,7 +79,7 @@ pub extern "C" fn fots_date_month(date: i32) -> NumberResult
 /// Returns the day of the month, from 1 to 31. For 2451604 it is 29.
 #[unsafe(no_mangle)]
 pub extern "C" fn fots_date_day(date: i32) -> NumberResult
-    ensures invalid_date { ¬ IsJulianDay date → result ≡ number_error invalid_date }
+    ensures invalid_date { ¬ IsJulianDay date → result ≡ number_error INVALID_DATE }
     ensures value { IsJulianDay date → result ≡ number_ok (pos (day_of_month_at (day_of date))) }
 {
     let date = or_error!(NumberResult, valid_date(date), INVALID_DATE);
@@ -90,7 +89,7 @@ pub extern "C" fn fots_date_day(date: i32) -> NumberResult
 /// Returns the ordinal, from 1 to 366. For 2451604 it is 60.
 #[unsafe(no_mangle)]
 pub extern "C" fn fots_date_ordinal(date: i32) -> NumberResult
-    ensures invalid_date { ¬ IsJulianDay date → result ≡ number_error invalid_date }
+    ensures invalid_date { ¬ IsJulianDay date → result ≡ number_error INVALID_DATE }
     ensures value { IsJulianDay date → result ≡ number_ok (pos (ordinal_at (day_of date))) }
 {
     let date = or_error!(NumberResult, valid_date(date), INVALID_DATE);
@@ -100,7 +99,7 @@ pub extern "C" fn fots_date_ordinal(date: i32) -> NumberResult
 /// Returns the ISO week, from 1 to 53. For 2451604 it is 9.
 #[unsafe(no_mangle)]
 pub extern "C" fn fots_date_iso_week(date: i32) -> NumberResult
-    ensures invalid_date { ¬ IsJulianDay date → result ≡ number_error invalid_date }
+    ensures invalid_date { ¬ IsJulianDay date → result ≡ number_error INVALID_DATE }
     ensures value { IsJulianDay date → result ≡ number_ok (pos (iso_week_at (day_of date))) }
 {
     let date = or_error!(NumberResult, valid_date(date), INVALID_DATE);
@@ -110,7 +109,7 @@ pub extern "C" fn fots_date_iso_week(date: i32) -> NumberResult
 /// Returns the week, from 0 to 53. Week 1 begins on the first Sunday. For 2451604 it is 9.
 #[unsafe(no_mangle)]
 pub extern "C" fn fots_date_sunday_based_week(date: i32) -> NumberResult
-    ensures invalid_date { ¬ IsJulianDay date → result ≡ number_error invalid_date }
+    ensures invalid_date { ¬ IsJulianDay date → result ≡ number_error INVALID_DATE }
     ensures value { IsJulianDay date → result ≡ number_ok (pos (weekday_count 6 (day_of date))) }
 {
     let date = or_error!(NumberResult, valid_date(date), INVALID_DATE);
@@ -120,7 +119,7 @@ pub extern "C" fn fots_date_sunday_based_week(date: i32) -> NumberResult
 /// Returns the week, from 0 to 53. Week 1 begins on the first Monday. For 2451604 it is 9.
 #[unsafe(no_mangle)]
 pub extern "C" fn fots_date_monday_based_week(date: i32) -> NumberResult
-    ensures invalid_date { ¬ IsJulianDay date → result ≡ number_error invalid_date }
+    ensures invalid_date { ¬ IsJulianDay date → result ≡ number_error INVALID_DATE }
     ensures value { IsJulianDay date → result ≡ number_ok (pos (weekday_count 0 (day_of date))) }
 {
     let date = or_error!(NumberResult, valid_date(date), INVALID_DATE);
@@ -130,7 +129,7 @@ pub extern "C" fn fots_date_monday_based_week(date: i32) -> NumberResult
 /// Returns the weekday, from 1, Monday, to 7, Sunday. For 2451604 it is 2.
 #[unsafe(no_mangle)]
 pub extern "C" fn fots_date_weekday(date: i32) -> NumberResult
-    ensures invalid_date { ¬ IsJulianDay date → result ≡ number_error invalid_date }
+    ensures invalid_date { ¬ IsJulianDay date → result ≡ number_error INVALID_DATE }
     ensures value { IsJulianDay date → result ≡ number_ok (pos (weekday_at (day_of date) + 1)) }
 {
     let number = or_error!(NumberResult, day_number(date), INVALID_DATE);

@@ -2,8 +2,8 @@
 ghost use Rattle.std.specs.Prelude.{◌≡◌};
 ghost use Rattle.cal_time.specs.Date.{year_at, month_at, day_of_month_at, IsYear, IsDayOfMonth, IsOrdinal, HasCalendarDate, HasOrdinalDate};
 ghost use Rattle.cal_c.specs.Results.{date_error, IsDateWith};
-ghost use Rattle.cal_c.specs.Statuses.{invalid_date, year_status, month_status, day_status, ordinal_status};
 ghost use Rattle.cal_c.specs.Values.{need◌else◌then◌, IsJulianDay, IsMonth, day_of};
+ghost use Rattle.cal_c.specs.declared.status.TheConstants.{YEAR_OUT_OF_RANGE, DAY_OUT_OF_RANGE, ORDINAL_OUT_OF_RANGE};
 
 use crate::results::DateResult;
 use crate::status::{INVALID_DATE, MONTH_OUT_OF_RANGE};
@@ -14,9 +14,9 @@ use crate::values::{day_or_invalid, ordinal_or_invalid, valid_date, valid_month}
 #[unsafe(no_mangle)]
 pub extern "C" fn fots_date_replace_year(date: i32, year: i32) -> DateResult
     ensures { let n = day_of date in
-        need IsJulianDay date else result ≡ date_error invalid_date then
-        need IsYear year else result ≡ date_error year_status then
-        need IsDayOfMonth year (month_at n) (day_of_month_at n) else result ≡ date_error day_status then
+        need IsJulianDay date else result ≡ date_error INVALID_DATE then
+        need IsYear year else result ≡ date_error YEAR_OUT_OF_RANGE then
+        need IsDayOfMonth year (month_at n) (day_of_month_at n) else result ≡ date_error DAY_OUT_OF_RANGE then
         IsDateWith (HasCalendarDate year (month_at n) (day_of_month_at n)) result }
 {
     let date = or_error!(DateResult, valid_date(date), INVALID_DATE);
@@ -28,9 +28,9 @@ pub extern "C" fn fots_date_replace_year(date: i32, year: i32) -> DateResult
 #[unsafe(no_mangle)]
 pub extern "C" fn fots_date_replace_month(date: i32, month: u32) -> DateResult
     ensures { let n = day_of date in
-        need IsJulianDay date else result ≡ date_error invalid_date then
-        need IsMonth month else result ≡ date_error month_status then
-        need IsDayOfMonth (year_at n) month (day_of_month_at n) else result ≡ date_error day_status then
+        need IsJulianDay date else result ≡ date_error INVALID_DATE then
+        need IsMonth month else result ≡ date_error MONTH_OUT_OF_RANGE then
+        need IsDayOfMonth (year_at n) month (day_of_month_at n) else result ≡ date_error DAY_OUT_OF_RANGE then
         IsDateWith (HasCalendarDate (year_at n) month (day_of_month_at n)) result }
 {
     let date = or_error!(DateResult, valid_date(date), INVALID_DATE);
@@ -42,8 +42,8 @@ pub extern "C" fn fots_date_replace_month(date: i32, month: u32) -> DateResult
 #[unsafe(no_mangle)]
 pub extern "C" fn fots_date_replace_day(date: i32, day: u32) -> DateResult
     ensures { let n = day_of date in
-        need IsJulianDay date else result ≡ date_error invalid_date then
-        need IsDayOfMonth (year_at n) (month_at n) day else result ≡ date_error day_status then
+        need IsJulianDay date else result ≡ date_error INVALID_DATE then
+        need IsDayOfMonth (year_at n) (month_at n) day else result ≡ date_error DAY_OUT_OF_RANGE then
         IsDateWith (HasCalendarDate (year_at n) (month_at n) day) result }
 {
     let date = or_error!(DateResult, valid_date(date), INVALID_DATE);
@@ -54,8 +54,8 @@ pub extern "C" fn fots_date_replace_day(date: i32, day: u32) -> DateResult
 #[unsafe(no_mangle)]
 pub extern "C" fn fots_date_replace_ordinal(date: i32, ordinal: u32) -> DateResult
     ensures { let n = day_of date in
-        need IsJulianDay date else result ≡ date_error invalid_date then
-        need IsOrdinal (year_at n) ordinal else result ≡ date_error ordinal_status then
+        need IsJulianDay date else result ≡ date_error INVALID_DATE then
+        need IsOrdinal (year_at n) ordinal else result ≡ date_error ORDINAL_OUT_OF_RANGE then
         IsDateWith (HasOrdinalDate (year_at n) ordinal) result }
 {
     let date = or_error!(DateResult, valid_date(date), INVALID_DATE);

@@ -2,8 +2,8 @@
 ghost use Rattle.std.specs.Prelude.{◌≡◌, pos, neg_ℤ, ◌+ℤ◌, ◌-ℤ◌, ◌*ℤ◌, ◌<ℤ◌, unsigned_abs};
 ghost use Rattle.cal_time.specs.SignedDuration.{HasQuotient, clamp, cut};
 ghost use Rattle.cal_c.specs.Results.{IsDurationOrOutOfRange, duration_ok, duration_error, number_ok, number_error};
-ghost use Rattle.cal_c.specs.Statuses.{result_out_of_range, invalid_duration};
 ghost use Rattle.cal_c.specs.Values.{need◌else◌then◌, IsDurationPair, nanoseconds_in};
+ghost use Rattle.cal_c.specs.declared.status.TheConstants.{RESULT_OUT_OF_RANGE};
 
 use crate::results::{Duration, DurationResult, NumberResult};
 use crate::status::INVALID_DURATION;
@@ -14,7 +14,7 @@ use crate::values::valid_duration;
 #[unsafe(no_mangle)]
 pub extern "C" fn fots_duration_checked_add(duration: Duration, other: Duration) -> DurationResult
     ensures invalid_duration { ¬ (IsDurationPair duration × IsDurationPair other)
-        → result ≡ duration_error invalid_duration }
+        → result ≡ duration_error INVALID_DURATION }
     ensures value { IsDurationPair duration → IsDurationPair other
         → IsDurationOrOutOfRange (nanoseconds_in duration +ℤ nanoseconds_in other) result }
 {
@@ -30,7 +30,7 @@ pub extern "C" fn fots_duration_saturating_add(
     other: Duration,
 ) -> DurationResult
     ensures invalid_duration { ¬ (IsDurationPair duration × IsDurationPair other)
-        → result ≡ duration_error invalid_duration }
+        → result ≡ duration_error INVALID_DURATION }
     ensures value { IsDurationPair duration → IsDurationPair other
         → result ≡ duration_ok (clamp (nanoseconds_in duration +ℤ nanoseconds_in other)) }
 {
@@ -44,7 +44,7 @@ pub extern "C" fn fots_duration_saturating_add(
 #[unsafe(no_mangle)]
 pub extern "C" fn fots_duration_checked_sub(duration: Duration, other: Duration) -> DurationResult
     ensures invalid_duration { ¬ (IsDurationPair duration × IsDurationPair other)
-        → result ≡ duration_error invalid_duration }
+        → result ≡ duration_error INVALID_DURATION }
     ensures value { IsDurationPair duration → IsDurationPair other
         → IsDurationOrOutOfRange (nanoseconds_in duration -ℤ nanoseconds_in other) result }
 {
@@ -61,7 +61,7 @@ pub extern "C" fn fots_duration_saturating_sub(
     other: Duration,
 ) -> DurationResult
     ensures invalid_duration { ¬ (IsDurationPair duration × IsDurationPair other)
-        → result ≡ duration_error invalid_duration }
+        → result ≡ duration_error INVALID_DURATION }
     ensures value { IsDurationPair duration → IsDurationPair other
         → result ≡ duration_ok (clamp (nanoseconds_in duration -ℤ nanoseconds_in other)) }
 {
@@ -73,7 +73,7 @@ pub extern "C" fn fots_duration_saturating_sub(
 /// Multiplies a duration. Fails if the product is out of range. -1.5 seconds times 2 is -3 seconds.
 #[unsafe(no_mangle)]
 pub extern "C" fn fots_duration_checked_mul(duration: Duration, factor: i32) -> DurationResult
-    ensures invalid_duration { ¬ IsDurationPair duration → result ≡ duration_error invalid_duration }
+    ensures invalid_duration { ¬ IsDurationPair duration → result ≡ duration_error INVALID_DURATION }
     ensures value { IsDurationPair duration
         → IsDurationOrOutOfRange (nanoseconds_in duration *ℤ factor) result }
 {
@@ -85,8 +85,8 @@ pub extern "C" fn fots_duration_checked_mul(duration: Duration, factor: i32) -> 
 /// seconds divided by 2 is -1.5 seconds.
 #[unsafe(no_mangle)]
 pub extern "C" fn fots_duration_checked_div(duration: Duration, divisor: i32) -> DurationResult
-    ensures { need IsDurationPair duration else result ≡ duration_error invalid_duration then
-        need HasQuotient (nanoseconds_in duration) divisor else result ≡ duration_error result_out_of_range then
+    ensures { need IsDurationPair duration else result ≡ duration_error INVALID_DURATION then
+        need HasQuotient (nanoseconds_in duration) divisor else result ≡ duration_error RESULT_OUT_OF_RANGE then
         result ≡ duration_ok (cut (nanoseconds_in duration) divisor) }
 {
     let duration = or_error!(DurationResult, valid_duration(duration), INVALID_DURATION);
@@ -97,7 +97,7 @@ pub extern "C" fn fots_duration_checked_div(duration: Duration, divisor: i32) ->
 /// `i64::MIN`. -1.5 seconds becomes 1.5 seconds.
 #[unsafe(no_mangle)]
 pub extern "C" fn fots_duration_checked_neg(duration: Duration) -> DurationResult
-    ensures invalid_duration { ¬ IsDurationPair duration → result ≡ duration_error invalid_duration }
+    ensures invalid_duration { ¬ IsDurationPair duration → result ≡ duration_error INVALID_DURATION }
     ensures value { IsDurationPair duration
         → IsDurationOrOutOfRange (neg_ℤ (nanoseconds_in duration)) result }
 {
@@ -108,7 +108,7 @@ pub extern "C" fn fots_duration_checked_neg(duration: Duration) -> DurationResul
 /// Multiplies a duration. A product out of range is clamped. The maximum times -2 is the minimum.
 #[unsafe(no_mangle)]
 pub extern "C" fn fots_duration_saturating_mul(duration: Duration, factor: i32) -> DurationResult
-    ensures invalid_duration { ¬ IsDurationPair duration → result ≡ duration_error invalid_duration }
+    ensures invalid_duration { ¬ IsDurationPair duration → result ≡ duration_error INVALID_DURATION }
     ensures value { IsDurationPair duration
         → result ≡ duration_ok (clamp (nanoseconds_in duration *ℤ factor)) }
 {
@@ -120,7 +120,7 @@ pub extern "C" fn fots_duration_saturating_mul(duration: Duration, factor: i32) 
 /// minimum the maximum.
 #[unsafe(no_mangle)]
 pub extern "C" fn fots_duration_abs(duration: Duration) -> DurationResult
-    ensures invalid_duration { ¬ IsDurationPair duration → result ≡ duration_error invalid_duration }
+    ensures invalid_duration { ¬ IsDurationPair duration → result ≡ duration_error INVALID_DURATION }
     ensures value { IsDurationPair duration
         → result ≡ duration_ok (clamp (pos (unsigned_abs (nanoseconds_in duration)))) }
 {
@@ -133,7 +133,7 @@ pub extern "C" fn fots_duration_abs(duration: Duration) -> DurationResult
 #[unsafe(no_mangle)]
 pub extern "C" fn fots_duration_compare(duration: Duration, other: Duration) -> NumberResult
     ensures invalid_duration { ¬ (IsDurationPair duration × IsDurationPair other)
-        → result ≡ number_error invalid_duration }
+        → result ≡ number_error INVALID_DURATION }
     ensures less { IsDurationPair duration → IsDurationPair other
         → nanoseconds_in duration <ℤ nanoseconds_in other
         → result ≡ number_ok (neg_ℤ (pos 1)) }

@@ -8,7 +8,6 @@ ghost use Rattle.cal_format.specs.Text.{text_of};
 ghost use Rattle.cal_c.specs.Formats.{HasItems, IsFormat};
 ghost use Rattle.cal_c.specs.FormatTexts.{IsPrinted, IsUnprinted, length_error};
 ghost use Rattle.cal_c.specs.OnePass.{IsItemOf, AreItemsOf, IsFormatOf, PrintsItem, PrintsItems};
-ghost use Rattle.cal_c.specs.Statuses.{invalid_format};
 
 use super::format_parts::{FormatItem, FormatParts};
 use super::iso_dates::{is_iso, parse_iso};
@@ -31,7 +30,7 @@ pub(super) fn print_moment(
 ) -> LengthResult
     requires { IsMoment moment.now }
     ensures invalid_format { ¬ IsFormat format.now
-        → IsUnprinted bytes.old bytes.new result (length_error invalid_format) }
+        → IsUnprinted bytes.old bytes.new result (length_error INVALID_FORMAT) }
     ensures value { (items : List Item) → HasItems format.now items
         → IsPrinted (show_within low high items) (text_of items moment.now) bytes.old bytes.new result }
 {
@@ -79,7 +78,7 @@ pub(super) fn print_in_steps(
 ) -> LengthResult
     requires { IsMoment moment.now }
     ensures invalid_format { ¬ IsFormat format.now
-        → IsUnprinted bytes.old bytes.new result (length_error invalid_format) }
+        → IsUnprinted bytes.old bytes.new result (length_error INVALID_FORMAT) }
     ensures value { (items : List Item) → HasItems format.now items
         → IsPrinted (show_within low high items) (text_of items moment.now) bytes.old bytes.new result }
 {

@@ -8,7 +8,6 @@ ghost use Rattle.cal_format.specs.Reading.{DeterminesDate, DeterminesTime, Deter
 ghost use Rattle.cal_format.specs.Rejection.{IsRejection};
 ghost use Rattle.cal_c.specs.Formats.{HasItems, IsFormat};
 ghost use Rattle.cal_c.specs.FormatParsing.{IsParsed, IsTextOfDate, IsTextOfTime, IsTextOfOffset, IsTextOfPair, IsTextOfMoment, parsed_time_ok, parsed_time_error_at, parsed_offset_ok, parsed_offset_error_at, parsed_pair_ok};
-ghost use Rattle.cal_c.specs.Statuses.{invalid_format, insufficient_format};
 ghost use Rattle.cal_c.specs.Texts.{no_position, parsed_date_ok, parsed_date_error_at, parsed_moment_ok, parsed_moment_error_at};
 
 use super::format_parts::FormatParts;
@@ -54,9 +53,9 @@ macro_rules! result_of {
 #[unsafe(no_mangle)]
 pub extern "C" fn fots_date_parse_format(text: &[u8], format: &FormatParts) -> ParseDateResult
     ensures invalid_format { ¬ IsFormat format.now
-        → result ≡ parsed_date_error_at invalid_format no_position }
+        → result ≡ parsed_date_error_at INVALID_FORMAT no_position }
     ensures insufficient_format { (items : List Item) → HasItems format.now items
-        → ¬ DeterminesDate items → result ≡ parsed_date_error_at insufficient_format no_position }
+        → ¬ DeterminesDate items → result ≡ parsed_date_error_at INSUFFICIENT_FORMAT no_position }
     ensures value { (items : List Item) → HasItems format.now items → DeterminesDate items
         → IsParsed (IsTextOfDate items text.now) (IsRejection items text.now) parsed_date_ok parsed_date_error_at result }
 {
@@ -76,9 +75,9 @@ fn parse_date(text: &[u8], format: &DateFormat) -> ParseDateResult
 #[unsafe(no_mangle)]
 pub extern "C" fn fots_time_parse_format(text: &[u8], format: &FormatParts) -> ParseTimeResult
     ensures invalid_format { ¬ IsFormat format.now
-        → result ≡ parsed_time_error_at invalid_format no_position }
+        → result ≡ parsed_time_error_at INVALID_FORMAT no_position }
     ensures insufficient_format { (items : List Item) → HasItems format.now items
-        → ¬ DeterminesTime items → result ≡ parsed_time_error_at insufficient_format no_position }
+        → ¬ DeterminesTime items → result ≡ parsed_time_error_at INSUFFICIENT_FORMAT no_position }
     ensures value { (items : List Item) → HasItems format.now items → DeterminesTime items
         → IsParsed (IsTextOfTime items text.now) (IsRejection items text.now) parsed_time_ok parsed_time_error_at result }
 {
@@ -95,9 +94,9 @@ fn parse_time(text: &[u8], format: &TimeFormat) -> ParseTimeResult
 #[unsafe(no_mangle)]
 pub extern "C" fn fots_offset_parse_format(text: &[u8], format: &FormatParts) -> ParseOffsetResult
     ensures invalid_format { ¬ IsFormat format.now
-        → result ≡ parsed_offset_error_at invalid_format no_position }
+        → result ≡ parsed_offset_error_at INVALID_FORMAT no_position }
     ensures insufficient_format { (items : List Item) → HasItems format.now items
-        → ¬ DeterminesOffset items → result ≡ parsed_offset_error_at insufficient_format no_position }
+        → ¬ DeterminesOffset items → result ≡ parsed_offset_error_at INSUFFICIENT_FORMAT no_position }
     ensures value { (items : List Item) → HasItems format.now items → DeterminesOffset items
         → IsParsed (IsTextOfOffset items text.now) (IsRejection items text.now) parsed_offset_ok parsed_offset_error_at result }
 {
@@ -115,9 +114,9 @@ fn parse_offset(text: &[u8], format: &OffsetFormat) -> ParseOffsetResult
 #[unsafe(no_mangle)]
 pub extern "C" fn fots_pair_parse_format(text: &[u8], format: &FormatParts) -> ParseMomentResult
     ensures invalid_format { ¬ IsFormat format.now
-        → result ≡ parsed_moment_error_at invalid_format no_position }
+        → result ≡ parsed_moment_error_at INVALID_FORMAT no_position }
     ensures insufficient_format { (items : List Item) → HasItems format.now items
-        → ¬ DeterminesDateTime items → result ≡ parsed_moment_error_at insufficient_format no_position }
+        → ¬ DeterminesDateTime items → result ≡ parsed_moment_error_at INSUFFICIENT_FORMAT no_position }
     ensures value { (items : List Item) → HasItems format.now items → DeterminesDateTime items
         → IsParsed (IsTextOfPair items text.now) (IsRejection items text.now) parsed_pair_ok parsed_moment_error_at result }
 {
@@ -139,9 +138,9 @@ fn parse_pair(text: &[u8], format: &DateTimeFormat) -> ParseMomentResult
 #[unsafe(no_mangle)]
 pub extern "C" fn fots_moment_parse_format(text: &[u8], format: &FormatParts) -> ParseMomentResult
     ensures invalid_format { ¬ IsFormat format.now
-        → result ≡ parsed_moment_error_at invalid_format no_position }
+        → result ≡ parsed_moment_error_at INVALID_FORMAT no_position }
     ensures insufficient_format { (items : List Item) → HasItems format.now items
-        → ¬ DeterminesOffsetDateTime items → result ≡ parsed_moment_error_at insufficient_format no_position }
+        → ¬ DeterminesOffsetDateTime items → result ≡ parsed_moment_error_at INSUFFICIENT_FORMAT no_position }
     ensures value { (items : List Item) → HasItems format.now items → DeterminesOffsetDateTime items
         → IsParsed (IsTextOfMoment items text.now) (IsRejection items text.now) parsed_moment_ok parsed_moment_error_at result }
 {

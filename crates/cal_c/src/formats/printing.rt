@@ -14,8 +14,8 @@ ghost use Rattle.cal_format.specs.Text.{text_of};
 ghost use Rattle.cal_c.specs.Formats.{HasItems, IsFormat};
 ghost use Rattle.cal_c.specs.FormatTexts.{IsPrinted, IsUnprinted, IsWritten, length_error};
 ghost use Rattle.cal_c.specs.Moments.{IsMoment, local_and_offset_in};
-ghost use Rattle.cal_c.specs.Statuses.{invalid_date, invalid_time, invalid_offset, invalid_moment, invalid_format, unsupported_item};
 ghost use Rattle.cal_c.specs.Values.{IsJulianDay, day_of};
+ghost use Rattle.cal_c.specs.declared.status.TheConstants.{INVALID_FORMAT};
 
 use super::format_parts::FormatParts;
 use super::iso_dates::print_date_at_once;
@@ -36,7 +36,7 @@ pub const MAX_LENGTH: usize = 960;
 /// doesn't have.
 pub(crate) fn write(text: &[u8], end: Option<usize>, bytes: &mut [u8]) -> LengthResult
     requires { IfSome end (λ n. n ≤ length text.now) }
-    ensures none { end ≡ None → IsUnprinted bytes.old bytes.new result (length_error unsupported_item) }
+    ensures none { end ≡ None → IsUnprinted bytes.old bytes.new result (length_error UNSUPPORTED_ITEM) }
     ensures some { IfSome end (λ n. IsWritten (take n text.now) bytes.old bytes.new result) }
 {
     let length = or_error!(LengthResult, end, UNSUPPORTED_ITEM);
@@ -55,9 +55,9 @@ pub extern "C" fn fots_date_format(
     bytes: &mut [u8],
 ) -> LengthResult
     ensures invalid_date { ¬ IsJulianDay date
-        → IsUnprinted bytes.old bytes.new result (length_error invalid_date) }
+        → IsUnprinted bytes.old bytes.new result (length_error INVALID_DATE) }
     ensures invalid_format { IsJulianDay date → ¬ IsFormat format.now
-        → IsUnprinted bytes.old bytes.new result (length_error invalid_format) }
+        → IsUnprinted bytes.old bytes.new result (length_error INVALID_FORMAT) }
     ensures value { IsJulianDay date → (items : List Item) → HasItems format.now items
         → IsPrinted (are_date_items items) (text_of items (moment_of_date (day_of date))) bytes.old bytes.new result }
 {
@@ -67,7 +67,7 @@ pub extern "C" fn fots_date_format(
 
 fn print_date(date: Date, format: &FormatParts, bytes: &mut [u8]) -> LengthResult
     ensures invalid_format { ¬ IsFormat format.now
-        → IsUnprinted bytes.old bytes.new result (length_error invalid_format) }
+        → IsUnprinted bytes.old bytes.new result (length_error INVALID_FORMAT) }
     ensures value { (items : List Item) → HasItems format.now items
         → IsPrinted (are_date_items items) (text_of items (moment_of_date date)) bytes.old bytes.new result }
 {
@@ -88,9 +88,9 @@ pub extern "C" fn fots_time_format(
     bytes: &mut [u8],
 ) -> LengthResult
     ensures invalid_time { ¬ IsTime time
-        → IsUnprinted bytes.old bytes.new result (length_error invalid_time) }
+        → IsUnprinted bytes.old bytes.new result (length_error INVALID_TIME) }
     ensures invalid_format { IsTime time → ¬ IsFormat format.now
-        → IsUnprinted bytes.old bytes.new result (length_error invalid_format) }
+        → IsUnprinted bytes.old bytes.new result (length_error INVALID_FORMAT) }
     ensures value { IsTime time → (items : List Item) → HasItems format.now items
         → IsPrinted (are_time_items items) (text_of items (moment_of_time time)) bytes.old bytes.new result }
 {
@@ -106,9 +106,9 @@ pub extern "C" fn fots_offset_format(
     bytes: &mut [u8],
 ) -> LengthResult
     ensures invalid_offset { ¬ IsOffset offset
-        → IsUnprinted bytes.old bytes.new result (length_error invalid_offset) }
+        → IsUnprinted bytes.old bytes.new result (length_error INVALID_OFFSET) }
     ensures invalid_format { IsOffset offset → ¬ IsFormat format.now
-        → IsUnprinted bytes.old bytes.new result (length_error invalid_format) }
+        → IsUnprinted bytes.old bytes.new result (length_error INVALID_FORMAT) }
     ensures value { IsOffset offset → (items : List Item) → HasItems format.now items
         → IsPrinted (are_offset_items items) (text_of items (moment_of_offset offset)) bytes.old bytes.new result }
 {
@@ -124,9 +124,9 @@ pub extern "C" fn fots_moment_format(
     bytes: &mut [u8],
 ) -> LengthResult
     ensures invalid_moment { ¬ IsMoment moment
-        → IsUnprinted bytes.old bytes.new result (length_error invalid_moment) }
+        → IsUnprinted bytes.old bytes.new result (length_error INVALID_MOMENT) }
     ensures invalid_format { IsMoment moment → ¬ IsFormat format.now
-        → IsUnprinted bytes.old bytes.new result (length_error invalid_format) }
+        → IsUnprinted bytes.old bytes.new result (length_error INVALID_FORMAT) }
     ensures value { IsMoment moment → (items : List Item) → HasItems format.now items
         → IsPrinted (are_moment_items items)
         (text_of items (moment_of_offset_date_time (local_and_offset_in moment))) bytes.old bytes.new result }
@@ -145,11 +145,11 @@ pub extern "C" fn fots_pair_format(
     bytes: &mut [u8],
 ) -> LengthResult
     ensures invalid_date { ¬ IsJulianDay date
-        → IsUnprinted bytes.old bytes.new result (length_error invalid_date) }
+        → IsUnprinted bytes.old bytes.new result (length_error INVALID_DATE) }
     ensures invalid_time { IsJulianDay date → ¬ IsTime time
-        → IsUnprinted bytes.old bytes.new result (length_error invalid_time) }
+        → IsUnprinted bytes.old bytes.new result (length_error INVALID_TIME) }
     ensures invalid_format { IsJulianDay date → IsTime time → ¬ IsFormat format.now
-        → IsUnprinted bytes.old bytes.new result (length_error invalid_format) }
+        → IsUnprinted bytes.old bytes.new result (length_error INVALID_FORMAT) }
     ensures value { IsJulianDay date → IsTime time → (items : List Item) → HasItems format.now items
         → IsPrinted (are_date_time_items items)
         (text_of items (moment_of_date_time (date_time (day_of date) time))) bytes.old bytes.new result }

@@ -6,7 +6,6 @@ ghost use Rattle.cal_datetime.specs.DateTime.{clamped_date_time};
 ghost use Rattle.cal_datetime.specs.OffsetDateTime.{instant};
 ghost use Rattle.cal_c.specs.Moments.{IsMoment, IsMomentOrError, local_in, moment_ok, moment_error, local_and_offset_in};
 ghost use Rattle.cal_c.specs.Results.{duration_ok, duration_error, number_ok, number_error};
-ghost use Rattle.cal_c.specs.Statuses.{invalid_duration, invalid_moment, result_out_of_range};
 ghost use Rattle.cal_c.specs.Values.{need◌else◌then◌, IsDurationPair, day_of, nanoseconds_in};
 
 use crate::day_number::later_day;
@@ -20,9 +19,9 @@ use cal_time::Time;
 /// 2024-02-29 23:59 +01:00 it is 2024-03-01 1:59 +01:00.
 #[unsafe(no_mangle)]
 pub extern "C" fn fots_moment_checked_add(moment: Moment, duration: Duration) -> MomentResult
-    ensures { need IsMoment moment else result ≡ moment_error invalid_moment then
-        need IsDurationPair duration else result ≡ moment_error invalid_duration then
-        IsMomentOrError result_out_of_range (local_in moment +ℤ nanoseconds_in duration) moment.offset result }
+    ensures { need IsMoment moment else result ≡ moment_error INVALID_MOMENT then
+        need IsDurationPair duration else result ≡ moment_error INVALID_DURATION then
+        IsMomentOrError RESULT_OUT_OF_RANGE (local_in moment +ℤ nanoseconds_in duration) moment.offset result }
 {
     let time = or_error!(MomentResult, valid_time_of(moment), INVALID_MOMENT);
     let duration = or_error!(MomentResult, valid_duration(duration), INVALID_DURATION);
@@ -35,9 +34,9 @@ pub extern "C" fn fots_moment_checked_add(moment: Moment, duration: Duration) ->
 /// before 2024-03-01 1:59 +01:00 it is 2024-02-29 23:59 +01:00.
 #[unsafe(no_mangle)]
 pub extern "C" fn fots_moment_checked_sub(moment: Moment, duration: Duration) -> MomentResult
-    ensures { need IsMoment moment else result ≡ moment_error invalid_moment then
-        need IsDurationPair duration else result ≡ moment_error invalid_duration then
-        IsMomentOrError result_out_of_range (local_in moment -ℤ nanoseconds_in duration) moment.offset result }
+    ensures { need IsMoment moment else result ≡ moment_error INVALID_MOMENT then
+        need IsDurationPair duration else result ≡ moment_error INVALID_DURATION then
+        IsMomentOrError RESULT_OUT_OF_RANGE (local_in moment -ℤ nanoseconds_in duration) moment.offset result }
 {
     let time = or_error!(MomentResult, valid_time_of(moment), INVALID_MOMENT);
     let duration = or_error!(MomentResult, valid_duration(duration), INVALID_DURATION);
@@ -50,7 +49,7 @@ pub extern "C" fn fots_moment_checked_sub(moment: Moment, duration: Duration) ->
 fn at_later_day(moment: Moment, days: i64, time: Time) -> MomentResult
     requires moment { IsMoment moment }
     requires time { IsTime time }
-    ensures { IsMomentOrError result_out_of_range ((pos (day_of moment.date) +ℤ days) *ℤ pos day +ℤ pos time) moment.offset result }
+    ensures { IsMomentOrError RESULT_OUT_OF_RANGE ((pos (day_of moment.date) +ℤ days) *ℤ pos day +ℤ pos time) moment.offset result }
 {
     let date = or_return!(
         later_day(moment.date, days),
@@ -70,9 +69,9 @@ fn at_later_day(moment: Moment, days: i64, time: Time) -> MomentResult
 /// last date and time at the offset.
 #[unsafe(no_mangle)]
 pub extern "C" fn fots_moment_saturating_add(moment: Moment, duration: Duration) -> MomentResult
-    ensures invalid_moment { ¬ IsMoment moment → result ≡ moment_error invalid_moment }
+    ensures invalid_moment { ¬ IsMoment moment → result ≡ moment_error INVALID_MOMENT }
     ensures invalid_duration { IsMoment moment → ¬ IsDurationPair duration
-        → result ≡ moment_error invalid_duration }
+        → result ≡ moment_error INVALID_DURATION }
     ensures value { IsMoment moment → IsDurationPair duration
         → result ≡ moment_ok (record {
           local = clamped_date_time (local_in moment +ℤ nanoseconds_in duration);
@@ -88,9 +87,9 @@ pub extern "C" fn fots_moment_saturating_add(moment: Moment, duration: Duration)
 /// or the last date and time at the offset.
 #[unsafe(no_mangle)]
 pub extern "C" fn fots_moment_saturating_sub(moment: Moment, duration: Duration) -> MomentResult
-    ensures invalid_moment { ¬ IsMoment moment → result ≡ moment_error invalid_moment }
+    ensures invalid_moment { ¬ IsMoment moment → result ≡ moment_error INVALID_MOMENT }
     ensures invalid_duration { IsMoment moment → ¬ IsDurationPair duration
-        → result ≡ moment_error invalid_duration }
+        → result ≡ moment_error INVALID_DURATION }
     ensures value { IsMoment moment → IsDurationPair duration
         → result ≡ moment_ok (record {
           local = clamped_date_time (local_in moment -ℤ nanoseconds_in duration);
@@ -107,7 +106,7 @@ pub extern "C" fn fots_moment_saturating_sub(moment: Moment, duration: Duration)
 #[unsafe(no_mangle)]
 pub extern "C" fn fots_moment_duration_since(moment: Moment, other: Moment) -> DurationResult
     ensures invalid_moment { ¬ (IsMoment moment × IsMoment other)
-        → result ≡ duration_error invalid_moment }
+        → result ≡ duration_error INVALID_MOMENT }
     ensures value { IsMoment moment → IsMoment other
         → result ≡ duration_ok (instant (local_and_offset_in moment) -ℤ instant (local_and_offset_in other)) }
 {
@@ -120,7 +119,7 @@ pub extern "C" fn fots_moment_duration_since(moment: Moment, other: Moment) -> D
 /// +01:00 and 0:00 at UTC on the same date it is 0.
 #[unsafe(no_mangle)]
 pub extern "C" fn fots_moment_compare(moment: Moment, other: Moment) -> NumberResult
-    ensures invalid_moment { ¬ (IsMoment moment × IsMoment other) → result ≡ number_error invalid_moment }
+    ensures invalid_moment { ¬ (IsMoment moment × IsMoment other) → result ≡ number_error INVALID_MOMENT }
     ensures less { IsMoment moment → IsMoment other
         → instant (local_and_offset_in moment) <ℤ instant (local_and_offset_in other)
         → result ≡ number_ok (neg_ℤ (pos 1)) }

@@ -4,7 +4,6 @@ ghost use Rattle.cal_time.specs.Time.{IsTime};
 ghost use Rattle.cal_time.specs.UtcOffset.{IsOffset};
 ghost use Rattle.cal_datetime.specs.OffsetDateTime.{instant, local_at};
 ghost use Rattle.cal_c.specs.Moments.{IsMoment, IsMomentOrError, local_in, moment_ok, moment_error, local_and_offset_in};
-ghost use Rattle.cal_c.specs.Statuses.{invalid_date, invalid_moment, invalid_offset, invalid_time, result_out_of_range};
 ghost use Rattle.cal_c.specs.Values.{need◌else◌then◌, IsJulianDay, moment_of};
 
 use crate::moment::valid_moment;
@@ -20,10 +19,10 @@ use cal_time::UtcOffset;
 /// and 3600 give 2024-02-29 23:59:59.25 +01:00.
 #[unsafe(no_mangle)]
 pub extern "C" fn fots_moment_new(date: i32, time: u64, offset: i32) -> MomentResult
-    ensures invalid_date { ¬ IsJulianDay date → result ≡ moment_error invalid_date }
-    ensures invalid_time { IsJulianDay date → ¬ IsTime time → result ≡ moment_error invalid_time }
+    ensures invalid_date { ¬ IsJulianDay date → result ≡ moment_error INVALID_DATE }
+    ensures invalid_time { IsJulianDay date → ¬ IsTime time → result ≡ moment_error INVALID_TIME }
     ensures invalid_offset { IsJulianDay date → IsTime time → ¬ IsOffset offset
-        → result ≡ moment_error invalid_offset }
+        → result ≡ moment_error INVALID_OFFSET }
     ensures value { IsJulianDay date → IsTime time → IsOffset offset
         → result ≡ moment_ok (moment_of date time offset) }
 {
@@ -37,9 +36,9 @@ pub extern "C" fn fots_moment_new(date: i32, time: u64, offset: i32) -> MomentRe
 /// UTC, 2024-02-29 23:59:59.25 +01:00 is 22:59:59.25.
 #[unsafe(no_mangle)]
 pub extern "C" fn fots_moment_to_offset(moment: Moment, offset: i32) -> MomentResult
-    ensures { need IsMoment moment else result ≡ moment_error invalid_moment then
-        need IsOffset offset else result ≡ moment_error invalid_offset then
-        IsMomentOrError result_out_of_range (local_at (instant (local_and_offset_in moment)) offset) offset result }
+    ensures { need IsMoment moment else result ≡ moment_error INVALID_MOMENT then
+        need IsOffset offset else result ≡ moment_error INVALID_OFFSET then
+        IsMomentOrError RESULT_OUT_OF_RANGE (local_at (instant (local_and_offset_in moment)) offset) offset result }
 {
     let moment = or_error!(MomentResult, valid_moment(moment), INVALID_MOMENT);
     let offset = or_error!(MomentResult, valid_offset(offset), INVALID_OFFSET);
@@ -48,7 +47,7 @@ pub extern "C" fn fots_moment_to_offset(moment: Moment, offset: i32) -> MomentRe
 
 /// Converts a moment to another offset.
 fn at_offset(moment: OffsetDateTime, offset: UtcOffset) -> MomentResult
-    ensures { IsMomentOrError result_out_of_range (local_at (instant moment) offset) offset result }
+    ensures { IsMomentOrError RESULT_OUT_OF_RANGE (local_at (instant moment) offset) offset result }
 {
     let shown = or_return!(
         moment.checked_to_offset(offset),
@@ -61,8 +60,8 @@ fn at_offset(moment: OffsetDateTime, offset: UtcOffset) -> MomentResult
 /// offset 0 is 23:59 at UTC, an hour later.
 #[unsafe(no_mangle)]
 pub extern "C" fn fots_moment_replace_offset(moment: Moment, offset: i32) -> MomentResult
-    ensures { need IsMoment moment else result ≡ moment_error invalid_moment then
-        need IsOffset offset else result ≡ moment_error invalid_offset then
+    ensures { need IsMoment moment else result ≡ moment_error INVALID_MOMENT then
+        need IsOffset offset else result ≡ moment_error INVALID_OFFSET then
         result ≡ moment_ok (record { local = local_in moment; offset = offset }) }
 {
     let moment = or_error!(MomentResult, valid_moment(moment), INVALID_MOMENT);

@@ -4,7 +4,6 @@ ghost use Rattle.cal_time.specs.SignedDuration.{second};
 ghost use Rattle.cal_datetime.specs.OffsetDateTime.{instant, unix_epoch, unix_nanoseconds, unix_seconds};
 ghost use Rattle.cal_c.specs.Moments.{IsMoment, IsMomentOrError, moment_error, local_and_offset_in};
 ghost use Rattle.cal_c.specs.Results.{duration_ok, duration_error, int64_ok, int64_error};
-ghost use Rattle.cal_c.specs.Statuses.{invalid_duration, invalid_moment, timestamp_status};
 ghost use Rattle.cal_c.specs.Values.{IsDurationPair, nanoseconds_in};
 
 use crate::moment::valid_moment;
@@ -18,7 +17,7 @@ use cal_time::SignedDuration;
 /// 1709247599 is 2024-02-29 22:59:59.
 #[unsafe(no_mangle)]
 pub extern "C" fn fots_moment_from_unix_timestamp(seconds: i64) -> MomentResult
-    ensures { IsMomentOrError timestamp_status (unix_epoch +ℤ seconds *ℤ pos second) (pos 0) result }
+    ensures { IsMomentOrError TIMESTAMP_OUT_OF_RANGE (unix_epoch +ℤ seconds *ℤ pos second) (pos 0) result }
 {
     let moment =
         or_return!(OffsetDateTime::from_unix_timestamp(seconds), _ => MomentResult::error(TIMESTAMP_OUT_OF_RANGE));
@@ -29,9 +28,9 @@ pub extern "C" fn fots_moment_from_unix_timestamp(seconds: i64) -> MomentResult
 /// second is 1970-01-01 0:00:00.5.
 #[unsafe(no_mangle)]
 pub extern "C" fn fots_moment_from_unix_time(duration: Duration) -> MomentResult
-    ensures invalid_duration { ¬ IsDurationPair duration → result ≡ moment_error invalid_duration }
+    ensures invalid_duration { ¬ IsDurationPair duration → result ≡ moment_error INVALID_DURATION }
     ensures value { IsDurationPair duration
-        → IsMomentOrError timestamp_status (unix_epoch +ℤ nanoseconds_in duration) (pos 0) result }
+        → IsMomentOrError TIMESTAMP_OUT_OF_RANGE (unix_epoch +ℤ nanoseconds_in duration) (pos 0) result }
 {
     let duration = or_error!(MomentResult, valid_duration(duration), INVALID_DURATION);
     moment_at_unix_time(duration)
@@ -39,7 +38,7 @@ pub extern "C" fn fots_moment_from_unix_time(duration: Duration) -> MomentResult
 
 /// Creates a moment at UTC from a Unix time.
 fn moment_at_unix_time(duration: SignedDuration) -> MomentResult
-    ensures { IsMomentOrError timestamp_status (unix_epoch +ℤ duration) (pos 0) result }
+    ensures { IsMomentOrError TIMESTAMP_OUT_OF_RANGE (unix_epoch +ℤ duration) (pos 0) result }
 {
     let moment =
         or_return!(OffsetDateTime::from_unix_timestamp_nanos(duration.whole_nanoseconds()), _ => MomentResult::error(TIMESTAMP_OUT_OF_RANGE));
@@ -49,7 +48,7 @@ fn moment_at_unix_time(duration: SignedDuration) -> MomentResult
 /// Returns the Unix timestamp in seconds, rounded down. Half a second before 1970 it is -1.
 #[unsafe(no_mangle)]
 pub extern "C" fn fots_moment_unix_timestamp(moment: Moment) -> Int64Result
-    ensures invalid_moment { ¬ IsMoment moment → result ≡ int64_error invalid_moment }
+    ensures invalid_moment { ¬ IsMoment moment → result ≡ int64_error INVALID_MOMENT }
     ensures value { IsMoment moment → result
         ≡ int64_ok (unix_seconds (instant (local_and_offset_in moment))) }
 {
@@ -61,7 +60,7 @@ pub extern "C" fn fots_moment_unix_timestamp(moment: Moment) -> Int64Result
 /// -500000000 nanoseconds.
 #[unsafe(no_mangle)]
 pub extern "C" fn fots_moment_unix_time(moment: Moment) -> DurationResult
-    ensures invalid_moment { ¬ IsMoment moment → result ≡ duration_error invalid_moment }
+    ensures invalid_moment { ¬ IsMoment moment → result ≡ duration_error INVALID_MOMENT }
     ensures value { IsMoment moment → result
         ≡ duration_ok (unix_nanoseconds (instant (local_and_offset_in moment))) }
 {

@@ -4,8 +4,8 @@ ghost use Rattle.cal_time.specs.Date.{first_julian_day, first_year, last_day, la
 ghost use Rattle.cal_schedule.specs.Months.{month_number_at, IsMonthNumber, IsMonthsLater};
 ghost use Rattle.cal_c.specs.Columns.{IsDateMonthsLater};
 ghost use Rattle.cal_c.specs.Results.{date_ok, date_error, IsDateWith};
-ghost use Rattle.cal_c.specs.Statuses.{invalid_date, result_out_of_range};
 ghost use Rattle.cal_c.specs.Values.{need◌else◌then◌, IsJulianDay, day_of};
+ghost use Rattle.cal_c.specs.declared.status.TheConstants.{RESULT_OUT_OF_RANGE};
 
 use crate::results::DateResult;
 use crate::status::INVALID_DATE;
@@ -27,7 +27,7 @@ pub extern "C" fn fots_date_add_months(date: i32, months: i32) -> DateResult
 /// the resulting month is out of range. A month after 366963559, the last day, is 366963559.
 #[unsafe(no_mangle)]
 pub extern "C" fn fots_date_saturating_add_months(date: i32, months: i32) -> DateResult
-    ensures invalid_date { ¬ IsJulianDay date → result ≡ date_error invalid_date }
+    ensures invalid_date { ¬ IsJulianDay date → result ≡ date_error INVALID_DATE }
     ensures value { IsJulianDay date → IsMonthNumber (month_number_at (day_of date) +ℤ months)
         → IsDateWith (IsMonthsLater (day_of date) months) result }
     ensures before { IsJulianDay date
@@ -45,8 +45,8 @@ pub extern "C" fn fots_date_saturating_add_months(date: i32, months: i32) -> Dat
 /// 2451969, 2001-02-28.
 #[unsafe(no_mangle)]
 pub extern "C" fn fots_date_add_years(date: i32, years: i32) -> DateResult
-    ensures { need IsJulianDay date else result ≡ date_error invalid_date then
-        need IsYear (year_at (day_of date) +ℤ years) else result ≡ date_error result_out_of_range then
+    ensures { need IsJulianDay date else result ≡ date_error INVALID_DATE then
+        need IsYear (year_at (day_of date) +ℤ years) else result ≡ date_error RESULT_OUT_OF_RANGE then
         IsDateWith (IsMonthsLater (day_of date) (pos 12 *ℤ years)) result }
 {
     let date = or_error!(DateResult, valid_date(date), INVALID_DATE);

@@ -5,8 +5,8 @@ ghost use Rattle.cal_time.specs.IsoWeekDate.{iso_year_at, iso_week_at, HasIsoWee
 ghost use Rattle.cal_time.specs.Lengths.{days_in_month};
 ghost use Rattle.cal_schedule.specs.Months.{quarter_at};
 ghost use Rattle.cal_c.specs.Results.{date_ok, date_error, number_ok, number_error, IsDateWith};
-ghost use Rattle.cal_c.specs.Statuses.{invalid_date, result_out_of_range};
 ghost use Rattle.cal_c.specs.Values.{IsJulianDay, day_of};
+ghost use Rattle.cal_c.specs.declared.status.TheConstants.{RESULT_OUT_OF_RANGE};
 
 use crate::results::{DateResult, NumberResult};
 use crate::status::INVALID_DATE;
@@ -19,7 +19,7 @@ use cal_schedule::{
 /// Returns the first day of the month. For 2451604, 2000-02-29, it is 2451576.
 #[unsafe(no_mangle)]
 pub extern "C" fn fots_date_first_of_month(date: i32) -> DateResult
-    ensures invalid_date { ¬ IsJulianDay date → result ≡ date_error invalid_date }
+    ensures invalid_date { ¬ IsJulianDay date → result ≡ date_error INVALID_DATE }
     ensures value { IsJulianDay date → IsDateWith
         (HasCalendarDate (year_at (day_of date)) (month_at (day_of date)) 1) result }
 {
@@ -30,7 +30,7 @@ pub extern "C" fn fots_date_first_of_month(date: i32) -> DateResult
 /// Returns the last day of the month. For 2451576, 2000-02-01, it is 2451604.
 #[unsafe(no_mangle)]
 pub extern "C" fn fots_date_last_of_month(date: i32) -> DateResult
-    ensures invalid_date { ¬ IsJulianDay date → result ≡ date_error invalid_date }
+    ensures invalid_date { ¬ IsJulianDay date → result ≡ date_error INVALID_DATE }
     ensures value { IsJulianDay date
         → IsDateWith (HasCalendarDate (year_at (day_of date)) (month_at (day_of date))
         (days_in_month (year_at (day_of date)) (month_at (day_of date)))) result }
@@ -42,7 +42,7 @@ pub extern "C" fn fots_date_last_of_month(date: i32) -> DateResult
 /// Returns the quarter of the year, from 1 to 4. For 2451604, 2000-02-29, it is 1.
 #[unsafe(no_mangle)]
 pub extern "C" fn fots_date_quarter(date: i32) -> NumberResult
-    ensures invalid_date { ¬ IsJulianDay date → result ≡ number_error invalid_date }
+    ensures invalid_date { ¬ IsJulianDay date → result ≡ number_error INVALID_DATE }
     ensures value { IsJulianDay date → result ≡ number_ok (pos (quarter_at (day_of date))) }
 {
     let date = or_error!(NumberResult, valid_date(date), INVALID_DATE);
@@ -52,7 +52,7 @@ pub extern "C" fn fots_date_quarter(date: i32) -> NumberResult
 /// Returns the first day of the quarter. For 2451604, 2000-02-29, it is 2451545, 2000-01-01.
 #[unsafe(no_mangle)]
 pub extern "C" fn fots_date_first_of_quarter(date: i32) -> DateResult
-    ensures invalid_date { ¬ IsJulianDay date → result ≡ date_error invalid_date }
+    ensures invalid_date { ¬ IsJulianDay date → result ≡ date_error INVALID_DATE }
     ensures value { IsJulianDay date → IsDateWith
         (HasCalendarDate (year_at (day_of date)) (3 * quarter_at (day_of date) - 2) 1) result }
 {
@@ -63,7 +63,7 @@ pub extern "C" fn fots_date_first_of_quarter(date: i32) -> DateResult
 /// Returns the last day of the quarter. For 2451604, 2000-02-29, it is 2451635, 2000-03-31.
 #[unsafe(no_mangle)]
 pub extern "C" fn fots_date_last_of_quarter(date: i32) -> DateResult
-    ensures invalid_date { ¬ IsJulianDay date → result ≡ date_error invalid_date }
+    ensures invalid_date { ¬ IsJulianDay date → result ≡ date_error INVALID_DATE }
     ensures value { IsJulianDay date
         → IsDateWith (HasCalendarDate (year_at (day_of date)) (3 * quarter_at (day_of date))
         (days_in_month (year_at (day_of date)) (3 * quarter_at (day_of date)))) result }
@@ -75,7 +75,7 @@ pub extern "C" fn fots_date_last_of_quarter(date: i32) -> DateResult
 /// Returns the first day of the year. For 2451604, 2000-02-29, it is 2451545, 2000-01-01.
 #[unsafe(no_mangle)]
 pub extern "C" fn fots_date_first_of_year(date: i32) -> DateResult
-    ensures invalid_date { ¬ IsJulianDay date → result ≡ date_error invalid_date }
+    ensures invalid_date { ¬ IsJulianDay date → result ≡ date_error INVALID_DATE }
     ensures value { IsJulianDay date → IsDateWith
         (HasCalendarDate (year_at (day_of date)) 1 1) result }
 {
@@ -86,7 +86,7 @@ pub extern "C" fn fots_date_first_of_year(date: i32) -> DateResult
 /// Returns the last day of the year. For 2451604, 2000-02-29, it is 2451910, 2000-12-31.
 #[unsafe(no_mangle)]
 pub extern "C" fn fots_date_last_of_year(date: i32) -> DateResult
-    ensures invalid_date { ¬ IsJulianDay date → result ≡ date_error invalid_date }
+    ensures invalid_date { ¬ IsJulianDay date → result ≡ date_error INVALID_DATE }
     ensures value { IsJulianDay date → IsDateWith
         (HasCalendarDate (year_at (day_of date)) 12 31) result }
 {
@@ -97,7 +97,7 @@ pub extern "C" fn fots_date_last_of_year(date: i32) -> DateResult
 /// Returns the Monday of the ISO week. For 2451604, 2000-02-29, it is 2451603.
 #[unsafe(no_mangle)]
 pub extern "C" fn fots_date_first_of_iso_week(date: i32) -> DateResult
-    ensures invalid_date { ¬ IsJulianDay date → result ≡ date_error invalid_date }
+    ensures invalid_date { ¬ IsJulianDay date → result ≡ date_error INVALID_DATE }
     ensures value { IsJulianDay date → IsDateWith
         (HasIsoWeekDate (iso_year_at (day_of date)) (iso_week_at (day_of date)) 0) result }
 {
@@ -109,9 +109,9 @@ pub extern "C" fn fots_date_first_of_iso_week(date: i32) -> DateResult
 /// 2000-02-29, it is 2451609.
 #[unsafe(no_mangle)]
 pub extern "C" fn fots_date_last_of_iso_week(date: i32) -> DateResult
-    ensures invalid_date { ¬ IsJulianDay date → result ≡ date_error invalid_date }
+    ensures invalid_date { ¬ IsJulianDay date → result ≡ date_error INVALID_DATE }
     ensures result_out_of_range { IsJulianDay date → last_day + weekday_at (day_of date) < day_of date + 6
-        → result ≡ date_error result_out_of_range }
+        → result ≡ date_error RESULT_OUT_OF_RANGE }
     ensures value { IsJulianDay date → day_of date + 6 ≤ last_day + weekday_at (day_of date)
         → result ≡ date_ok (julian_day_at (day_of date + 6 - weekday_at (day_of date))) }
 {

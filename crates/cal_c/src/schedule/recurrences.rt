@@ -6,7 +6,6 @@ ghost use Rattle.std.specs.Prelude.{◌≡◌, pos, slice_get, if◌then◌else�
 ghost use Rattle.cal_recurrence.specs.Sets.{is_in_set, set_days_after, set_days_before, set_days_from};
 ghost use Rattle.cal_c.specs.Recurrences.{days_ok, days_error, AreDatesWritten, IsSet, IsSetStatus, set_in};
 ghost use Rattle.cal_c.specs.Results.{date_or_out_of_range, date_error, number_ok, number_error};
-ghost use Rattle.cal_c.specs.Statuses.{invalid_date};
 ghost use Rattle.cal_c.specs.Values.{IsJulianDay, day_of};
 
 mod days;
@@ -54,7 +53,7 @@ pub extern "C" fn fots_rule_first(rule: &RuleParts<'_>) -> DateResult
 pub extern "C" fn fots_rule_next_after(rule: &RuleParts<'_>, date: i32) -> DateResult
     ensures error { ¬ IsSet rule.now
         → IsSetStatus rule.now result.status × (result ≡ date_error result.status) }
-    ensures invalid_date { IsSet rule.now → ¬ IsJulianDay date → result ≡ date_error invalid_date }
+    ensures invalid_date { IsSet rule.now → ¬ IsJulianDay date → result ≡ date_error INVALID_DATE }
     ensures value { IsSet rule.now → IsJulianDay date
         → result ≡ date_or_out_of_range (slice_get (set_days_after (set_in rule.now) (day_of date)) 0) }
 {
@@ -70,7 +69,7 @@ pub extern "C" fn fots_rule_next_after(rule: &RuleParts<'_>, date: i32) -> DateR
 pub extern "C" fn fots_rule_previous_before(rule: &RuleParts<'_>, date: i32) -> DateResult
     ensures error { ¬ IsSet rule.now
         → IsSetStatus rule.now result.status × (result ≡ date_error result.status) }
-    ensures invalid_date { IsSet rule.now → ¬ IsJulianDay date → result ≡ date_error invalid_date }
+    ensures invalid_date { IsSet rule.now → ¬ IsJulianDay date → result ≡ date_error INVALID_DATE }
     ensures value { IsSet rule.now → IsJulianDay date
         → result ≡ date_or_out_of_range (slice_get (set_days_before (set_in rule.now) (day_of date)) 0) }
 {
@@ -85,7 +84,7 @@ pub extern "C" fn fots_rule_previous_before(rule: &RuleParts<'_>, date: i32) -> 
 pub extern "C" fn fots_rule_contains(rule: &RuleParts<'_>, date: i32) -> NumberResult
     ensures error { ¬ IsSet rule.now
         → IsSetStatus rule.now result.status × (result ≡ number_error result.status) }
-    ensures invalid_date { IsSet rule.now → ¬ IsJulianDay date → result ≡ number_error invalid_date }
+    ensures invalid_date { IsSet rule.now → ¬ IsJulianDay date → result ≡ number_error INVALID_DATE }
     ensures value { IsSet rule.now → IsJulianDay date
         → result ≡ number_ok (if is_in_set (set_in rule.now) (day_of date) then pos 1 else pos 0) }
 {
@@ -107,7 +106,7 @@ pub extern "C" fn fots_rule_days_after(
         → IsSetStatus rule.now result.status × (result ≡ days_error result.status)
         × (days.new ≡ days.old) }
     ensures invalid_date { IsSet rule.now → ¬ IsJulianDay date
-        → (result ≡ days_error invalid_date) × (days.new ≡ days.old) }
+        → (result ≡ days_error INVALID_DATE) × (days.new ≡ days.old) }
     ensures value { IsSet rule.now → IsJulianDay date
         → (result ≡ days_ok result.length)
         × AreDatesWritten (set_days_after (set_in rule.now) (day_of date)) days.old days.new result.length }

@@ -4,7 +4,6 @@ ghost use Rattle.cal_schedule.specs.Period.{months_of};
 ghost use Rattle.cal_schedule.specs.Until.{IsGreatest, IsLeast, IsPeriodUntil, IsMonthsUpTo, IsMonthsBackTo};
 ghost use Rattle.cal_c.specs.Results.{number_error};
 ghost use Rattle.cal_c.specs.Schedule.{period_error, IsNumberWith, IsPeriodWith};
-ghost use Rattle.cal_c.specs.Statuses.{invalid_date};
 ghost use Rattle.cal_c.specs.Values.{IsJulianDay, day_of};
 
 use crate::results::NumberResult;
@@ -17,7 +16,7 @@ use cal_schedule::{months_until, period_until, years_until};
 /// without passing `other`. From 2451575, 2000-01-31, to 2451604, 2000-02-29, it is 1.
 #[unsafe(no_mangle)]
 pub extern "C" fn fots_date_months_until(date: i32, other: i32) -> NumberResult
-    ensures invalid_date { ¬ (IsJulianDay date × IsJulianDay other) → result ≡ number_error invalid_date }
+    ensures invalid_date { ¬ (IsJulianDay date × IsJulianDay other) → result ≡ number_error INVALID_DATE }
     ensures value_forward { IsJulianDay date → IsJulianDay other → date ≤ℤ other
         → IsNumberWith (IsGreatest (IsMonthsUpTo (day_of date) (day_of other))) result }
     ensures value_backward { IsJulianDay date → IsJulianDay other → other <ℤ date
@@ -32,7 +31,7 @@ pub extern "C" fn fots_date_months_until(date: i32, other: i32) -> NumberResult
 /// 2451604, 2000-02-29, to 2451969, 2001-02-28, it is 1.
 #[unsafe(no_mangle)]
 pub extern "C" fn fots_date_years_until(date: i32, other: i32) -> NumberResult
-    ensures invalid_date { ¬ (IsJulianDay date × IsJulianDay other) → result ≡ number_error invalid_date }
+    ensures invalid_date { ¬ (IsJulianDay date × IsJulianDay other) → result ≡ number_error INVALID_DATE }
     ensures value_forward { IsJulianDay date → IsJulianDay other → date ≤ℤ other
         → IsNumberWith (IsGreatest (λ years.
         IsMonthsUpTo (day_of date) (day_of other) (pos 12 *ℤ years))) result }
@@ -50,7 +49,7 @@ pub extern "C" fn fots_date_years_until(date: i32, other: i32) -> NumberResult
 /// 2000-01-31, to 2451971, 2001-03-02, it is 1, 1 and 2.
 #[unsafe(no_mangle)]
 pub extern "C" fn fots_date_period_until(date: i32, other: i32) -> PeriodResult
-    ensures invalid_date { ¬ (IsJulianDay date × IsJulianDay other) → result ≡ period_error invalid_date }
+    ensures invalid_date { ¬ (IsJulianDay date × IsJulianDay other) → result ≡ period_error INVALID_DATE }
     ensures value { IsJulianDay date → IsJulianDay other
         → IsPeriodWith (IsPeriodUntil (day_of date) (day_of other)) result }
     ensures value_forward { IsJulianDay date → IsJulianDay other → date ≤ℤ other

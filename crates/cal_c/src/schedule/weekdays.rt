@@ -3,8 +3,8 @@ ghost use Rattle.std.specs.Prelude.{◌≡◌, ◌-◌, ◌<◌, ◌≤◌, ℕ,
 ghost use Rattle.cal_time.specs.Date.{julian_day_at, IsDate, IsYear, NoDate};
 ghost use Rattle.cal_schedule.specs.Weekdays.{IsNthWeekday, IsLastWeekday, occurrences_from, occurrences_upto};
 ghost use Rattle.cal_c.specs.Results.{date_ok, date_error, date_or_out_of_range};
-ghost use Rattle.cal_c.specs.Statuses.{invalid_count, invalid_date, invalid_weekday, month_status, weekday_status, year_status};
 ghost use Rattle.cal_c.specs.Values.{need◌else◌then◌, IsJulianDay, IsMonth, IsWeekday, day_of};
+ghost use Rattle.cal_c.specs.declared.status.TheConstants.{YEAR_OUT_OF_RANGE, WEEKDAY_OUT_OF_RANGE};
 
 use crate::results::DateResult;
 use crate::status::{INVALID_COUNT, INVALID_DATE, INVALID_WEEKDAY, MONTH_OUT_OF_RANGE};
@@ -20,15 +20,15 @@ pub extern "C" fn fots_date_nth_weekday_of_month(
     weekday: u32,
     n: u32,
 ) -> DateResult
-    ensures month { ¬ IsMonth month → result ≡ date_error month_status }
-    ensures invalid_weekday { IsMonth month → ¬ IsWeekday weekday → result ≡ date_error invalid_weekday }
+    ensures month { ¬ IsMonth month → result ≡ date_error MONTH_OUT_OF_RANGE }
+    ensures invalid_weekday { IsMonth month → ¬ IsWeekday weekday → result ≡ date_error INVALID_WEEKDAY }
     ensures invalid_count { IsMonth month → IsWeekday weekday → 255 < n
-        → result ≡ date_error invalid_count }
+        → result ≡ date_error INVALID_COUNT }
     ensures year { IsMonth month → IsWeekday weekday → n ≤ 255 → ¬ IsYear year
-        → result ≡ date_error year_status }
+        → result ≡ date_error YEAR_OUT_OF_RANGE }
     ensures weekday { IsMonth month → IsWeekday weekday → n ≤ 255 → IsYear year
         → NoDate (IsNthWeekday year month (weekday - 1) n)
-        → result ≡ date_error weekday_status }
+        → result ≡ date_error WEEKDAY_OUT_OF_RANGE }
     ensures value { IsMonth month → IsWeekday weekday → n ≤ 255 → (k : ℕ) → IsDate k
         → IsNthWeekday year month (weekday - 1) n k
         → result ≡ date_ok (julian_day_at k) }
@@ -48,10 +48,10 @@ pub extern "C" fn fots_date_nth_weekday_of_month(
 /// The last Friday of 2000, 2 is 2451600, 2000-02-25.
 #[unsafe(no_mangle)]
 pub extern "C" fn fots_date_last_weekday_of_month(year: i32, month: u32, weekday: u32) -> DateResult
-    ensures month { ¬ IsMonth month → result ≡ date_error month_status }
-    ensures invalid_weekday { IsMonth month → ¬ IsWeekday weekday → result ≡ date_error invalid_weekday }
+    ensures month { ¬ IsMonth month → result ≡ date_error MONTH_OUT_OF_RANGE }
+    ensures invalid_weekday { IsMonth month → ¬ IsWeekday weekday → result ≡ date_error INVALID_WEEKDAY }
     ensures year { IsMonth month → IsWeekday weekday → ¬ IsYear year
-        → result ≡ date_error year_status }
+        → result ≡ date_error YEAR_OUT_OF_RANGE }
     ensures value { IsMonth month → IsWeekday weekday → (k : ℕ) → IsDate k
         → IsLastWeekday year month (weekday - 1) k
         → result ≡ date_ok (julian_day_at k) }
@@ -65,8 +65,8 @@ pub extern "C" fn fots_date_last_weekday_of_month(year: i32, month: u32, weekday
 /// on or after 2451604, 2000-02-29, is 2451607.
 #[unsafe(no_mangle)]
 pub extern "C" fn fots_date_on_or_after(date: i32, weekday: u32) -> DateResult
-    ensures { need IsJulianDay date else result ≡ date_error invalid_date then
-        need IsWeekday weekday else result ≡ date_error invalid_weekday then
+    ensures { need IsJulianDay date else result ≡ date_error INVALID_DATE then
+        need IsWeekday weekday else result ≡ date_error INVALID_WEEKDAY then
         result ≡ date_or_out_of_range (slice_get (occurrences_from (weekday - 1) (day_of date)) 0) }
 {
     let date = or_error!(DateResult, valid_date(date), INVALID_DATE);
@@ -78,8 +78,8 @@ pub extern "C" fn fots_date_on_or_after(date: i32, weekday: u32) -> DateResult
 /// on or before 2451604, 2000-02-29, is 2451600.
 #[unsafe(no_mangle)]
 pub extern "C" fn fots_date_on_or_before(date: i32, weekday: u32) -> DateResult
-    ensures { need IsJulianDay date else result ≡ date_error invalid_date then
-        need IsWeekday weekday else result ≡ date_error invalid_weekday then
+    ensures { need IsJulianDay date else result ≡ date_error INVALID_DATE then
+        need IsWeekday weekday else result ≡ date_error INVALID_WEEKDAY then
         result ≡ date_or_out_of_range (slice_get (occurrences_upto (weekday - 1) (day_of date)) 0) }
 {
     let date = or_error!(DateResult, valid_date(date), INVALID_DATE);

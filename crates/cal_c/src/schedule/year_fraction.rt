@@ -3,7 +3,6 @@ ghost use Rattle.std.specs.Prelude.{◌≡◌, MatchOption};
 ghost use Rattle.cal_schedule.specs.declared.year_fraction.DayCount.{DayCount};
 ghost use Rattle.cal_schedule.specs.YearFraction.{day_count_numerator, day_count_denominator};
 ghost use Rattle.cal_c.specs.Schedule.{day_count_number, year_fraction_ok, year_fraction_error, IsDayCount};
-ghost use Rattle.cal_c.specs.Statuses.{invalid_convention, invalid_date};
 ghost use Rattle.cal_c.specs.Values.{IsJulianDay, day_of};
 
 use crate::schedule::results::YearFractionResult;
@@ -32,9 +31,9 @@ fn valid_day_count(number: u32) -> Option<DayCount>
 #[unsafe(no_mangle)]
 pub extern "C" fn fots_date_day_count(date: i32, other: i32, convention: u32) -> YearFractionResult
     ensures invalid_date { ¬ (IsJulianDay date × IsJulianDay other)
-        → result ≡ year_fraction_error invalid_date }
+        → result ≡ year_fraction_error INVALID_DATE }
     ensures invalid_convention { IsJulianDay date → IsJulianDay other → ¬ IsDayCount convention
-        → result ≡ year_fraction_error invalid_convention }
+        → result ≡ year_fraction_error INVALID_CONVENTION }
     ensures value { IsJulianDay date → IsJulianDay other → (c : DayCount)
         → day_count_number c ≡ convention
         → result ≡ year_fraction_ok (day_count_numerator c (day_of date) (day_of other))

@@ -8,7 +8,6 @@ ghost use Rattle.cal_text.specs.DateForms.{ordinal_text, week_text};
 ghost use Rattle.cal_text.specs.JulianForm.{julian_text};
 ghost use Rattle.cal_text.specs.Rfc3339.{HasMomentText, moment_text};
 ghost use Rattle.cal_text.specs.UnixText.{unix_text};
-ghost use Rattle.cal_c.specs.Statuses.{invalid_date, invalid_time, invalid_offset, invalid_weekday, month_status, result_out_of_range};
 ghost use Rattle.cal_c.specs.Texts.{month_name, text_ok, text_error, weekday_name};
 ghost use Rattle.cal_c.specs.Values.{IsJulianDay, IsMonth, IsWeekday, day_of, moment_of};
 
@@ -26,7 +25,7 @@ use cal_text::{rfc3339, unix};
 /// Returns the calendar date in text, such as `2024-02-29`.
 #[unsafe(no_mangle)]
 pub extern "C" fn fots_date_calendar_text(date: i32) -> TextResult
-    ensures invalid_date { ¬ IsJulianDay date → result ≡ text_error invalid_date }
+    ensures invalid_date { ¬ IsJulianDay date → result ≡ text_error INVALID_DATE }
     ensures value { IsJulianDay date → result ≡ text_ok (text (day_of date)) }
 {
     let date = or_error!(TextResult, valid_date(date), INVALID_DATE);
@@ -36,7 +35,7 @@ pub extern "C" fn fots_date_calendar_text(date: i32) -> TextResult
 /// Returns the ordinal date in text, such as `2024-060`.
 #[unsafe(no_mangle)]
 pub extern "C" fn fots_date_ordinal_text(date: i32) -> TextResult
-    ensures invalid_date { ¬ IsJulianDay date → result ≡ text_error invalid_date }
+    ensures invalid_date { ¬ IsJulianDay date → result ≡ text_error INVALID_DATE }
     ensures value { IsJulianDay date → result ≡ text_ok (ordinal_text (day_of date)) }
 {
     let date = or_error!(TextResult, valid_date(date), INVALID_DATE);
@@ -46,7 +45,7 @@ pub extern "C" fn fots_date_ordinal_text(date: i32) -> TextResult
 /// Returns the week date in text, such as `2024-W09-4`.
 #[unsafe(no_mangle)]
 pub extern "C" fn fots_date_week_text(date: i32) -> TextResult
-    ensures invalid_date { ¬ IsJulianDay date → result ≡ text_error invalid_date }
+    ensures invalid_date { ¬ IsJulianDay date → result ≡ text_error INVALID_DATE }
     ensures value { IsJulianDay date → result ≡ text_ok (week_text (day_of date)) }
 {
     let date = or_error!(TextResult, valid_date(date), INVALID_DATE);
@@ -56,7 +55,7 @@ pub extern "C" fn fots_date_week_text(date: i32) -> TextResult
 /// Returns the letter J and the Julian day in text, such as `J2460370`.
 #[unsafe(no_mangle)]
 pub extern "C" fn fots_date_julian_text(date: i32) -> TextResult
-    ensures invalid_date { ¬ IsJulianDay date → result ≡ text_error invalid_date }
+    ensures invalid_date { ¬ IsJulianDay date → result ≡ text_error INVALID_DATE }
     ensures value { IsJulianDay date → result ≡ text_ok (julian_text (day_of date)) }
 {
     let date = or_error!(TextResult, valid_date(date), INVALID_DATE);
@@ -67,13 +66,13 @@ pub extern "C" fn fots_date_julian_text(date: i32) -> TextResult
 /// for a year outside 0 to 9999, and for an offset of 24 hours or more or with seconds.
 #[unsafe(no_mangle)]
 pub extern "C" fn fots_moment_text(date: i32, time: u64, offset: i32) -> TextResult
-    ensures invalid_date { ¬ IsJulianDay date → result ≡ text_error invalid_date }
-    ensures invalid_time { IsJulianDay date → ¬ IsTime time → result ≡ text_error invalid_time }
+    ensures invalid_date { ¬ IsJulianDay date → result ≡ text_error INVALID_DATE }
+    ensures invalid_time { IsJulianDay date → ¬ IsTime time → result ≡ text_error INVALID_TIME }
     ensures invalid_offset { IsJulianDay date → IsTime time → ¬ IsOffset offset
-        → result ≡ text_error invalid_offset }
+        → result ≡ text_error INVALID_OFFSET }
     ensures result_out_of_range { IsJulianDay date → IsTime time → IsOffset offset
         → ¬ HasMomentText (moment_of date time offset)
-        → result ≡ text_error result_out_of_range }
+        → result ≡ text_error RESULT_OUT_OF_RANGE }
     ensures value { IsJulianDay date → IsTime time → IsOffset offset
         → HasMomentText (moment_of date time offset)
         → result ≡ text_ok (moment_text (moment_of date time offset)) }
@@ -86,7 +85,7 @@ pub extern "C" fn fots_moment_text(date: i32, time: u64, offset: i32) -> TextRes
 
 /// Returns a moment in RFC 3339, or fails if it has no text.
 fn moment_text_result(moment: OffsetDateTime) -> TextResult
-    ensures result_out_of_range { ¬ HasMomentText moment → result ≡ text_error result_out_of_range }
+    ensures result_out_of_range { ¬ HasMomentText moment → result ≡ text_error RESULT_OUT_OF_RANGE }
     ensures value { HasMomentText moment → result ≡ text_ok (moment_text moment) }
 {
     let text = or_error!(TextResult, rfc3339::Text::new(moment), RESULT_OUT_OF_RANGE);
@@ -96,10 +95,10 @@ fn moment_text_result(moment: OffsetDateTime) -> TextResult
 /// Returns the Unix time of a date and a time at an offset, such as `@1709164800.5`.
 #[unsafe(no_mangle)]
 pub extern "C" fn fots_unix_text(date: i32, time: u64, offset: i32) -> TextResult
-    ensures invalid_date { ¬ IsJulianDay date → result ≡ text_error invalid_date }
-    ensures invalid_time { IsJulianDay date → ¬ IsTime time → result ≡ text_error invalid_time }
+    ensures invalid_date { ¬ IsJulianDay date → result ≡ text_error INVALID_DATE }
+    ensures invalid_time { IsJulianDay date → ¬ IsTime time → result ≡ text_error INVALID_TIME }
     ensures invalid_offset { IsJulianDay date → IsTime time → ¬ IsOffset offset
-        → result ≡ text_error invalid_offset }
+        → result ≡ text_error INVALID_OFFSET }
     ensures value { IsJulianDay date → IsTime time → IsOffset offset
         → result ≡ text_ok (unix_text (unix_nanoseconds (instant (moment_of date time offset)))) }
 {
@@ -120,7 +119,7 @@ fn unix_text_result(moment: OffsetDateTime) -> TextResult
 #[tactic(auto, using(crate::proofs::TextBytes::names))]
 #[unsafe(no_mangle)]
 pub extern "C" fn fots_month_name(month: u32) -> TextResult
-    ensures month { ¬ IsMonth month → result ≡ text_error month_status }
+    ensures month { ¬ IsMonth month → result ≡ text_error MONTH_OUT_OF_RANGE }
     ensures value { IsMonth month → result ≡ text_ok (month_name month) }
 {
     let month = or_error!(TextResult, valid_month(month), MONTH_OUT_OF_RANGE);
@@ -131,7 +130,7 @@ pub extern "C" fn fots_month_name(month: u32) -> TextResult
 #[tactic(auto, using(crate::proofs::TextBytes::names))]
 #[unsafe(no_mangle)]
 pub extern "C" fn fots_weekday_name(weekday: u32) -> TextResult
-    ensures invalid_weekday { ¬ IsWeekday weekday → result ≡ text_error invalid_weekday }
+    ensures invalid_weekday { ¬ IsWeekday weekday → result ≡ text_error INVALID_WEEKDAY }
     ensures value { IsWeekday weekday → result ≡ text_ok (weekday_name weekday) }
 {
     let weekday = or_error!(TextResult, valid_weekday(weekday), INVALID_WEEKDAY);

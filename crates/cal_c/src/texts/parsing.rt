@@ -16,7 +16,7 @@ ghost use Rattle.cal_text.specs.Parsing.{HasError};
 ghost use Rattle.cal_text.specs.Rfc3339Form.{IsMomentText};
 ghost use Rattle.cal_text.specs.UnixText.{HasUnixForm, IsUnixText, IsUnixTimeError};
 ghost use Rattle.cal_c.specs.Results.{duration_ok, duration_error, pair_at_local, pair_error};
-ghost use Rattle.cal_c.specs.Statuses.{invalid_date, invalid_time, invalid_offset, invalid_duration, result_out_of_range, component_status};
+ghost use Rattle.cal_c.specs.Statuses.{component_status};
 ghost use Rattle.cal_c.specs.Texts.{parsed_date_ok, parsed_date_error, parsed_date_error_at, parsed_moment_ok, parsed_moment_error, parsed_moment_error_at, HasDateSyntax, HasMomentSyntax, HasDateError, HasMomentError, IsSyntaxError};
 ghost use Rattle.cal_c.specs.Values.{need◌else◌then◌, IsDurationPair, IsJulianDay, moment_of, nanoseconds_in};
 
@@ -86,10 +86,10 @@ pub extern "C" fn fots_unix_parse(text: &[u8]) -> ParseMomentResult
 /// is 1709164800 seconds and 500000000 nanoseconds.
 #[unsafe(no_mangle)]
 pub extern "C" fn fots_unix_time(date: i32, time: u64, offset: i32) -> DurationResult
-    ensures invalid_date { ¬ IsJulianDay date → result ≡ duration_error invalid_date }
-    ensures invalid_time { IsJulianDay date → ¬ IsTime time → result ≡ duration_error invalid_time }
+    ensures invalid_date { ¬ IsJulianDay date → result ≡ duration_error INVALID_DATE }
+    ensures invalid_time { IsJulianDay date → ¬ IsTime time → result ≡ duration_error INVALID_TIME }
     ensures invalid_offset { IsJulianDay date → IsTime time → ¬ IsOffset offset
-        → result ≡ duration_error invalid_offset }
+        → result ≡ duration_error INVALID_OFFSET }
     ensures value { IsJulianDay date → IsTime time → IsOffset offset
         → result ≡ duration_ok (unix_nanoseconds (instant (moment_of date time offset))) }
 {
@@ -105,9 +105,9 @@ pub extern "C" fn fots_unix_time(date: i32, time: u64, offset: i32) -> DurationR
 #[unsafe(no_mangle)]
 pub extern "C" fn fots_unix_pair(duration: Duration, offset: i32) -> PairResult
     ensures { let local = local_at unix_epoch offset +ℤ nanoseconds_in duration in
-        need IsDurationPair duration else result ≡ pair_error invalid_duration then
-        need IsOffset offset else result ≡ pair_error invalid_offset then
-        need IsDateTime local else result ≡ pair_error result_out_of_range then
+        need IsDurationPair duration else result ≡ pair_error INVALID_DURATION then
+        need IsOffset offset else result ≡ pair_error INVALID_OFFSET then
+        need IsDateTime local else result ≡ pair_error RESULT_OUT_OF_RANGE then
         result ≡ pair_at_local local }
 {
     let duration = or_error!(PairResult, valid_duration(duration), INVALID_DURATION);

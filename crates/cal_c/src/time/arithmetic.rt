@@ -2,7 +2,6 @@
 ghost use Rattle.std.specs.Prelude.{◌≡◌, pos, ◌+ℤ◌, ◌-ℤ◌};
 ghost use Rattle.cal_time.specs.Time.{IsTime, modulo_day};
 ghost use Rattle.cal_c.specs.Results.{time_ok, time_error, duration_ok, duration_error, adjusted_time_error, IsAddAdjusted, IsSubAdjusted};
-ghost use Rattle.cal_c.specs.Statuses.{invalid_time, invalid_duration};
 ghost use Rattle.cal_c.specs.Values.{need◌else◌then◌, IsDurationPair, nanoseconds_in};
 
 use crate::results::{AdjustedTimeResult, Duration, DurationResult, TimeResult};
@@ -12,8 +11,8 @@ use crate::values::{valid_duration, valid_time};
 /// Adds a duration, modulo a day. 23:00 plus 2 hours is 1:00.
 #[unsafe(no_mangle)]
 pub extern "C" fn fots_time_add(time: u64, duration: Duration) -> TimeResult
-    ensures { need IsTime time else result ≡ time_error invalid_time then
-        need IsDurationPair duration else result ≡ time_error invalid_duration then
+    ensures { need IsTime time else result ≡ time_error INVALID_TIME then
+        need IsDurationPair duration else result ≡ time_error INVALID_DURATION then
         result ≡ time_ok (modulo_day (pos time +ℤ nanoseconds_in duration)) }
 {
     let time = or_error!(TimeResult, valid_time(time), INVALID_TIME);
@@ -25,8 +24,8 @@ pub extern "C" fn fots_time_add(time: u64, duration: Duration) -> TimeResult
 /// duration. 23:00 plus 26 hours is 1:00 two days later, with the carry 1.
 #[unsafe(no_mangle)]
 pub extern "C" fn fots_time_adjusting_add(time: u64, duration: Duration) -> AdjustedTimeResult
-    ensures { need IsTime time else result ≡ adjusted_time_error invalid_time then
-        need IsDurationPair duration else result ≡ adjusted_time_error invalid_duration then
+    ensures { need IsTime time else result ≡ adjusted_time_error INVALID_TIME then
+        need IsDurationPair duration else result ≡ adjusted_time_error INVALID_DURATION then
         IsAddAdjusted time (nanoseconds_in duration) result }
 {
     let time = or_error!(AdjustedTimeResult, valid_time(time), INVALID_TIME);
@@ -41,8 +40,8 @@ pub extern "C" fn fots_time_adjusting_add(time: u64, duration: Duration) -> Adju
 /// Subtracts a duration, modulo a day. 1:00 minus 2 hours is 23:00.
 #[unsafe(no_mangle)]
 pub extern "C" fn fots_time_sub(time: u64, duration: Duration) -> TimeResult
-    ensures { need IsTime time else result ≡ time_error invalid_time then
-        need IsDurationPair duration else result ≡ time_error invalid_duration then
+    ensures { need IsTime time else result ≡ time_error INVALID_TIME then
+        need IsDurationPair duration else result ≡ time_error INVALID_DURATION then
         result ≡ time_ok (modulo_day (pos time -ℤ nanoseconds_in duration)) }
 {
     let time = or_error!(TimeResult, valid_time(time), INVALID_TIME);
@@ -54,8 +53,8 @@ pub extern "C" fn fots_time_sub(time: u64, duration: Duration) -> TimeResult
 /// the duration. 1:00 minus 26 hours is 23:00 two days earlier, with the carry -1.
 #[unsafe(no_mangle)]
 pub extern "C" fn fots_time_adjusting_sub(time: u64, duration: Duration) -> AdjustedTimeResult
-    ensures { need IsTime time else result ≡ adjusted_time_error invalid_time then
-        need IsDurationPair duration else result ≡ adjusted_time_error invalid_duration then
+    ensures { need IsTime time else result ≡ adjusted_time_error INVALID_TIME then
+        need IsDurationPair duration else result ≡ adjusted_time_error INVALID_DURATION then
         IsSubAdjusted time (nanoseconds_in duration) result }
 {
     let time = or_error!(AdjustedTimeResult, valid_time(time), INVALID_TIME);
@@ -71,7 +70,7 @@ pub extern "C" fn fots_time_adjusting_sub(time: u64, duration: Duration) -> Adju
 /// is 2 hours.
 #[unsafe(no_mangle)]
 pub extern "C" fn fots_time_duration_until(time: u64, other: u64) -> DurationResult
-    ensures invalid_time { ¬ (IsTime time × IsTime other) → result ≡ duration_error invalid_time }
+    ensures invalid_time { ¬ (IsTime time × IsTime other) → result ≡ duration_error INVALID_TIME }
     ensures value { IsTime time → IsTime other
         → result ≡ duration_ok (pos (modulo_day (pos other -ℤ pos time))) }
 {
@@ -84,7 +83,7 @@ pub extern "C" fn fots_time_duration_until(time: u64, other: u64) -> DurationRes
 /// it is 2 hours.
 #[unsafe(no_mangle)]
 pub extern "C" fn fots_time_duration_since(time: u64, other: u64) -> DurationResult
-    ensures invalid_time { ¬ (IsTime time × IsTime other) → result ≡ duration_error invalid_time }
+    ensures invalid_time { ¬ (IsTime time × IsTime other) → result ≡ duration_error INVALID_TIME }
     ensures value { IsTime time → IsTime other
         → result ≡ duration_ok (pos (modulo_day (pos time -ℤ pos other))) }
 {
@@ -97,7 +96,7 @@ pub extern "C" fn fots_time_duration_since(time: u64, other: u64) -> DurationRes
 /// 23:00 to 0:00 it is -23 hours.
 #[unsafe(no_mangle)]
 pub extern "C" fn fots_time_difference(time: u64, other: u64) -> DurationResult
-    ensures invalid_time { ¬ (IsTime time × IsTime other) → result ≡ duration_error invalid_time }
+    ensures invalid_time { ¬ (IsTime time × IsTime other) → result ≡ duration_error INVALID_TIME }
     ensures value { IsTime time → IsTime other → result ≡ duration_ok (pos time -ℤ pos other) }
 {
     let time = or_error!(DurationResult, valid_time(time), INVALID_TIME);

@@ -2,7 +2,7 @@
 ghost use Rattle.std.specs.Prelude.{◌≡◌, ◌*◌, ◌<◌, ◌≤◌};
 ghost use Rattle.cal_time.specs.Time.{time_of};
 ghost use Rattle.cal_c.specs.Results.{time_ok, time_error};
-ghost use Rattle.cal_c.specs.Statuses.{hour_status, minute_status, second_status, millisecond_status, microsecond_status, nanosecond_status};
+ghost use Rattle.cal_c.specs.declared.status.TheConstants.{HOUR_OUT_OF_RANGE, MINUTE_OUT_OF_RANGE, SECOND_OUT_OF_RANGE, MILLISECOND_OUT_OF_RANGE, MICROSECOND_OUT_OF_RANGE, NANOSECOND_OUT_OF_RANGE};
 
 use crate::results::TimeResult;
 use crate::values::{saturating_u8, saturating_u16};
@@ -12,9 +12,9 @@ use cal_time::Time;
 /// `hour`, `minute` or `second`. 1, 2 and 3 give 3723000000000.
 #[unsafe(no_mangle)]
 pub extern "C" fn fots_time_from_hms(hour: u32, minute: u32, second: u32) -> TimeResult
-    ensures hour { 23 < hour → result ≡ time_error hour_status }
-    ensures minute { hour ≤ 23 → 59 < minute → result ≡ time_error minute_status }
-    ensures second { hour ≤ 23 → minute ≤ 59 → 59 < second → result ≡ time_error second_status }
+    ensures hour { 23 < hour → result ≡ time_error HOUR_OUT_OF_RANGE }
+    ensures minute { hour ≤ 23 → 59 < minute → result ≡ time_error MINUTE_OUT_OF_RANGE }
+    ensures second { hour ≤ 23 → minute ≤ 59 → 59 < second → result ≡ time_error SECOND_OUT_OF_RANGE }
     ensures value { hour ≤ 23 → minute ≤ 59 → second ≤ 59
         → result ≡ time_ok (time_of hour minute second 0) }
 {
@@ -37,11 +37,11 @@ pub extern "C" fn fots_time_from_hms_milli(
     second: u32,
     millisecond: u32,
 ) -> TimeResult
-    ensures hour { 23 < hour → result ≡ time_error hour_status }
-    ensures minute { hour ≤ 23 → 59 < minute → result ≡ time_error minute_status }
-    ensures second { hour ≤ 23 → minute ≤ 59 → 59 < second → result ≡ time_error second_status }
+    ensures hour { 23 < hour → result ≡ time_error HOUR_OUT_OF_RANGE }
+    ensures minute { hour ≤ 23 → 59 < minute → result ≡ time_error MINUTE_OUT_OF_RANGE }
+    ensures second { hour ≤ 23 → minute ≤ 59 → 59 < second → result ≡ time_error SECOND_OUT_OF_RANGE }
     ensures millisecond { hour ≤ 23 → minute ≤ 59 → second ≤ 59 → 999 < millisecond
-        → result ≡ time_error millisecond_status }
+        → result ≡ time_error MILLISECOND_OUT_OF_RANGE }
     ensures value { hour ≤ 23 → minute ≤ 59 → second ≤ 59 → millisecond ≤ 999
         → result ≡ time_ok (time_of hour minute second (millisecond * 1_000_000)) }
 {
@@ -65,11 +65,11 @@ pub extern "C" fn fots_time_from_hms_micro(
     second: u32,
     microsecond: u32,
 ) -> TimeResult
-    ensures hour { 23 < hour → result ≡ time_error hour_status }
-    ensures minute { hour ≤ 23 → 59 < minute → result ≡ time_error minute_status }
-    ensures second { hour ≤ 23 → minute ≤ 59 → 59 < second → result ≡ time_error second_status }
+    ensures hour { 23 < hour → result ≡ time_error HOUR_OUT_OF_RANGE }
+    ensures minute { hour ≤ 23 → 59 < minute → result ≡ time_error MINUTE_OUT_OF_RANGE }
+    ensures second { hour ≤ 23 → minute ≤ 59 → 59 < second → result ≡ time_error SECOND_OUT_OF_RANGE }
     ensures microsecond { hour ≤ 23 → minute ≤ 59 → second ≤ 59 → 999_999 < microsecond
-        → result ≡ time_error microsecond_status }
+        → result ≡ time_error MICROSECOND_OUT_OF_RANGE }
     ensures value { hour ≤ 23 → minute ≤ 59 → second ≤ 59 → microsecond ≤ 999_999
         → result ≡ time_ok (time_of hour minute second (microsecond * 1_000)) }
 {
@@ -93,11 +93,11 @@ pub extern "C" fn fots_time_from_hms_nano(
     second: u32,
     nanosecond: u32,
 ) -> TimeResult
-    ensures hour { 23 < hour → result ≡ time_error hour_status }
-    ensures minute { hour ≤ 23 → 59 < minute → result ≡ time_error minute_status }
-    ensures second { hour ≤ 23 → minute ≤ 59 → 59 < second → result ≡ time_error second_status }
+    ensures hour { 23 < hour → result ≡ time_error HOUR_OUT_OF_RANGE }
+    ensures minute { hour ≤ 23 → 59 < minute → result ≡ time_error MINUTE_OUT_OF_RANGE }
+    ensures second { hour ≤ 23 → minute ≤ 59 → 59 < second → result ≡ time_error SECOND_OUT_OF_RANGE }
     ensures nanosecond { hour ≤ 23 → minute ≤ 59 → second ≤ 59 → 999_999_999 < nanosecond
-        → result ≡ time_error nanosecond_status }
+        → result ≡ time_error NANOSECOND_OUT_OF_RANGE }
     ensures value { hour ≤ 23 → minute ≤ 59 → second ≤ 59 → nanosecond ≤ 999_999_999
         → result ≡ time_ok (time_of hour minute second nanosecond) }
 {

@@ -2,7 +2,6 @@
 ghost use Rattle.std.specs.Prelude.{◌≡◌, ◌*◌};
 ghost use Rattle.cal_time.specs.Time.{IsTime, time_of, hour_of, minute_of, second_of, millisecond_of, microsecond_of};
 ghost use Rattle.cal_c.specs.Results.{time_ok, time_error};
-ghost use Rattle.cal_c.specs.Statuses.{invalid_time};
 
 use crate::results::TimeResult;
 use crate::status::INVALID_TIME;
@@ -11,7 +10,7 @@ use crate::values::valid_time;
 /// Truncates to the hour. 3723004005006 becomes 3600000000000.
 #[unsafe(no_mangle)]
 pub extern "C" fn fots_time_truncate_to_hour(time: u64) -> TimeResult
-    ensures invalid_time { ¬ IsTime time → result ≡ time_error invalid_time }
+    ensures invalid_time { ¬ IsTime time → result ≡ time_error INVALID_TIME }
     ensures value { IsTime time → result ≡ time_ok (time_of (hour_of time) 0 0 0) }
 {
     let time = or_error!(TimeResult, valid_time(time), INVALID_TIME);
@@ -21,7 +20,7 @@ pub extern "C" fn fots_time_truncate_to_hour(time: u64) -> TimeResult
 /// Truncates to the minute. 3723004005006 becomes 3720000000000.
 #[unsafe(no_mangle)]
 pub extern "C" fn fots_time_truncate_to_minute(time: u64) -> TimeResult
-    ensures invalid_time { ¬ IsTime time → result ≡ time_error invalid_time }
+    ensures invalid_time { ¬ IsTime time → result ≡ time_error INVALID_TIME }
     ensures value { IsTime time → result ≡ time_ok (time_of (hour_of time) (minute_of time) 0 0) }
 {
     let time = or_error!(TimeResult, valid_time(time), INVALID_TIME);
@@ -31,7 +30,7 @@ pub extern "C" fn fots_time_truncate_to_minute(time: u64) -> TimeResult
 /// Truncates to the second. 3723004005006 becomes 3723000000000.
 #[unsafe(no_mangle)]
 pub extern "C" fn fots_time_truncate_to_second(time: u64) -> TimeResult
-    ensures invalid_time { ¬ IsTime time → result ≡ time_error invalid_time }
+    ensures invalid_time { ¬ IsTime time → result ≡ time_error INVALID_TIME }
     ensures value { IsTime time → result
         ≡ time_ok (time_of (hour_of time) (minute_of time) (second_of time) 0) }
 {
@@ -42,7 +41,7 @@ pub extern "C" fn fots_time_truncate_to_second(time: u64) -> TimeResult
 /// Truncates to the millisecond. 3723004005006 becomes 3723004000000.
 #[unsafe(no_mangle)]
 pub extern "C" fn fots_time_truncate_to_millisecond(time: u64) -> TimeResult
-    ensures invalid_time { ¬ IsTime time → result ≡ time_error invalid_time }
+    ensures invalid_time { ¬ IsTime time → result ≡ time_error INVALID_TIME }
     ensures value { IsTime time → result
         ≡ time_ok (time_of (hour_of time) (minute_of time) (second_of time)
         (millisecond_of time * 1_000_000)) }
@@ -54,7 +53,7 @@ pub extern "C" fn fots_time_truncate_to_millisecond(time: u64) -> TimeResult
 /// Truncates to the microsecond. 3723004005006 becomes 3723004005000.
 #[unsafe(no_mangle)]
 pub extern "C" fn fots_time_truncate_to_microsecond(time: u64) -> TimeResult
-    ensures invalid_time { ¬ IsTime time → result ≡ time_error invalid_time }
+    ensures invalid_time { ¬ IsTime time → result ≡ time_error INVALID_TIME }
     ensures value { IsTime time → result
         ≡ time_ok (time_of (hour_of time) (minute_of time) (second_of time)
         (microsecond_of time * 1_000)) }

@@ -1,7 +1,6 @@
 //! The changes of a zone's clocks.
 ghost use Rattle.std.specs.Prelude.{◌≡◌};
 ghost use Rattle.cal_c.specs.Results.{int64_error};
-ghost use Rattle.cal_c.specs.Statuses.{invalid_zone};
 ghost use Rattle.cal_c.specs.Zones.{IsForZone, IsNextResult, IsPreviousResult};
 
 use crate::results::Int64Result;
@@ -13,7 +12,7 @@ use crate::zones::checked_zone::CheckedZone;
 #[unsafe(no_mangle)]
 pub extern "C" fn fots_zone_next_change(zone: &CheckedZone<'_>, seconds: i64) -> Int64Result
     ensures { IsForZone zone.now (λ z. IsNextResult z seconds result)
-        (result ≡ int64_error invalid_zone) }
+        (result ≡ int64_error INVALID_ZONE) }
 {
     let zone = or_error!(Int64Result, zone.unchecked(), INVALID_ZONE);
     match zone.next_change(seconds) {
@@ -27,7 +26,7 @@ pub extern "C" fn fots_zone_next_change(zone: &CheckedZone<'_>, seconds: i64) ->
 #[unsafe(no_mangle)]
 pub extern "C" fn fots_zone_previous_change(zone: &CheckedZone<'_>, seconds: i64) -> Int64Result
     ensures { IsForZone zone.now (λ z. IsPreviousResult z seconds result)
-        (result ≡ int64_error invalid_zone) }
+        (result ≡ int64_error INVALID_ZONE) }
 {
     let zone = or_error!(Int64Result, zone.unchecked(), INVALID_ZONE);
     match zone.previous_change(seconds) {

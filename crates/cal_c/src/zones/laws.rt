@@ -4,7 +4,7 @@ ghost use Rattle.cal_c.specs.ZoneColumns.{IsInstantByPolicy};
 ghost use Rattle.cal_c.specs.Zones.{zone_in, IsChecked, IsMomentByPolicy, IsNextResult, IsPreviousResult, IsResolved};
 ghost use Rattle.cal_c.specs.declared.results.Int64Result.{Int64Result};
 ghost use Rattle.cal_c.specs.declared.results.MomentResult.{MomentResult};
-ghost use Rattle.cal_c.specs.declared.zones.policy.Policy.{Policy};
+ghost use Rattle.cal_zone.specs.declared.policy.Policy.{Policy};
 ghost use Rattle.cal_c.specs.declared.zones.results.LocalResult.{LocalResult};
 
 use crate::zones::checked_zone::CheckedZone;

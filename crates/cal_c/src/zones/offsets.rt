@@ -1,7 +1,6 @@
 //! How the clocks of a zone are set at an instant.
 ghost use Rattle.std.specs.Prelude.{◌≡◌};
 ghost use Rattle.cal_c.specs.Moments.{IsMoment, moment_error, local_and_offset_in};
-ghost use Rattle.cal_c.specs.Statuses.{invalid_moment, invalid_zone};
 ghost use Rattle.cal_c.specs.Values.{need◌else◌then◌};
 ghost use Rattle.cal_c.specs.Zones.{local_type_error, local_type_ok, zone_in, HasZone, IsForZone, IsMomentInZone};
 ghost use Rattle.cal_zone.specs.Timeline.{kind_at, offset_at, InOrder};
@@ -20,7 +19,7 @@ use cal_zone::UncheckedZone;
 #[unsafe(no_mangle)]
 pub extern "C" fn fots_zone_offset(zone: &CheckedZone<'_>, seconds: i64) -> OffsetResult
     ensures { IsForZone zone.now (λ z. result ≡ offset_ok (offset_at z seconds))
-        (result ≡ offset_error invalid_zone) }
+        (result ≡ offset_error INVALID_ZONE) }
 {
     let unchecked = or_error!(OffsetResult, zone.unchecked(), INVALID_ZONE);
     match unchecked.utc_offset_in_table(seconds) {
@@ -47,7 +46,7 @@ fn offset_by_rule(zone: &CheckedZone<'_>, seconds: i64) -> OffsetResult
 #[inline(never)]
 fn offset_in_zone(zone: &CheckedZone<'_>, seconds: i64) -> OffsetResult
     ensures { IsForZone zone.now (λ z. result ≡ offset_ok (offset_at z seconds))
-        (result ≡ offset_error invalid_zone) }
+        (result ≡ offset_error INVALID_ZONE) }
 {
     let zone = or_error!(OffsetResult, zone.unchecked(), INVALID_ZONE);
     let offset = or_error!(OffsetResult, zone.utc_offset_at(seconds), INVALID_ZONE);
@@ -59,7 +58,7 @@ fn offset_in_zone(zone: &CheckedZone<'_>, seconds: i64) -> OffsetResult
 #[unsafe(no_mangle)]
 pub extern "C" fn fots_zone_local_type(zone: &CheckedZone<'_>, seconds: i64) -> LocalTypeResult
     ensures { IsForZone zone.now (λ z. result ≡ local_type_ok zone.now.bytes.now (kind_at z seconds))
-        (result ≡ local_type_error invalid_zone) }
+        (result ≡ local_type_error INVALID_ZONE) }
 {
     let bytes = zone.bytes;
     let zone = or_error!(LocalTypeResult, zone.unchecked(), INVALID_ZONE);
@@ -70,9 +69,9 @@ pub extern "C" fn fots_zone_local_type(zone: &CheckedZone<'_>, seconds: i64) -> 
 /// of range. In Berlin 2024-03-31 1:00 at UTC is 3:00 +02:00.
 #[unsafe(no_mangle)]
 pub extern "C" fn fots_moment_in_zone(moment: Moment, zone: &CheckedZone<'_>) -> MomentResult
-    ensures { need IsMoment moment else result ≡ moment_error invalid_moment then
+    ensures { need IsMoment moment else result ≡ moment_error INVALID_MOMENT then
         IsForZone zone.now (λ z. IsMomentInZone z (local_and_offset_in moment) result)
-        (result ≡ moment_error invalid_zone) }
+        (result ≡ moment_error INVALID_ZONE) }
 {
     let moment = or_error!(MomentResult, valid_moment(moment), INVALID_MOMENT);
     let zone = or_error!(MomentResult, zone.unchecked(), INVALID_ZONE);

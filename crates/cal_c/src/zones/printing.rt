@@ -5,7 +5,6 @@ ghost use Rattle.cal_format.specs.declared.item.Item.{Item};
 ghost use Rattle.cal_c.specs.Formats.{HasItems, IsFormat};
 ghost use Rattle.cal_c.specs.FormatTexts.{IsUnprinted, length_error};
 ghost use Rattle.cal_c.specs.Moments.{IsMoment, local_and_offset_in};
-ghost use Rattle.cal_c.specs.Statuses.{invalid_format, invalid_moment, invalid_zone};
 ghost use Rattle.cal_c.specs.Zones.{IsForZone, IsPrintedAt, IsPrintedInZone};
 
 use crate::formats::format_parts::FormatParts;
@@ -29,12 +28,12 @@ pub extern "C" fn fots_moment_format_in_zone(
     bytes: &mut [u8],
 ) -> LengthResult
     ensures invalid_moment { ¬ IsMoment moment
-        → IsUnprinted bytes.old bytes.new result (length_error invalid_moment) }
+        → IsUnprinted bytes.old bytes.new result (length_error INVALID_MOMENT) }
     ensures invalid_format { IsMoment moment → ¬ IsFormat format.now
-        → IsUnprinted bytes.old bytes.new result (length_error invalid_format) }
+        → IsUnprinted bytes.old bytes.new result (length_error INVALID_FORMAT) }
     ensures value { IsMoment moment → (items : List Item) → HasItems format.now items → IsForZone zone.now
         (λ z. IsPrintedInZone zone.now.bytes.now z (local_and_offset_in moment) items bytes.old bytes.new result)
-        (IsUnprinted bytes.old bytes.new result (length_error invalid_zone)) }
+        (IsUnprinted bytes.old bytes.new result (length_error INVALID_ZONE)) }
 {
     let moment = or_error!(LengthResult, valid_moment(moment), INVALID_MOMENT);
     let format = or_error!(LengthResult, format.to_format(), INVALID_FORMAT);

@@ -7,20 +7,19 @@ ghost use Rattle.cal_datetime.specs.OffsetDateTime.{unix_seconds};
 ghost use Rattle.cal_zone.specs.Timeline as zones;
 ghost use Rattle.cal_zone.specs.Timeline.{InOrder};
 ghost use Rattle.cal_c.specs.Moments.{moment_error};
-ghost use Rattle.cal_c.specs.Statuses.{invalid_date, invalid_policy, invalid_time, invalid_zone};
 ghost use Rattle.cal_c.specs.Values.{need◌else◌then◌, IsJulianDay, day_of};
 ghost use Rattle.cal_c.specs.Zones.{local_error, policy_number, zone_in, HasZone, IsForZone, IsMomentByPolicy, IsPolicy, IsResolved};
-ghost use Rattle.cal_c.specs.declared.zones.policy.Policy.{Policy};
+ghost use Rattle.cal_zone.specs.declared.policy.Policy.{Policy};
 
 use crate::day_number::day_number;
 use crate::results::MomentResult;
 use crate::status::{INVALID_DATE, INVALID_POLICY, INVALID_TIME, INVALID_ZONE};
 use crate::values::{time_number, valid_date, valid_time};
 use crate::zones::checked_zone::CheckedZone;
-use crate::zones::policy::Policy;
+use crate::zones::policy::{local_time_status, valid_policy};
 use crate::zones::results::LocalResult;
 use cal_datetime::PlainDateTime;
-use cal_zone::UncheckedZone;
+use cal_zone::{Policy, UncheckedZone};
 
 /// The number of the day 1970-01-01.
 const EPOCH_DAY: i64 = 365_961_662;
@@ -30,10 +29,10 @@ const EPOCH_DAY: i64 = 365_961_662;
 /// 1729989000 and 1729992600.
 #[unsafe(no_mangle)]
 pub extern "C" fn fots_zone_resolve(zone: &CheckedZone<'_>, date: i32, time: u64) -> LocalResult
-    ensures { IsForZone zone.now (λ z. need IsJulianDay date else result ≡ local_error invalid_date then
-        need IsTime time else result ≡ local_error invalid_time then
+    ensures { IsForZone zone.now (λ z. need IsJulianDay date else result ≡ local_error INVALID_DATE then
+        need IsTime time else result ≡ local_error INVALID_TIME then
         IsResolved z (unix_seconds (date_time (day_of date) time)) result)
-        (result ≡ local_error invalid_zone) }
+        (result ≡ local_error INVALID_ZONE) }
 {
     let unchecked = or_error!(LocalResult, zone.unchecked(), INVALID_ZONE);
     let day = or_error!(LocalResult, day_number(date), INVALID_DATE);
@@ -65,7 +64,7 @@ fn resolve_by_rule(zone: &CheckedZone<'_>, reading: i64) -> LocalResult
 fn resolve_reading(zone: &CheckedZone<'_>, reading: i64) -> LocalResult
     requires { zones.IsMoment reading }
     ensures { IsForZone zone.now (λ z. IsResolved z reading result)
-        (result ≡ local_error invalid_zone) }
+        (result ≡ local_error INVALID_ZONE) }
 {
     let zone = or_error!(LocalResult, zone.unchecked(), INVALID_ZONE);
     LocalResult::ok(reading, zone.instants_of(reading))
@@ -91,12 +90,12 @@ pub extern "C" fn fots_zone_moment(
     time: u64,
     policy: u32,
 ) -> MomentResult
-    ensures { IsForZone zone.now (λ z. need IsJulianDay date else result ≡ moment_error invalid_date then
-        need IsTime time else result ≡ moment_error invalid_time then
-        need IsPolicy policy else result ≡ moment_error invalid_policy then
+    ensures { IsForZone zone.now (λ z. need IsJulianDay date else result ≡ moment_error INVALID_DATE then
+        need IsTime time else result ≡ moment_error INVALID_TIME then
+        need IsPolicy policy else result ≡ moment_error INVALID_POLICY then
         (p : Policy) × (policy_number p ≡ policy)
         × IsMomentByPolicy z (date_time (day_of date) time) p result)
-        (result ≡ moment_error invalid_zone) }
+        (result ≡ moment_error INVALID_ZONE) }
 {
     let zone = or_error!(MomentResult, zone.unchecked(), INVALID_ZONE);
     moment_by_number(&zone, date, time, policy)
@@ -104,15 +103,15 @@ pub extern "C" fn fots_zone_moment(
 
 /// Returns the moment of a date and a time of day by the number of a policy.
 fn moment_by_number(zone: &UncheckedZone<'_>, date: i32, time: u64, policy: u32) -> MomentResult
-    ensures { InOrder zone.now → need IsJulianDay date else result ≡ moment_error invalid_date then
-        need IsTime time else result ≡ moment_error invalid_time then
-        need IsPolicy policy else result ≡ moment_error invalid_policy then
+    ensures { InOrder zone.now → need IsJulianDay date else result ≡ moment_error INVALID_DATE then
+        need IsTime time else result ≡ moment_error INVALID_TIME then
+        need IsPolicy policy else result ≡ moment_error INVALID_POLICY then
         (p : Policy) × (policy_number p ≡ policy)
         × IsMomentByPolicy zone.now (date_time (day_of date) time) p result }
 {
     let date = or_error!(MomentResult, valid_date(date), INVALID_DATE);
     let time = or_error!(MomentResult, valid_time(time), INVALID_TIME);
-    let policy = or_error!(MomentResult, Policy::from_number(policy), INVALID_POLICY);
+    let policy = or_error!(MomentResult, valid_policy(policy), INVALID_POLICY);
     moment_by_policy(zone, PlainDateTime::new(date, time), policy)
 }
 
@@ -124,5 +123,9 @@ fn moment_by_policy(
 ) -> MomentResult
     ensures { InOrder zone.now → IsMomentByPolicy zone.now reading policy result }
 {
-    policy.moment(or_error!(MomentResult, zone.resolve(reading), INVALID_ZONE))
+    let local = or_error!(MomentResult, zone.resolve(reading), INVALID_ZONE);
+    match local.select(policy) {
+        Ok(moment) => MomentResult::ok(moment),
+        Err(error) => MomentResult::error(local_time_status(error)),
+    }
 }

@@ -5,20 +5,18 @@ ghost use Rattle.cal_format.specs.Reading.{are_date_items};
 ghost use Rattle.cal_format.specs.Text.{text_of};
 ghost use Rattle.cal_c.specs.Columns.{date_row, int_at, nat_at, AreRows};
 ghost use Rattle.cal_c.specs.FormatColumns.{IsDateByFormat, IsDateByFormatRow, IsTextByFormatRow, room_for_text};
-ghost use Rattle.cal_c.specs.Statuses.{ok_status, unsupported_item};
 ghost use Rattle.cal_c.specs.TextColumns.{ArePrinted, HasRoomFor};
 ghost use Rattle.cal_c.specs.Values.{need◌else◌then◌};
 
 use super::formatting::{has_room, put};
 use super::parsing::{are_bounds, bytes_between};
-use crate::columns::statuses::{
-    INVALID_BOUNDS, INVALID_DATE, INVALID_FORMAT, OK, UNSUPPORTED_ITEM, byte_status,
-};
+use crate::columns::statuses::byte_status;
 use crate::columns::{LENGTH_MISMATCH, NO_VALUE, count_errors};
 use crate::formats::format_parts::FormatParts;
 use crate::formats::iso_dates::print_date_at_once;
 use crate::formats::parsing::fots_date_parse_format;
 use crate::formats::printing::MAX_LENGTH;
+use crate::status::{INVALID_BOUNDS, INVALID_DATE, INVALID_FORMAT, OK, UNSUPPORTED_ITEM};
 use crate::values::valid_date;
 use cal_format::Format;
 use cal_time::Date;
@@ -58,7 +56,7 @@ fn parse_date_between(bytes: &[u8], from: i32, to: i32, format: &FormatParts) ->
 {
     match bytes_between(bytes, from, to) {
         Some(text) => parse_date_row(text, format),
-        None => (NO_VALUE, INVALID_BOUNDS),
+        None => (NO_VALUE, INVALID_BOUNDS as u8),
     }
 }
 
@@ -122,11 +120,11 @@ fn text_row(date: i32, format: &FormatParts, text: &mut [u8]) -> (usize, u8)
     ensures max_length { result.0 ≤ room_for_text format.now }
     ensures room { length text.new ≡ 960 }
 {
-    let date = or_return!(valid_date(date), (0, INVALID_DATE));
+    let date = or_return!(valid_date(date), (0, INVALID_DATE as u8));
     if let Some(end) = print_date_at_once(date, format, text) {
-        return (end, OK);
+        return (end, OK as u8);
     }
-    let format = or_return!(format.to_format(), (0, INVALID_FORMAT));
+    let format = or_return!(format.to_format(), (0, INVALID_FORMAT as u8));
     print_row(date, &format, text)
 }
 
@@ -135,17 +133,17 @@ fn print_row(date: Date, format: &Format, text: &mut [u8]) -> (usize, u8)
     requires few { length format.now ≤ 64 }
     requires room { length text.old ≡ 960 }
     ensures unsupported_item { ¬ IsTrue (are_date_items format.now)
-        → (result.0 ≡ 0) × (pos result.1 ≡ unsupported_item) }
+        → (result.0 ≡ 0) × (pos result.1 ≡ UNSUPPORTED_ITEM) }
     ensures value { IsTrue (are_date_items format.now)
         → (take result.0 text.new ≡ text_of format.now (moment_of_date date))
-        × (pos result.1 ≡ ok_status) }
+        × (pos result.1 ≡ OK) }
     ensures max_length { result.0 ≤ length format.now * 15 }
     ensures room { length text.new ≡ 960 }
 {
     // This call states that the date is in its range. It costs nothing.
     let _ = date.to_julian_day();
     match format.print_date(date, text) {
-        Some(length) => (length, OK),
-        None => (0, UNSUPPORTED_ITEM),
+        Some(length) => (length, OK as u8),
+        None => (0, UNSUPPORTED_ITEM as u8),
     }
 }

@@ -3,15 +3,12 @@ ghost use Rattle.std.specs.Prelude.{◌≡◌, ◌+◌, ◌≤◌, ◌<◌, ◌�
 ghost use Rattle.std.specs.List.{between};
 ghost use Rattle.cal_text.specs.Rfc3339.{HasMomentText, moment_text};
 ghost use Rattle.cal_c.specs.Columns.{int_at, nat_at, SameLength};
-ghost use Rattle.cal_c.specs.Statuses.{ok_status, result_out_of_range};
 ghost use Rattle.cal_c.specs.TextColumns.{ArePrinted, HasRoomFor, IsDateTextRow, IsMomentTextRow};
 ghost use Rattle.cal_c.specs.Values.{need◌else◌then◌};
 
 use super::parsing::are_bounds;
-use crate::columns::statuses::{
-    INVALID_DATE, INVALID_OFFSET, INVALID_TIME, OK, RESULT_OUT_OF_RANGE,
-};
 use crate::columns::{LENGTH_MISMATCH, count_errors};
+use crate::status::{INVALID_DATE, INVALID_OFFSET, INVALID_TIME, OK, RESULT_OUT_OF_RANGE};
 use crate::values::{valid_date, valid_offset, valid_time};
 use cal_datetime::OffsetDateTime;
 use cal_text::rfc3339;
@@ -86,8 +83,8 @@ fn date_text_row(date: i32) -> (ShortText, u8)
     ensures max_length { length result.0 ≤ 13 }
 {
     match valid_date(date) {
-        Some(date) => (date.text(), OK),
-        None => (ShortText::new(), INVALID_DATE),
+        Some(date) => (date.text(), OK as u8),
+        None => (ShortText::new(), INVALID_DATE as u8),
     }
 }
 
@@ -135,20 +132,23 @@ fn moment_text_row(date: i32, time: u64, offset: i32) -> (ShortText, u8)
     ensures value { IsMomentTextRow date time offset result.0 result.1 }
     ensures max_length { length result.0 ≤ 38 }
 {
-    let date = or_return!(valid_date(date), (ShortText::new(), INVALID_DATE));
-    let time = or_return!(valid_time(time), (ShortText::new(), INVALID_TIME));
-    let offset = or_return!(valid_offset(offset), (ShortText::new(), INVALID_OFFSET));
+    let date = or_return!(valid_date(date), (ShortText::new(), INVALID_DATE as u8));
+    let time = or_return!(valid_time(time), (ShortText::new(), INVALID_TIME as u8));
+    let offset = or_return!(
+        valid_offset(offset),
+        (ShortText::new(), INVALID_OFFSET as u8)
+    );
     moment_text_and_status(OffsetDateTime::new_in_offset(date, time, offset))
 }
 
 /// Returns a moment in RFC 3339, or an empty text, and the status.
 fn moment_text_and_status(moment: OffsetDateTime) -> (ShortText, u8)
-    ensures result_out_of_range { ¬ HasMomentText moment → (result.0 ≡ []) × (pos result.1 ≡ result_out_of_range) }
-    ensures value { HasMomentText moment → (result.0 ≡ moment_text moment) × (pos result.1 ≡ ok_status) }
+    ensures result_out_of_range { ¬ HasMomentText moment → (result.0 ≡ []) × (pos result.1 ≡ RESULT_OUT_OF_RANGE) }
+    ensures value { HasMomentText moment → (result.0 ≡ moment_text moment) × (pos result.1 ≡ OK) }
     ensures max_length { length result.0 ≤ 38 }
 {
     match rfc3339::Text::new(moment) {
-        Some(text) => (text.text(), OK),
-        None => (ShortText::new(), RESULT_OUT_OF_RANGE),
+        Some(text) => (text.text(), OK as u8),
+        None => (ShortText::new(), RESULT_OUT_OF_RANGE as u8),
     }
 }

@@ -4,9 +4,10 @@ ghost use Rattle.cal_c.specs.Columns.{date_row, int_at, SameLength, nat_at, AreR
 ghost use Rattle.cal_c.specs.TextColumns.{AreBoundsWithin, IsParsedDateRow, IsParsedDate, IsParsedMomentRow, IsParsedMoment, moment_row, bytes_between};
 ghost use Rattle.cal_c.specs.Values.{need◌else◌then◌};
 
-use crate::columns::statuses::{INVALID_BOUNDS, byte_status};
+use crate::columns::statuses::byte_status;
 use crate::columns::{LENGTH_MISMATCH, NO_VALUE, count_errors};
 use crate::results::{Moment, MomentResult};
+use crate::status::INVALID_BOUNDS;
 use crate::texts::parsing::{fots_date_parse, fots_moment_parse};
 
 /// Parses dates, like `fots_date_parse`.
@@ -95,7 +96,7 @@ fn parse_date_between(bytes: &[u8], from: i32, to: i32) -> (i32, u8)
 {
     match bytes_between(bytes, from, to) {
         Some(text) => parse_date_row(text),
-        None => (NO_VALUE, INVALID_BOUNDS),
+        None => (NO_VALUE, INVALID_BOUNDS as u8),
     }
 }
 
@@ -114,7 +115,7 @@ fn parse_moment_between(bytes: &[u8], from: i32, to: i32) -> (Moment, u8)
 {
     match bytes_between(bytes, from, to) {
         Some(text) => parse_moment_row(text),
-        None => (MomentResult::error(0).moment, INVALID_BOUNDS),
+        None => (MomentResult::error(0).moment, INVALID_BOUNDS as u8),
     }
 }
 

@@ -6,7 +6,6 @@ ghost use Rattle.cal_recurrence.specs.declared.fault.ParseRuleError.{ParseRuleEr
 ghost use Rattle.cal_recurrence.specs.declared.recurrence.Recurrence.{Recurrence};
 ghost use Rattle.cal_c.specs.RecurrenceTexts.{recurrence_ok, recurrence_error, recurrence_parse_error};
 ghost use Rattle.cal_c.specs.Recurrences.{AreDatesWritten};
-ghost use Rattle.cal_c.specs.Statuses.{invalid_date};
 ghost use Rattle.cal_c.specs.Values.{IsJulianDay, day_of};
 
 use super::results::RecurrenceResult;
@@ -33,7 +32,7 @@ pub extern "C" fn fots_recurrence_days(
         → (result ≡ recurrence_parse_error fault) × (days.new ≡ days.old) }
     ensures invalid_date { (its : Recurrence) → recurrence_of text.now ≡ Ok its
         → ¬ (IsJulianDay start × IsJulianDay from)
-        → (result ≡ recurrence_error invalid_date) × (days.new ≡ days.old) }
+        → (result ≡ recurrence_error INVALID_DATE) × (days.new ≡ days.old) }
     ensures value { (its : Recurrence) → recurrence_of text.now ≡ Ok its
         → IsJulianDay start → IsJulianDay from
         → (result ≡ recurrence_ok result.length)

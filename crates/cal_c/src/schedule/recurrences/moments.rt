@@ -8,9 +8,9 @@ ghost use Rattle.cal_datetime.specs.OffsetDateTime.{instant};
 ghost use Rattle.cal_zone.specs.Timeline.{Timeline};
 ghost use Rattle.cal_c.specs.Moments.{IsMoment, local_and_offset_in, local_in};
 ghost use Rattle.cal_c.specs.RecurrenceTexts.{recurrence_ok, recurrence_error, recurrence_parse_error};
-ghost use Rattle.cal_c.specs.Statuses.{invalid_moment, invalid_zone, too_many_dates};
 ghost use Rattle.cal_c.specs.declared.schedule.recurrences.text_set.TextSet.{TextSet};
 ghost use Rattle.cal_c.specs.TextSets.{readings_in, AreFew, AreMomentsWritten, AreValid, IsZoneOf, IsZonedSetOf};
+ghost use Rattle.cal_c.specs.declared.status.TheConstants.{TOO_MANY_DATES};
 
 use super::results::RecurrenceResult;
 use super::text_set::{SetReadings, TextSet};
@@ -39,13 +39,13 @@ pub extern "C" fn fots_recurrence_moments(
     ensures error { (fault : ParseRuleError) → recurrence_of set.now.text.now ≡ Err fault
         → (result ≡ recurrence_parse_error fault) × (moments.new ≡ moments.old) }
     ensures too_many_dates { (its : Recurrence) → recurrence_of set.now.text.now ≡ Ok its → ¬ AreFew set.now
-        → (result ≡ recurrence_error too_many_dates) × (moments.new ≡ moments.old) }
+        → (result ≡ recurrence_error TOO_MANY_DATES) × (moments.new ≡ moments.old) }
     ensures invalid_moment { (its : Recurrence) → recurrence_of set.now.text.now ≡ Ok its → AreFew set.now
         → ¬ (AreValid set.now × IsMoment after)
-        → (result ≡ recurrence_error invalid_moment) × (moments.new ≡ moments.old) }
+        → (result ≡ recurrence_error INVALID_MOMENT) × (moments.new ≡ moments.old) }
     ensures invalid_zone { (its : Recurrence) → recurrence_of set.now.text.now ≡ Ok its → AreFew set.now
         → AreValid set.now → IsMoment after → ((z : Timeline) → ¬ IsZoneOf zone.now.bytes.now z)
-        → (result ≡ recurrence_error invalid_zone) × (moments.new ≡ moments.old) }
+        → (result ≡ recurrence_error INVALID_ZONE) × (moments.new ≡ moments.old) }
     ensures value { (its : Recurrence) → recurrence_of set.now.text.now ≡ Ok its → AreFew set.now
         → AreValid set.now → IsMoment after → (z : Timeline) → IsZoneOf zone.now.bytes.now z
         → (result ≡ recurrence_ok result.length) × ((zoned : ZonedSet) × IsZonedSetOf its set.now z zoned

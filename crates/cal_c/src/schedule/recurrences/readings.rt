@@ -8,8 +8,8 @@ ghost use Rattle.cal_recurrence.specs.declared.fault.ParseRuleError.{ParseRuleEr
 ghost use Rattle.cal_recurrence.specs.declared.recurrence.Recurrence.{Recurrence};
 ghost use Rattle.cal_c.specs.Moments.{IsMoment, local_in};
 ghost use Rattle.cal_c.specs.RecurrenceTexts.{recurrence_ok, recurrence_error, recurrence_parse_error};
-ghost use Rattle.cal_c.specs.Statuses.{invalid_moment, too_many_dates};
 ghost use Rattle.cal_c.specs.TextSets.{AreFew, AreReadingsWritten, AreValid, IsSetOf, utc_moment};
+ghost use Rattle.cal_c.specs.declared.status.TheConstants.{TOO_MANY_DATES};
 
 use super::results::RecurrenceResult;
 use super::text_set::{SetReadings, TextSet};
@@ -36,10 +36,10 @@ pub extern "C" fn fots_recurrence_readings(
     ensures error { (fault : ParseRuleError) → recurrence_of set.now.text.now ≡ Err fault
         → (result ≡ recurrence_parse_error fault) × (readings.new ≡ readings.old) }
     ensures too_many_dates { (its : Recurrence) → recurrence_of set.now.text.now ≡ Ok its → ¬ AreFew set.now
-        → (result ≡ recurrence_error too_many_dates) × (readings.new ≡ readings.old) }
+        → (result ≡ recurrence_error TOO_MANY_DATES) × (readings.new ≡ readings.old) }
     ensures invalid_moment { (its : Recurrence) → recurrence_of set.now.text.now ≡ Ok its → AreFew set.now
         → ¬ (AreValid set.now × IsMoment from)
-        → (result ≡ recurrence_error invalid_moment) × (readings.new ≡ readings.old) }
+        → (result ≡ recurrence_error INVALID_MOMENT) × (readings.new ≡ readings.old) }
     ensures value { (its : Recurrence) → recurrence_of set.now.text.now ≡ Ok its → AreFew set.now
         → AreValid set.now → IsMoment from
         → (result ≡ recurrence_ok result.length) × ((readings_set : DateTimeSet)

@@ -1,6 +1,5 @@
 //! Recurrences in text with other readings and exceptions, as C passes them.
 ghost use Rattle.std.specs.Prelude.{◌≡◌, IfErr, IfOk};
-ghost use Rattle.cal_c.specs.Statuses.{invalid_moment, too_many_dates};
 ghost use Rattle.cal_c.specs.TextSets.{AreFew, AreValid, HasReadings};
 
 use crate::moment::valid_moment;
@@ -33,8 +32,8 @@ pub(super) struct SetReadings {
 impl SetReadings {
     /// Converts the readings, or returns the status of the first wrong list or reading.
     pub(super) fn from_parts(parts: &TextSet<'_>) -> Result<Self, i32>
-        ensures few { IfErr result (λ status. ¬ AreFew parts.now → status ≡ too_many_dates) }
-        ensures invalid { IfErr result (λ status. AreFew parts.now → (¬ AreValid parts.now) × (status ≡ invalid_moment)) }
+        ensures few { IfErr result (λ status. ¬ AreFew parts.now → status ≡ TOO_MANY_DATES) }
+        ensures invalid { IfErr result (λ status. AreFew parts.now → (¬ AreValid parts.now) × (status ≡ INVALID_MOMENT)) }
         ensures value { IfOk result (λ its. HasReadings parts.now its.start its.dates its.exceptions) }
     {
         if parts.dates.len() > MAX_DATES || parts.exceptions.len() > MAX_DATES {

@@ -1,56 +1,56 @@
 //! Calls that take checked working days.
-ghost use Rattle.std.specs.Prelude.{◌≡◌, ◌<◌, ◌≤◌, Bool, pos, if◌then◌else◌};
+ghost use Rattle.std.specs.Prelude.{◌≡◌, Bool, MatchOption, pos, if◌then◌else◌};
 ghost use Rattle.cal_schedule.specs.declared.workdays.convention.Convention.{Convention};
 ghost use Rattle.cal_schedule.specs.Workdays.{is_workday};
 ghost use Rattle.cal_schedule.specs.WorkdaysConvention.{adjusted_date};
-ghost use Rattle.cal_c.specs.CheckedWorkdays.{week_of, HasLimits, IsChecked, IsDateWorkdaysLaterIn, IsSomeDate, IsWorkdaysBetweenIn};
+ghost use Rattle.cal_c.specs.CheckedWorkdays.{IsDateWorkdaysLater, IsForWeek, IsSomeDate, IsWorkdaysBetween};
 ghost use Rattle.cal_c.specs.Results.{date_or_out_of_range, date_error, number_ok, number_error};
-ghost use Rattle.cal_c.specs.Statuses.{invalid_convention, invalid_date, invalid_weekmask, too_many_holidays};
-ghost use Rattle.cal_c.specs.Values.{IsJulianDay, day_of, max_dates};
-ghost use Rattle.cal_c.specs.Weekmasks.{convention_number, IsConvention, IsWeekmask};
+ghost use Rattle.cal_c.specs.Values.{need◌else◌then◌, IsJulianDay, day_of};
+ghost use Rattle.cal_c.specs.Weekmasks.{convention_number, IsConvention};
 
-use super::valid_convention;
 use crate::day_number::{date_result, day_number};
 use crate::results::{DateResult, NumberResult};
 use crate::schedule::workdays::checked_workdays::CheckedWorkdays;
 use crate::schedule::workdays::ranks::RankedWorkdays;
 use crate::status::{INVALID_CONVENTION, INVALID_DATE};
+use cal_schedule::Convention;
 
-/// Returns 1 if a date is a working day, else 0, like `fots_date_is_workday`.
+/// Returns 1 if a date is a working day, else 0. For 2451604, a Tuesday, it is 1 with the marks 31
+/// and without holidays.
 #[unsafe(no_mangle)]
 pub extern "C" fn fots_workdays_contains(workdays: &CheckedWorkdays, date: i32) -> NumberResult
-    ensures invalid_weekmask { ¬ IsWeekmask workdays.now.weekmask → result ≡ number_error invalid_weekmask }
-    ensures too_many_holidays { IsWeekmask workdays.now.weekmask → max_dates < workdays.now.holidays_length
-        → result ≡ number_error too_many_holidays }
-    ensures invalid_date { HasLimits workdays.now → ¬ IsJulianDay date → result ≡ number_error invalid_date }
-    ensures any { HasLimits workdays.now → IsJulianDay date
-        → (b : Bool) × (result ≡ number_ok (if b then pos 1 else pos 0)) }
-    ensures value { IsChecked workdays.now → IsJulianDay date
-        → result ≡ number_ok (if is_workday (week_of workdays.now) (day_of date) then pos 1 else pos 0) }
+    ensures { IsForWeek workdays.now (λ s. result ≡ number_error s)
+        (need IsJulianDay date else result ≡ number_error INVALID_DATE then
+        (b : Bool) × (result ≡ number_ok (if b then pos 1 else pos 0)))
+        (λ w. IsJulianDay date → result ≡ number_ok (if is_workday w (day_of date) then pos 1 else pos 0)) }
 {
     let workdays = or_return!(RankedWorkdays::new(workdays), status => NumberResult::error(status));
     let day = or_error!(NumberResult, day_number(date), INVALID_DATE);
     NumberResult::ok(i32::from(workdays.contains(day)))
 }
 
-/// Adds working days, like `fots_date_add_workdays`.
+/// Adds working days, or subtracts them if the number is negative. 0 gives the date itself, or the
+/// first working day after it. Fails if the range has no such day. Ten after 2451604 is 2451618
+/// with the marks 31 and without holidays.
 #[unsafe(no_mangle)]
 pub extern "C" fn fots_workdays_add(workdays: &CheckedWorkdays, date: i32, days: i32) -> DateResult
-    ensures { IsDateWorkdaysLaterIn workdays.now date days result }
+    ensures { IsDateWorkdaysLater workdays.now date days result }
 {
     let workdays = or_return!(RankedWorkdays::new(workdays), status => DateResult::error(status));
     let day = or_error!(DateResult, day_number(date), INVALID_DATE);
     date_result(workdays.add(day, days))
 }
 
-/// Counts the working days between dates, like `fots_date_workdays_between`.
+/// Counts the working days from the earlier date on, without the later one. The number is negative
+/// or 0 if `other` comes first. From 2451545, 2000-01-01, to 2451911, 2001-01-01, it is 260 with
+/// the marks 31 and without holidays.
 #[unsafe(no_mangle)]
 pub extern "C" fn fots_workdays_between(
     workdays: &CheckedWorkdays,
     date: i32,
     other: i32,
 ) -> NumberResult
-    ensures { IsWorkdaysBetweenIn workdays.now date other result }
+    ensures { IsWorkdaysBetween workdays.now date other result }
 {
     let workdays = or_return!(RankedWorkdays::new(workdays), status => NumberResult::error(status));
     let day = or_error!(NumberResult, day_number(date), INVALID_DATE);
@@ -58,24 +58,35 @@ pub extern "C" fn fots_workdays_between(
     NumberResult::ok(workdays.between(day, other))
 }
 
-/// Moves a date by a convention, like `fots_date_adjust`.
+/// Returns the convention with a number, from 0 for `Unadjusted`, or `None`.
+fn valid_convention(number: u32) -> Option<Convention>
+    ensures { MatchOption result (¬ IsConvention number)
+        (λ found. IsConvention number × (convention_number found ≡ number)) }
+{
+    match number {
+        0 => Some(Convention::Unadjusted),
+        1 => Some(Convention::Following),
+        2 => Some(Convention::ModifiedFollowing),
+        3 => Some(Convention::Preceding),
+        4 => Some(Convention::ModifiedPreceding),
+        _ => None,
+    }
+}
+
+/// Moves a date by a convention: 0 is unadjusted, 1 following, 2 modified following, 3 preceding,
+/// and 4 modified preceding. Fails if the range has no such day. 2451664, Saturday 2000-04-29,
+/// moves to 2451666 by 1 and to 2451663 by 2, with the marks 31 and without holidays.
 #[unsafe(no_mangle)]
 pub extern "C" fn fots_workdays_adjust(
     workdays: &CheckedWorkdays,
     date: i32,
     convention: u32,
 ) -> DateResult
-    ensures invalid_weekmask { ¬ IsWeekmask workdays.now.weekmask → result ≡ date_error invalid_weekmask }
-    ensures too_many_holidays { IsWeekmask workdays.now.weekmask → max_dates < workdays.now.holidays_length
-        → result ≡ date_error too_many_holidays }
-    ensures invalid_date { HasLimits workdays.now → ¬ IsJulianDay date → result ≡ date_error invalid_date }
-    ensures invalid_convention { HasLimits workdays.now → IsJulianDay date → ¬ IsConvention convention
-        → result ≡ date_error invalid_convention }
-    ensures any { HasLimits workdays.now → IsJulianDay date → IsConvention convention
-        → IsSomeDate result }
-    ensures value { IsChecked workdays.now → IsJulianDay date
-        → (c : Convention) → convention_number c ≡ convention
-        → result ≡ date_or_out_of_range (adjusted_date (week_of workdays.now) c (day_of date)) }
+    ensures { IsForWeek workdays.now (λ s. result ≡ date_error s)
+        (need IsJulianDay date else result ≡ date_error INVALID_DATE then
+        need IsConvention convention else result ≡ date_error INVALID_CONVENTION then IsSomeDate result)
+        (λ w. IsJulianDay date → (c : Convention) → convention_number c ≡ convention
+        → result ≡ date_or_out_of_range (adjusted_date w c (day_of date))) }
 {
     let workdays = or_return!(RankedWorkdays::new(workdays), status => DateResult::error(status));
     let day = or_error!(DateResult, day_number(date), INVALID_DATE);

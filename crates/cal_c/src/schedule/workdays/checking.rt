@@ -1,20 +1,61 @@
 //! Holidays checked once.
-ghost use Rattle.std.specs.Prelude.{◌≡◌, ℕ, ◌<◌, ◌≤◌, Ok, Err, length, get_or, take};
+ghost use Rattle.std.specs.Prelude.{◌≡◌, ℕ, ◌<◌, ◌≤◌, Ok, Err, IfOk, SomeIff, length, get_or, take};
 ghost use Rattle.cal_schedule.specs.WorkdaysSplit.{marked_count};
 ghost use Rattle.cal_c.specs.CheckedWorkdays.{holidays_of, week_of, IsChecked};
-ghost use Rattle.cal_c.specs.Statuses.{invalid_holidays, invalid_weekmask, ok_status, too_many_holidays};
 ghost use Rattle.cal_c.specs.Values.{IsJulianDay, max_dates};
 ghost use Rattle.cal_c.specs.Weekmasks.{weekmask_in, work_week, AreHolidays, IsWeekmask};
 
 use crate::day_number::wrapped_number;
-use crate::schedule::workdays::calendar::{Calendar, valid_weekmask};
+use crate::schedule::date_list::DateList;
 use crate::schedule::workdays::checked_workdays::{
     CheckedWorkdays, MAX, MAX_INDEXES, WorkdaysResult,
 };
-use crate::status::OK;
+use crate::status::{INVALID_HOLIDAYS, INVALID_WEEKMASK, OK, TOO_MANY_HOLIDAYS};
+use cal_time::is_rising;
 
 /// A weekmask that each call rejects.
 const NO_WEEKMASK: u32 = u32::MAX;
+
+/// Returns the marks of a number, or `None` if it is above 127.
+pub(super) fn valid_weekmask(weekmask: u32) -> Option<[bool; 7]>
+    ensures { SomeIff result (IsWeekmask weekmask) (weekmask_in weekmask) }
+{
+    if weekmask >= 128 {
+        return None;
+    }
+    Some([
+        weekmask % 2 == 1,
+        weekmask / 2 % 2 == 1,
+        weekmask / 4 % 2 == 1,
+        weekmask / 8 % 2 == 1,
+        weekmask / 16 % 2 == 1,
+        weekmask / 32 % 2 == 1,
+        weekmask / 64 % 2 == 1,
+    ])
+}
+
+/// Returns the marks of a weekmask with holidays, or the status of the first error.
+fn checked_marks(weekmask: u32, holidays: &[i32]) -> Result<[bool; 7], i32>
+    ensures invalid_weekmask { ¬ IsWeekmask weekmask → result ≡ Err INVALID_WEEKMASK }
+    ensures too_many_holidays { IsWeekmask weekmask → max_dates < length holidays.now
+        → result ≡ Err TOO_MANY_HOLIDAYS }
+    ensures invalid_holidays { IsWeekmask weekmask → length holidays.now ≤ max_dates
+        → ¬ AreHolidays holidays.now → result ≡ Err INVALID_HOLIDAYS }
+    ensures value { IsWeekmask weekmask → length holidays.now ≤ max_dates
+        → AreHolidays holidays.now → result ≡ Ok (weekmask_in weekmask) }
+    ensures valid { IfOk result (λ marks. IsWeekmask weekmask × (length holidays.now ≤ max_dates)
+        × AreHolidays holidays.now × (marks ≡ weekmask_in weekmask)) }
+{
+    let marks = or_return!(valid_weekmask(weekmask), Err(INVALID_WEEKMASK));
+    if holidays.len() > MAX {
+        return Err(TOO_MANY_HOLIDAYS);
+    }
+    let holidays = or_return!(DateList::from_julian_days(holidays), Err(INVALID_HOLIDAYS));
+    if !is_rising(holidays.as_slice()) {
+        return Err(INVALID_HOLIDAYS);
+    }
+    Ok(marks)
+}
 
 impl CheckedWorkdays {
     /// Creates working days without holidays.
@@ -54,20 +95,20 @@ impl CheckedWorkdays {
 /// each call rejects it.
 #[unsafe(no_mangle)]
 pub extern "C" fn fots_workdays_new(weekmask: u32, holidays: &[i32]) -> WorkdaysResult
-    ensures invalid_weekmask { ¬ IsWeekmask weekmask → result.status ≡ invalid_weekmask }
+    ensures invalid_weekmask { ¬ IsWeekmask weekmask → result.status ≡ INVALID_WEEKMASK }
     ensures too_many_holidays { IsWeekmask weekmask → max_dates < length holidays.now
-        → result.status ≡ too_many_holidays }
+        → result.status ≡ TOO_MANY_HOLIDAYS }
     ensures invalid_holidays { IsWeekmask weekmask → length holidays.now ≤ max_dates
-        → ¬ AreHolidays holidays.now → result.status ≡ invalid_holidays }
+        → ¬ AreHolidays holidays.now → result.status ≡ INVALID_HOLIDAYS }
     ensures value { IsWeekmask weekmask → length holidays.now ≤ max_dates
-        → AreHolidays holidays.now → (result.status ≡ ok_status) × IsChecked result.workdays
+        → AreHolidays holidays.now → (result.status ≡ OK) × IsChecked result.workdays
         × (week_of result.workdays ≡ work_week weekmask holidays.now) }
-    ensures rejected { (¬ (result.status ≡ ok_status)) → ¬ IsWeekmask result.workdays.weekmask }
+    ensures rejected { (¬ (result.status ≡ OK)) → ¬ IsWeekmask result.workdays.weekmask }
 {
-    match Calendar::from_c(weekmask, holidays) {
-        Ok(calendar) => WorkdaysResult {
+    match checked_marks(weekmask, holidays) {
+        Ok(marks) => WorkdaysResult {
             status: OK,
-            workdays: CheckedWorkdays::from_valid(weekmask, calendar.marks(), holidays),
+            workdays: CheckedWorkdays::from_valid(weekmask, marks, holidays),
         },
         Err(status) => WorkdaysResult {
             status,

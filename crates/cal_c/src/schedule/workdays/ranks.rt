@@ -5,13 +5,12 @@ ghost use Rattle.cal_time.specs.IsoWeekDate.{count_before};
 ghost use Rattle.cal_schedule.specs.Workdays.{is_marked, is_workday, nth_workday, WorkWeek};
 ghost use Rattle.cal_schedule.specs.WorkdaysSplit.{IsSplit, marked_count};
 ghost use Rattle.cal_c.specs.CheckedWorkdays.{holidays_of, week_of, HasLimits, IsChecked, HavePassed, IsDayOfRank, NoDayOfRank};
-ghost use Rattle.cal_c.specs.Statuses.{invalid_weekmask, too_many_holidays};
 ghost use Rattle.cal_c.specs.Values.{dates_in, max_dates};
 ghost use Rattle.cal_c.specs.Weekmasks.{workdays_between, IsWeekmask};
 
 use crate::day_number::{LAST_DAY_NUMBER, wrapped_number};
-use crate::schedule::workdays::calendar::valid_weekmask;
 use crate::schedule::workdays::checked_workdays::{CheckedWorkdays, MAX};
+use crate::schedule::workdays::checking::valid_weekmask;
 use crate::status::{INVALID_WEEKMASK, TOO_MANY_HOLIDAYS};
 use std::marker::Model;
 
@@ -54,9 +53,9 @@ fn marks_before(marks: [bool; 7]) -> [u32; 8]
 impl<'a> RankedWorkdays<'a> {
     /// Checks the weekmask and the number of holidays, or returns the status of the first error.
     pub fn new(workdays: &'a CheckedWorkdays) -> Result<Self, i32>
-        ensures invalid_weekmask { ¬ IsWeekmask workdays.now.weekmask → result ≡ Err invalid_weekmask }
+        ensures invalid_weekmask { ¬ IsWeekmask workdays.now.weekmask → result ≡ Err INVALID_WEEKMASK }
         ensures too_many_holidays { IsWeekmask workdays.now.weekmask → max_dates < workdays.now.holidays_length
-            → result ≡ Err too_many_holidays }
+            → result ≡ Err TOO_MANY_HOLIDAYS }
         ensures value { HasLimits workdays.now → result ≡ Ok workdays.now }
     {
         let marks = or_return!(valid_weekmask(workdays.weekmask), Err(INVALID_WEEKMASK));

@@ -1,4 +1,4 @@
-use Rattle.std.proofs.Common.{◌≡◌, ℕ, ◌+◌, ◌-◌, ◌<◌, ◌≤◌, length, get_or, pos}
+use Rattle.std.proofs.Common.{◌≡◌, ℕ, ◌+◌, ◌-◌, ◌<◌, ◌≤◌, get_or, pos}
 use Rattle.cal_c.specs.Columns.{IsDateDaysLater, date_row}
 use Rattle.cal_c.proofs.HeldDays.{held}
 use Rattle.cal_c.proofs.columns.arithmetic.fots_dates_add_days.Given as goal

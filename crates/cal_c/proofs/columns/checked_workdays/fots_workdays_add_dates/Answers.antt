@@ -1,6 +1,6 @@
 use Rattle.std.proofs.Common.{◌≡◌, ℤ, get_or, pos, arith, rules, FitsSigned, w32, to_z, of_z}
 use Rattle.std.proofs.lemmas.Int.{ints, to_z-of_z}
-use Rattle.cal_c.specs.CheckedWorkdays.{IsDateWorkdaysLaterIn}
+use Rattle.cal_c.specs.CheckedWorkdays.{IsDateWorkdaysLater}
 use Rattle.cal_c.specs.Columns.{date_row}
 use Rattle.cal_c.specs.Results.{date_error}
 use Rattle.cal_c.proofs.Rows.{rows_two}
@@ -18,11 +18,10 @@ loop-row-preserved c =
     let its-any = simp to_z-of_z at c.add_row.ensures.any in
     let its-day = simp to_z-of_z at c.add_row.ensures.value in
     let refused : ℤ → Type 0 = λ s. date_row c.add_row.result.0 c.add_row.result.1 ≡ date_error s in
-    let here : IsDateWorkdaysLaterIn c.args.workdays.now (get_or c.args.dates.now c.loop-row.row (pos 0)) (get_or c.args.days.now c.loop-row.row (pos 0)) (date_row c.add_row.result.0 c.add_row.result.1) = record {
+    let here : IsDateWorkdaysLater c.args.workdays.now (get_or c.args.dates.now c.loop-row.row (pos 0)) (get_or c.args.days.now c.loop-row.row (pos 0)) (date_row c.add_row.result.0 c.add_row.result.1) = record {
       invalid_weekmask = λ m. if_refused refused _ _ (read.invalid_weekmask m) (omega (arith, ints), omega (arith, ints)) its-refused;
       too_many_holidays = λ m l. if_refused refused _ _ (read.too_many_holidays m l) (omega (arith, ints), omega (arith, ints)) its-refused;
-      invalid_date = λ limits. if_read _ _ _ (read.value limits) its-invalid_date;
-      any = λ limits. if_read _ _ _ (read.value limits) its-any;
-      day = λ checked. if_read _ _ _ (read.value checked.limits) its-day checked;
+      any = λ limits. record { error = if_read _ _ _ (read.value limits) its-invalid_date; value = if_read _ _ _ (read.value limits) its-any };
+      value = λ checked. if_read _ _ _ (read.value checked.limits) its-day checked;
     } in
-    rows_two (λ k value status. IsDateWorkdaysLaterIn c.args.workdays.now (get_or c.args.dates.now k (pos 0)) (get_or c.args.days.now k (pos 0)) (date_row value status)) c.loop-row.moved c.loop-row.statuses c.loop-row.row (to_z w32 (of_z w32 c.add_row.result.0)) (pos 0) c.add_row.result.1 0 (omega arith) (omega arith) c.loop-row.invariant (simp to_z-of_z here)
+    rows_two (λ k value status. IsDateWorkdaysLater c.args.workdays.now (get_or c.args.dates.now k (pos 0)) (get_or c.args.days.now k (pos 0)) (date_row value status)) c.loop-row.moved c.loop-row.statuses c.loop-row.row (to_z w32 (of_z w32 c.add_row.result.0)) (pos 0) c.add_row.result.1 0 (omega arith) (omega arith) c.loop-row.invariant (simp to_z-of_z here)

@@ -1,6 +1,6 @@
 use Rattle.std.proofs.Common.{◌≡◌, ℤ, get_or, pos, arith, rules, FitsSigned, w32, to_z, of_z}
 use Rattle.std.proofs.lemmas.Int.{ints, to_z-of_z}
-use Rattle.cal_c.specs.CheckedWorkdays.{IsWorkdaysBetweenIn}
+use Rattle.cal_c.specs.CheckedWorkdays.{IsWorkdaysBetween}
 use Rattle.cal_c.specs.Columns.{number_row}
 use Rattle.cal_c.specs.Results.{number_error}
 use Rattle.cal_c.proofs.Rows.{rows_two}
@@ -18,11 +18,10 @@ loop-row-preserved c =
     let its-any = simp to_z-of_z at c.between_row.ensures.any in
     let its-value = simp to_z-of_z at c.between_row.ensures.value in
     let refused : ℤ → Type 0 = λ s. number_row c.between_row.result.0 c.between_row.result.1 ≡ number_error s in
-    let here : IsWorkdaysBetweenIn c.args.workdays.now (get_or c.args.dates.now c.loop-row.row (pos 0)) (get_or c.args.others.now c.loop-row.row (pos 0)) (number_row c.between_row.result.0 c.between_row.result.1) = record {
+    let here : IsWorkdaysBetween c.args.workdays.now (get_or c.args.dates.now c.loop-row.row (pos 0)) (get_or c.args.others.now c.loop-row.row (pos 0)) (number_row c.between_row.result.0 c.between_row.result.1) = record {
       invalid_weekmask = λ m. if_refused refused _ _ (read.invalid_weekmask m) (omega (arith, ints), omega (arith, ints)) its-refused;
       too_many_holidays = λ m l. if_refused refused _ _ (read.too_many_holidays m l) (omega (arith, ints), omega (arith, ints)) its-refused;
-      invalid_date = λ limits. if_read _ _ _ (read.value limits) its-invalid_date;
-      any = λ limits. if_read _ _ _ (read.value limits) its-any;
+      any = λ limits. record { error = if_read _ _ _ (read.value limits) its-invalid_date; value = λ both. if_read _ _ _ (read.value limits) its-any both.0 both.1 };
       value = λ checked. if_read _ _ _ (read.value checked.limits) its-value checked;
     } in
-    rows_two (λ k value status. IsWorkdaysBetweenIn c.args.workdays.now (get_or c.args.dates.now k (pos 0)) (get_or c.args.others.now k (pos 0)) (number_row value status)) c.loop-row.numbers c.loop-row.statuses c.loop-row.row (to_z w32 (of_z w32 c.between_row.result.0)) (pos 0) c.between_row.result.1 0 (omega arith) (omega arith) c.loop-row.invariant (simp to_z-of_z here)
+    rows_two (λ k value status. IsWorkdaysBetween c.args.workdays.now (get_or c.args.dates.now k (pos 0)) (get_or c.args.others.now k (pos 0)) (number_row value status)) c.loop-row.numbers c.loop-row.statuses c.loop-row.row (to_z w32 (of_z w32 c.between_row.result.0)) (pos 0) c.between_row.result.1 0 (omega arith) (omega arith) c.loop-row.invariant (simp to_z-of_z here)

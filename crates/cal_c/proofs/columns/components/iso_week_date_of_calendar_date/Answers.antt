@@ -2,8 +2,8 @@ use Rattle.std.proofs.Common.{◌≡◌, rules, arith, FitsSigned, w32}
 use Rattle.std.proofs.lemmas.Int.{to_z-of_z}
 use Rattle.cal_c.proofs.columns.components.iso_week_date_of_calendar_date.Goals as goal
 
-pub returns-then-status-eq-OK : goal.returns-then-status-eq-OK
-returns-then-status-eq-OK c =
+pub returns-then-status : goal.returns-then-status
+returns-then-status c =
     let f = c.ranges.year in
     let out : FitsSigned w32 c.to_iso_week_date-iso_year.result.0 = search rules in
     let has = simp to_z-of_z at c.from_calendar_date.ensures.value in
@@ -20,8 +20,8 @@ returns-then-status-eq-OK c =
           (c.from_calendar_date.result, h, has y m d, simp to_z-of_z (cc (same, year, week, weekday)));
     }
 
-pub returns-else-status-eq-OK : goal.returns-else-status-eq-OK
-returns-else-status-eq-OK c = record {
+pub returns-else-status : goal.returns-else-status
+returns-else-status c = record {
   no_month = search rules;
   no_year = search rules;
   no_day = search rules;

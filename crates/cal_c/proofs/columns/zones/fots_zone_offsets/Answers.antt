@@ -2,7 +2,7 @@ use Rattle.std.proofs.Common.{◌≡◌, get_or, pos, arith, rules, FitsSigned, 
 use Rattle.std.proofs.lemmas.Int.{to_z-of_z}
 use Rattle.cal_zone.specs.Timeline.{Timeline, offset_at}
 use Rattle.cal_c.specs.Results.{offset_ok, offset_error}
-use Rattle.cal_c.specs.Statuses.{invalid_zone}
+use Rattle.cal_c.specs.declared.status.TheConstants.{INVALID_ZONE}
 use Rattle.cal_c.specs.ZoneColumns.{IsOffsetAt, offset_row}
 use Rattle.cal_c.proofs.Rows.{rows_two}
 use Rattle.cal_c.proofs.ZoneResults.{for_some, next_span}
@@ -13,7 +13,7 @@ loop-row-preserved c =
     let f : FitsSigned w64 (get_or c.args.seconds.now c.loop-row.row (pos 0)) = search rules in
     let fits : FitsSigned w32 c.row_of_offset.result.0 = search rules in
     let row = offset_row c.row_of_offset.result.0 c.row_of_offset.result.1 in
-    let found = next_span c.unchecked-unchecked.result _ _ (row ≡ offset_error invalid_zone)
+    let found = next_span c.unchecked-unchecked.result _ _ (row ≡ offset_error INVALID_ZONE)
     (λ (z : Timeline). row ≡ offset_ok (offset_at z (get_or c.args.seconds.now c.loop-row.row (pos 0))))
     (simp to_z-of_z at c.row_of_offset.ensures) c.loop-row.invariant.span in
     let here : IsOffsetAt c.args.zone.now (get_or c.args.seconds.now c.loop-row.row (pos 0)) row =

@@ -2,7 +2,7 @@ use Rattle.std.proofs.Common.{w32, w64, FitsSigned, rules, ◌≤◌, unsigned_a
 use Rattle.std.proofs.lemmas.Int.{to_z-of_z}
 use Rattle.cal_time.specs.SignedDuration.{whole_days}
 use Rattle.cal_c.specs.Moments.{IsMomentOrError}
-use Rattle.cal_c.specs.Statuses.{result_out_of_range}
+use Rattle.cal_c.specs.declared.status.TheConstants.{RESULT_OUT_OF_RANGE}
 use Rattle.cal_c.specs.Values.{day_of}
 use Rattle.cal_c.proofs.Needs.{met}
 use Rattle.cal_c.proofs.LaterMoments.{later-sub, days-fit}
@@ -35,4 +35,4 @@ returns c =
     let i : FitsSigned w64 d.seconds = search rules in
     let k = (days-fit d c.whole_days.result c.from.result v.0 i (c.whole_days.ensures ∙ ap whole_days v.1) small).1 in
     let there = simp to_z-of_z at c.at_later_day.ensures in
-    met c.in-Some.ensures.0 (met v.0 (subst (λ z. IsMomentOrError result_out_of_range z m.offset c.at_later_day.result) (sym is) there))
+    met c.in-Some.ensures.0 (met v.0 (subst (λ z. IsMomentOrError RESULT_OUT_OF_RANGE z m.offset c.at_later_day.result) (sym is) there))

@@ -1,12 +1,12 @@
 use Rattle.std.proofs.Common.{ℕ, List, length, ap}
-use Rattle.cal_c.specs.Statuses.{ok_status}
+use Rattle.cal_c.specs.declared.status.TheConstants.{OK}
 use Rattle.cal_c.specs.Texts.{no_position}
 use Rattle.cal_c.specs.declared.schedule.recurrences.formatting.RecurrenceTextResult.{RecurrenceTextResult}
 use Rattle.cal_c.proofs.Filled.{copied-over}
 use Rattle.cal_c.proofs.schedule.recurrences.formatting.RecurrenceTextResult.ok.Goals as goal
 
 abbrev written_with : List ℕ → List ℕ → RecurrenceTextResult
-written_with text bytes = record { status = ok_status; part = 0; position = no_position; length = length text; bytes = bytes }
+written_with text bytes = record { status = OK; part = 0; position = no_position; length = length text; bytes = bytes }
 
 pub returns : goal.returns
 returns c =
