@@ -4,6 +4,7 @@
 
 use cal_time::Date;
 use caldate_run::args::arguments::{MAX_BYTES, join};
+use caldate_run::args::asked_by;
 use caldate_run::clock::read_clock;
 use caldate_run::files::Joined;
 use caldate_run::files::named_files::NamedFiles;
@@ -35,14 +36,32 @@ fn main(rt: HostRuntime) -> ExitCode {
     if let Some(words) = words {
         files = read_files(&rt, words, folder, &mut first, &mut second, &mut days);
     }
+    let asked = asked_by(words, now, &files);
+    let words = words.unwrap_or(b"");
     let mut writer = io::writer(&rt);
     let mut errors = rt.stderr();
     let Some(first) = joined.and_then(|joined| joined.first_file) else {
         let mut reader = rt.reader();
-        let ending = perform(words, &now, &files, &mut reader, &mut writer, &mut errors);
+        let ending = perform(
+            asked,
+            words,
+            &now,
+            &files,
+            &mut reader,
+            &mut writer,
+            &mut errors,
+        );
         return ExitCode::from(ending.status);
     };
     let mut input = Joined::new(NamedFiles::new(&rt, first, rt.reader(), rt.stderr()));
-    let ending = perform_on_files(words, &now, &files, &mut input, &mut writer, &mut errors);
+    let ending = perform_on_files(
+        asked,
+        words,
+        &now,
+        &files,
+        &mut input,
+        &mut writer,
+        &mut errors,
+    );
     ExitCode::from(ending.status)
 }

@@ -26,10 +26,6 @@ several (Some field) (next ∷ more) = field ∷ each_of field (next ∷ more)
 abbrev pub no_names : List (Option (List ℕ))
 no_names = None ∷ None ∷ None ∷ None ∷ []
 
-abbrev pub names_any : List (Option (List ℕ)) → Bool
-names_any [] = false
-names_any (name ∷ names) = is_some name || names_any names
-
 -- The field with this number in place of its own, if it is given.
 abbrev pub with_first : FieldNumbers × Option ℕ → FieldNumbers
 with_first field = record { first = unwrap_or field.1 field.0.first; joined = field.0.joined }

@@ -5,10 +5,6 @@ use Rattle.std.specs.Option.{option_map_or}
 use Rattle.std.specs.Result.{result_ok}
 use Rattle.cal_tzif.specs.File.{IsFile, IsFileError}
 use Rattle.cal_zone.specs.Timeline.{Timeline}
-use Rattle.cal_schedule.specs.Workdays.{WorkWeek}
-use Rattle.caldate_run.specs.Meanings.{Meanings, name_of, value_in}
-use Rattle.caldate_run.specs.Moves.{weekdays_except}
-use Rattle.caldate_run.specs.Offsets.{offset_of}
 use Rattle.caldate_run.specs.declared.holidays.holiday_file.HolidayFile.{HolidayFile}
 use Rattle.caldate_run.specs.declared.holidays.read_holidays_error.ReadHolidaysError.{ReadHolidaysError}
 use Rattle.caldate_run.specs.declared.holidays.read_holidays_error.ReadHolidaysError.TheVariants as why
@@ -32,18 +28,6 @@ is_name_byte byte = is_letter byte || ((nat_le 48 byte && nat_le byte 57) || (by
 abbrev pub is_zone_name : List ℕ → Bool
 is_zone_name [] = false
 is_zone_name (byte ∷ bytes) = is_letter byte && is_none (position (λ b. not (is_name_byte b)) (byte ∷ bytes))
-
--- A word is read as the name of a zone if it can be one and isn't an offset, such as `Z`.
-abbrev pub is_zone_like : List ℕ → Bool
-is_zone_like word = is_zone_name word && is_none (offset_of word)
-
--- The name in `NAME` or `--zone=NAME`. A `=` is byte 61, and in no name.
-abbrev pub name_in : List ℕ → List ℕ
-name_in word = option_map_or (λ at. drop (at + 1) word) (position (λ b. b == 61) word) word
-
--- The name in `FILE` or `--holidays=FILE`.
-abbrev pub file_in : List ℕ → List ℕ
-file_in word = if bytes_eq (name_of word) (codes "--holidays") then value_in word else word
 
 -- ---- files
 -- The file is there, and has this name.
@@ -85,16 +69,3 @@ IsZoneIn (Ok bytes) (Err other) = ⊥
 abbrev pub IsZoneOf : Option ZoneFile → Result Timeline ReadZoneError → Type 0
 IsZoneOf None r = r ≡ Err (File NotFound)
 IsZoneOf (Some file) r = IsZoneIn file.contents r
-
--- Each name has the zone and the holidays of its file.
-abbrev pub AreOfFiles : DataFiles → Meanings → Type 0
-AreOfFiles files meanings =
-    (name : List ℕ) → IsZoneOf (file_named files name) (meanings name).zone × ((meanings name).holidays ≡ holidays_named files name)
-
--- The zone of a word that is the name of one.
-abbrev pub zone_of : Meanings → List ℕ → Option Timeline
-zone_of meanings word = if is_zone_name word then result_ok (meanings word).zone else None
-
--- The working days without the holidays of a word that names a file of them.
-abbrev pub workdays_of : Meanings → List ℕ → Option WorkWeek
-workdays_of meanings word = option_map weekdays_except (result_ok (meanings word).holidays)

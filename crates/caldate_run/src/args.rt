@@ -1,13 +1,6 @@
 //! The command that the arguments give.
-ghost use Rattle.std.specs.Prelude.{◌≡◌, ◌↔◌, ◌+◌, ◌<◌, ◌^◌, ◌≤◌, ℕ, List, Ok, Option, None, IfOk, drop, false, slice_get, unwrap_or, if◌then◌else◌};
-ghost use Rattle.caldate_run.specs.Grammar.{Spells};
+ghost use Rattle.std.specs.Prelude.{◌+◌, ◌<◌, ◌^◌, ◌≤◌, IfOk};
 ghost use Rattle.caldate_run.specs.Lists.{HasValidStep};
-ghost use Rattle.caldate_run.specs.Offsets.{offset_of};
-ghost use Rattle.caldate_run.specs.Meanings.{AreMeanings, Meanings};
-ghost use Rattle.caldate_run.specs.Moves.{monday_to_friday};
-ghost use Rattle.caldate_run.specs.Zones.{AreOfFiles, is_zone_like, zone_of};
-ghost use Rattle.std.specs.Option.{option_map_or};
-ghost use Rattle.caldate_run.specs.Requests.{amount_at, amount_of, arguments_of, parse_args, clock_of, conflict_with_request, count_at, default_mode, duration_of, end_at, filter_at, filter_of, filter_with, floor_at, occurrence_at, lines_command, named_field, once_command, once_of, only_at, place_at, request_at, request_of, skip_in, start_at, to_of, unit_at, expected_verb, weekday_of, words_left};
 
 pub mod arguments;
 pub(crate) mod bounds;
@@ -50,6 +43,20 @@ use cal_schedule::Workdays;
 use cal_time::{SignedDuration, UtcOffset, Weekday};
 use cal_zone::Zone;
 
+/// Parses arguments with zero bytes between them, or `None` if they are too long.
+pub fn asked_by<'a>(
+    arguments: Option<&'a [u8]>,
+    now: Option<PlainDateTime>,
+    files: &DataFiles<'a>,
+) -> Result<Command<'a>, UsageError>
+    ensures steps { IfOk result HasValidStep }
+{
+    match arguments {
+        Some(words) => parse_args(words, now, files),
+        None => Err(usage_error_at(0, Expected::Short)),
+    }
+}
+
 /// Parses arguments with zero bytes between them, or returns the first invalid or missing word. In
 /// `add 1 fortnight` the word at index 2 is not a unit. The words `today` and `now` mean the
 /// date-time `now`, which is at UTC.
@@ -59,11 +66,6 @@ pub fn parse_args<'a>(
     files: &DataFiles<'a>,
 ) -> Result<Command<'a>, UsageError>
     ensures steps { IfOk result HasValidStep }
-    ensures value { (meanings : Meanings)
-        → AreMeanings meanings (arguments_of words.now)
-        → AreOfFiles files.now meanings → result ≡ parse_args now meanings (arguments_of words.now) }
-    ensures spelled { (meanings : Meanings) (command : Command) → AreMeanings meanings (arguments_of words.now)
-        → AreOfFiles files.now meanings → result ≡ Ok command ↔ Spells now meanings (arguments_of words.now) command }
 {
     let nothing = usage_error_at(0, Expected::Something);
     let first = word_at(words, 0).ok_or(nothing)?;
@@ -73,8 +75,14 @@ pub fn parse_args<'a>(
     match command_of(first) {
         Some(CommandName::List) => list_of(words, &now_in(&None, now), files),
         Some(CommandName::Date) => once_of(words, now, files),
-        Some(CommandName::Help) => ended(words, 1, Command::Help),
-        Some(CommandName::Version) => ended(words, 1, Command::Version),
+        Some(CommandName::Help) => {
+            ended(words, 1, ())?;
+            Ok(Command::Help)
+        }
+        Some(CommandName::Version) => {
+            ended(words, 1, ())?;
+            Ok(Command::Version)
+        }
         None => Ok(lines_command(filter_at(words, Some(words), 0, now, files)?)),
     }
 }
@@ -86,9 +94,6 @@ fn once_of<'a>(
     files: &DataFiles<'a>,
 ) -> Result<Command<'a>, UsageError>
     ensures steps { IfOk result HasValidStep }
-    ensures value { (meanings : Meanings)
-        → AreMeanings meanings (arguments_of words.now)
-        → AreOfFiles files.now meanings → result ≡ once_of now meanings (arguments_of words.now) }
 {
     let Some(rest) = cut(words).1 else {
         return Err(usage_error_at(1, Expected::Target));
@@ -103,7 +108,6 @@ fn once_of<'a>(
 /// Returns the command for the lines of the input.
 fn lines_command<'a>(filter: Filter<'a>) -> Command<'a>
     ensures steps { HasValidStep result }
-    ensures command { result ≡ lines_command filter.entry }
 {
     match named_field(&filter) {
         Some(field) => Command::Named(filter, field),
@@ -114,7 +118,6 @@ fn lines_command<'a>(filter: Filter<'a>) -> Command<'a>
 /// Returns the command for the text after `--date`.
 fn once_command<'a>(filter: Filter<'a>) -> Command<'a>
     ensures steps { HasValidStep result }
-    ensures command { result ≡ once_command filter.entry }
 {
     match named_field(&filter) {
         Some(field) => Command::NamedOnce(filter, field),
@@ -123,9 +126,7 @@ fn once_command<'a>(filter: Filter<'a>) -> Command<'a>
 }
 
 /// Returns the first field to answer, if any field has a name.
-fn named_field(filter: &Filter<'_>) -> Option<Field>
-    ensures { result ≡ named_field filter.now }
-{
+fn named_field(filter: &Filter<'_>) -> Option<Field> {
     if filter.names.any() || filter.request.names_other() {
         filter.field
     } else {
@@ -142,9 +143,6 @@ fn filter_at<'a>(
     files: &DataFiles<'a>,
 ) -> Result<Filter<'a>, UsageError>
     requires few { at ≤ 2 }
-    requires rest { words_left rest ≡ drop at (arguments_of words.now) }
-    ensures { (meanings : Meanings) → AreMeanings meanings (arguments_of words.now)
-        → AreOfFiles files.now meanings → result ≡ filter_at now meanings (arguments_of words.now) at }
 {
     let (options, at) = options_of(rest, at, files)?;
     if let Some(expected) = conflict_in(&options) {
@@ -159,9 +157,7 @@ fn filter_with<'a>(
     at: usize,
     options: Options<'a>,
     request: Request<'a>,
-) -> Result<Filter<'a>, UsageError>
-    ensures { result ≡ filter_with at options.entry request.entry }
-{
+) -> Result<Filter<'a>, UsageError> {
     if let Some(expected) = conflict_with_request(&options, &request) {
         return Err(usage_error_at(at, expected));
     }
@@ -169,9 +165,7 @@ fn filter_with<'a>(
 }
 
 /// Returns the requirement of the request that the options don't meet, if there is one.
-fn conflict_with_request(options: &Options<'_>, request: &Request<'_>) -> Option<Expected>
-    ensures { result ≡ conflict_with_request options.now request.now }
-{
+fn conflict_with_request(options: &Options<'_>, request: &Request<'_>) -> Option<Expected> {
     if options.append.is_some() && request.keeps() {
         Some(Expected::AppendKeep)
     } else if request.reads_other() && options.fields.is_none() {
@@ -185,9 +179,7 @@ fn conflict_with_request(options: &Options<'_>, request: &Request<'_>) -> Option
     }
 }
 
-fn filter_of<'a>(options: Options<'a>, request: Request<'a>) -> Filter<'a>
-    ensures { result ≡ filter_of options.entry request.entry }
-{
+fn filter_of<'a>(options: Options<'a>, request: Request<'a>) -> Filter<'a> {
     Filter {
         on_invalid: match options.on_invalid {
             Some(mode) => mode,
@@ -208,9 +200,7 @@ fn filter_of<'a>(options: Options<'a>, request: Request<'a>) -> Filter<'a>
 }
 
 /// Returns the name of a new field in the header, if there is one.
-fn column_of<'a>(header: bool, name: Option<FieldName<'a>>) -> Option<FieldName<'a>>
-    ensures { result ≡ if header then name.entry else None }
-{
+fn column_of<'a>(header: bool, name: Option<FieldName<'a>>) -> Option<FieldName<'a>> {
     if !header {
         return None;
     }
@@ -218,9 +208,7 @@ fn column_of<'a>(header: bool, name: Option<FieldName<'a>>) -> Option<FieldName<
 }
 
 /// Returns the clocks of the zone. The default policy is `compatible`.
-fn clock_of<'a>(zone: Option<Zone<'a>>, policy: Option<Policy>) -> Option<Clock<'a>>
-    ensures { result ≡ clock_of zone.entry policy }
-{
+fn clock_of<'a>(zone: Option<Zone<'a>>, policy: Option<Policy>) -> Option<Clock<'a>> {
     Some(Clock {
         zone: zone?,
         policy: policy.unwrap_or(Policy::Compatible),
@@ -228,18 +216,14 @@ fn clock_of<'a>(zone: Option<Zone<'a>>, policy: Option<Policy>) -> Option<Clock<
 }
 
 /// Returns how many lines are passed on at the start. A header is the first of them.
-fn skip_in(options: &Options<'_>) -> u64
-    ensures { result ≡ skip_in options.now }
-{
+fn skip_in(options: &Options<'_>) -> u64 {
     let skip = options.skip.unwrap_or(0);
     if options.header && skip == 0 { 1 } else { skip }
 }
 
 /// Returns what is written for a line without an answer if no option says it. `part` is `true` if
 /// only a part of a line is answered.
-fn default_mode(request: &Request<'_>, part: bool) -> OnInvalid
-    ensures { result ≡ default_mode request.now part }
-{
+fn default_mode(request: &Request<'_>, part: bool) -> OnInvalid {
     match (request, part) {
         (Request::Keep(_), _) => OnInvalid::Drop,
         (_, true) => OnInvalid::Keep,
@@ -255,8 +239,6 @@ fn request_at<'a>(
     files: &DataFiles<'a>,
 ) -> Result<Request<'a>, UsageError>
     requires { at + 5 < 2 ^ 64 }
-    ensures { (meanings : Meanings) → AreMeanings meanings (arguments_of words.now)
-        → AreOfFiles files.now meanings → result ≡ request_at now meanings (arguments_of words.now) at }
 {
     let verb = word_as(words, at, verb_of, expected_verb(at))?;
     request_of(verb, words, at + 1, now, files)
@@ -271,8 +253,6 @@ fn request_of<'a>(
     files: &DataFiles<'a>,
 ) -> Result<Request<'a>, UsageError>
     requires { at + 4 < 2 ^ 64 }
-    ensures { (meanings : Meanings) → AreMeanings meanings (arguments_of words.now)
-        → AreOfFiles files.now meanings → result ≡ request_of now meanings (arguments_of words.now) at verb }
 {
     match verb {
         Verb::To => to_at(words, at),
@@ -305,7 +285,6 @@ fn request_of<'a>(
 /// Parses `WEEKDAY`.
 fn weekday_at(words: &[u8], at: usize) -> Result<Weekday, UsageError>
     requires { at + 1 < 2 ^ 64 }
-    ensures { result ≡ only_at (arguments_of words.now) at weekday_of Expected.Weekday }
 {
     only_at(words, at, weekday_of, Expected::Weekday)
 }
@@ -313,8 +292,6 @@ fn weekday_at(words: &[u8], at: usize) -> Result<Weekday, UsageError>
 /// Parses `FORM` or `FORMAT`.
 fn to_at(words: &[u8], at: usize) -> Result<Request<'static>, UsageError>
     requires { at + 1 < 2 ^ 64 }
-    ensures { (meanings : Meanings) → AreMeanings meanings (arguments_of words.now)
-        → result ≡ only_at (arguments_of words.now) at (to_of meanings) Expected.Form }
 {
     let usage_error = usage_error_at(at, Expected::Form);
     let word = word_at(words, at).ok_or(usage_error)?;
@@ -325,7 +302,6 @@ fn to_at(words: &[u8], at: usize) -> Result<Request<'static>, UsageError>
 /// Parses `PERIOD`, `day`, `hour`, `minute` or `N minutes`.
 fn start_at(words: &[u8], at: usize) -> Result<Request<'static>, UsageError>
     requires { at + 2 < 2 ^ 64 }
-    ensures { result ≡ start_at (arguments_of words.now) at }
 {
     match word_at(words, at).and_then(minutes_of) {
         Some(minutes) => floor_at(words, at + 1, minutes),
@@ -335,7 +311,6 @@ fn start_at(words: &[u8], at: usize) -> Result<Request<'static>, UsageError>
 
 fn floor_at(words: &[u8], at: usize, minutes: u16) -> Result<Request<'static>, UsageError>
     requires { at + 1 < 2 ^ 64 }
-    ensures { result ≡ floor_at (arguments_of words.now) at minutes }
 {
     only_at(words, at, minutes_word, Expected::Minutes)?;
     Ok(Request::Floor(minutes))
@@ -344,7 +319,6 @@ fn floor_at(words: &[u8], at: usize, minutes: u16) -> Result<Request<'static>, U
 /// Parses `PERIOD`.
 fn end_at(words: &[u8], at: usize) -> Result<Request<'static>, UsageError>
     requires { at + 1 < 2 ^ 64 }
-    ensures { result ≡ end_at (arguments_of words.now) at }
 {
     let period = only_at(words, at, period_of, Expected::Period)?;
     Ok(Request::Move(DayMove::End(period)))
@@ -353,8 +327,6 @@ fn end_at(words: &[u8], at: usize) -> Result<Request<'static>, UsageError>
 /// Parses `OFFSET` or `ZONE`.
 fn place_at<'a>(words: &[u8], at: usize, files: &DataFiles<'a>) -> Result<Place<'a>, UsageError>
     requires { at + 1 < 2 ^ 64 }
-    ensures { (meanings : Meanings) → AreOfFiles files.now meanings
-        → result ≡ place_at meanings (arguments_of words.now) at }
 {
     if names_zone(words, at) {
         return Ok(Place::Zone(zone_at(words, at, files)?));
@@ -364,9 +336,7 @@ fn place_at<'a>(words: &[u8], at: usize, files: &DataFiles<'a>) -> Result<Place<
 }
 
 /// Returns whether the word is read as the name of a zone.
-fn names_zone(words: &[u8], at: usize) -> bool
-    ensures { result ≡ option_map_or is_zone_like (slice_get (arguments_of words.now) at) false }
-{
+fn names_zone(words: &[u8], at: usize) -> bool {
     match word_at(words, at) {
         Some(word) => is_zone_like(word),
         None => false,
@@ -380,8 +350,6 @@ pub(crate) fn zone_at<'a>(
     files: &DataFiles<'a>,
 ) -> Result<Zone<'a>, UsageError>
     requires { at + 1 < 2 ^ 64 }
-    ensures { (meanings : Meanings) → AreOfFiles files.now meanings
-        → result ≡ only_at (arguments_of words.now) at (zone_of meanings) Expected.Zone }
 {
     let usage_error = usage_error_at(at, Expected::Zone);
     let word = word_at(words, at).ok_or(usage_error)?;
@@ -390,9 +358,7 @@ pub(crate) fn zone_at<'a>(
 }
 
 /// Returns the word expected for the verb. At index 0, options such as `--help` are allowed too.
-fn expected_verb(at: usize) -> Expected
-    ensures { result ≡ expected_verb at }
-{
+fn expected_verb(at: usize) -> Expected {
     if at == 0 {
         Expected::Start
     } else {
@@ -403,7 +369,6 @@ fn expected_verb(at: usize) -> Expected
 /// Parses `N` or `N UNIT`. The default unit is days.
 fn amount_at(words: &[u8], at: usize) -> Result<Request<'static>, UsageError>
     requires { at + 2 < 2 ^ 64 }
-    ensures { result ≡ amount_at (arguments_of words.now) at }
 {
     let number = word_as(words, at, parse_i64, Expected::Number)?;
     let unit = unit_at(words, at + 1)?;
@@ -416,7 +381,6 @@ fn amount_at(words: &[u8], at: usize) -> Result<Request<'static>, UsageError>
 /// Parses the last word as a unit. The default is days.
 fn unit_at(words: &[u8], at: usize) -> Result<TimeUnit, UsageError>
     requires { at + 1 < 2 ^ 64 }
-    ensures { result ≡ unit_at (arguments_of words.now) at }
 {
     if ends_at(words, at) {
         return Ok(TimeUnit::Days);
@@ -425,9 +389,7 @@ fn unit_at(words: &[u8], at: usize) -> Result<TimeUnit, UsageError>
 }
 
 /// Returns the request to add `number` units, or `None` if a duration can't hold them.
-fn amount_of(number: i64, unit: TimeUnit) -> Option<Request<'static>>
-    ensures { result ≡ amount_of number unit }
-{
+fn amount_of(number: i64, unit: TimeUnit) -> Option<Request<'static>> {
     match unit {
         TimeUnit::Years => Some(Request::Move(DayMove::Years(number))),
         TimeUnit::Months => Some(Request::Move(DayMove::Months(number))),
@@ -441,9 +403,7 @@ fn amount_of(number: i64, unit: TimeUnit) -> Option<Request<'static>>
 }
 
 /// Returns the request to add `number` units of `unit` seconds each.
-fn duration_of(number: i64, unit: u32) -> Option<Request<'static>>
-    ensures { result ≡ duration_of unit number }
-{
+fn duration_of(number: i64, unit: u32) -> Option<Request<'static>> {
     let seconds = number.checked_mul(i64::from(unit))?;
     Some(Request::Add(SignedDuration::seconds(seconds)))
 }
@@ -451,7 +411,6 @@ fn duration_of(number: i64, unit: u32) -> Option<Request<'static>>
 /// Parses `WEEKDAY` or `WEEKDAY N`.
 fn occurrence_at(words: &[u8], at: usize) -> Result<(Weekday, u8), UsageError>
     requires { at + 2 < 2 ^ 64 }
-    ensures { result ≡ occurrence_at (arguments_of words.now) at }
 {
     let weekday = word_as(words, at, weekday_of, Expected::Weekday)?;
     Ok((weekday, count_at(words, at + 1)?))
@@ -460,7 +419,6 @@ fn occurrence_at(words: &[u8], at: usize) -> Result<(Weekday, u8), UsageError>
 /// Parses the last word as a count. The default is 1.
 fn count_at(words: &[u8], at: usize) -> Result<u8, UsageError>
     requires { at + 1 < 2 ^ 64 }
-    ensures { result ≡ count_at (arguments_of words.now) at }
 {
     if ends_at(words, at) {
         return Ok(1);

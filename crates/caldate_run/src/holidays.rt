@@ -1,11 +1,12 @@
 //! Holidays, from a file with a date in each line.
-ghost use Rattle.std.specs.Prelude.{◌≡◌, ◌+◌, ◌<◌, ◌≤◌, ◌++◌, ◌∷◌, [], List, ℕ, Some, IfErr, IfOk, false, length, min, take};
+ghost use Rattle.std.specs.Result.{result_ok};
+ghost use Rattle.caldate_run.specs.Moves.{weekdays_except};
+ghost use Rattle.std.specs.Prelude.{option_map, ◌≡◌, ◌+◌, ◌<◌, ◌≤◌, ◌++◌, ◌∷◌, [], List, ℕ, Some, IfErr, IfOk, false, length, min, take};
 ghost use Rattle.cal_time.specs.Counted.{IsRising};
 ghost use Rattle.cal_time.specs.Date.{julian_day_at};
 ghost use Rattle.caldate_run.specs.Holidays.{AreHolidays, IsFirstInvalid, IsInvalidLine, is_left_out};
 ghost use Rattle.caldate_run.specs.Lines.{lines_of};
-ghost use Rattle.caldate_run.specs.Meanings.{Meanings};
-ghost use Rattle.caldate_run.specs.Zones.{AreOfFiles, days_in, days_of, file_in, holidays_named, workdays_of};
+ghost use Rattle.caldate_run.specs.Zones.{days_in, days_of, holidays_named};
 
 pub(crate) mod day_list;
 pub mod holiday_file;
@@ -113,9 +114,7 @@ fn is_left_out(text: &[u8]) -> bool
 }
 
 /// Returns the name in `FILE` or `--holidays=FILE`.
-pub fn file_in(word: &[u8]) -> &[u8]
-    ensures { result.now ≡ file_in word.now }
-{
+pub fn file_in(word: &[u8]) -> &[u8] {
     let (name, value) = cut_value(word);
     if name == b"--holidays".as_slice() {
         value
@@ -152,8 +151,7 @@ fn days_in<'a>(file: HolidayFile<'a>, name: &[u8]) -> Result<&'a [Date], ReadHol
 
 /// Returns Monday to Friday without the dates of the file with this name.
 pub fn workdays_of<'a>(files: &DataFiles<'a>, name: &[u8]) -> Option<Workdays<'a>>
-    ensures { (meanings : Meanings) → AreOfFiles files.now meanings
-        → result ≡ workdays_of meanings name.now }
+    ensures { result ≡ option_map weekdays_except (result_ok (holidays_named files.now name.now)) }
 {
     match holidays_named(files, name) {
         Ok(holidays) => Some(workdays_except(holidays)),

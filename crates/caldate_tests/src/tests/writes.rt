@@ -1,6 +1,7 @@
 //! Runs over writers that take one byte in each call, are interrupted or fail.
 use crate::tests::streams::{Dripping, Sipping};
 use crate::tests::{holds, holds_at, repeated, run_by};
+use caldate_run::args::asked_by;
 use caldate_run::program::perform;
 use caldate_run::run::ending::end;
 use caldate_run::run::excerpt::Excerpt;
@@ -205,7 +206,8 @@ fn check_kind<H: Abort + AllocGlobal>(rt: &H, arguments: &[u8], kind: ErrorKind)
     };
     let mut reported = Vec::new(rt.alloc());
     let ending = perform(
-        Some(arguments),
+        asked_by(Some(arguments), None, &DataFiles::none()),
+        arguments,
         &None,
         &DataFiles::none(),
         &mut INPUT,
