@@ -1,11 +1,11 @@
 -- The header, and the names of its fields.
-use Rattle.std.proofs.Common.{◌≡◌, ◌++◌, ◌∷◌, ◌∙◌, ◌+◌, ◌<◌, ◌≤◌, ℕ, Bool, List, [], Option, Some, ap, append_assoc, arith, cond, drop, false, get_or, length, length-append, length-take, refl, sym, take, true}
+use Rattle.std.proofs.Common.{◌≡◌, ◌++◌, ◌∷◌, ◌∙◌, ◌+◌, ◌<◌, ◌≤◌, ℕ, Bool, List, [], Option, Some, ap, append_assoc, arith, cond, drop, false, get_or, length, length-append, refl, sym, true}
 use Rattle.std.specs.Prelude.{◌&&◌, nat_le}
 use Rattle.std.proofs.lemmas.Bool.{false≢true}
 use Rattle.std.proofs.lemmas.Bool.Decides.{nat_tests}
-use Rattle.std.proofs.lemmas.List.{append-nil, length-map}
-use Rattle.caldate_run.specs.Fields.{fields_of, is_quote}
-use Rattle.caldate_run.specs.Header.{HasLine, field_name, first_part, has_name, header_of, is_pair, name_number, unescaped}
+use Rattle.std.proofs.lemmas.List.{append-nil}
+use Rattle.caldate_run.specs.Fields.{is_quote}
+use Rattle.caldate_run.specs.Header.{HasLine, first_part, has_name, header_of, is_pair, name_number, unescaped}
 use Rattle.caldate_run.specs.Lines.{split_input, text_of}
 use Rattle.caldate_run.specs.RunStates.{FirstEnds, NoEnd}
 use Rattle.caldate_run.specs.declared.request.Field.{Field}

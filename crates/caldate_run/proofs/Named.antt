@@ -1,6 +1,5 @@
 -- Runs with names of fields.
-use denote.Ref.{Bor}
-use Rattle.std.proofs.Common.{◌≡◌, ◌⊎◌, ◌<◌, ◌∙◌, ℕ, ℤ, List, Bool, false, Option, Some, Result, Ok, Err, inl, inr, length, subst, sym}
+use Rattle.std.proofs.Common.{◌≡◌, ◌⊎◌, ◌<◌, ℕ, List, Bool, false, Option, Some, Result, Ok, Err, inl, inr, length, subst, sym}
 use Rattle.std.specs.Prelude.{MatchResult}
 use Rattle.caldate_run.specs.Ending.{Says}
 use Rattle.caldate_run.specs.Header.{EndsNamed, HasHeader, HasLine, header_of, numbered, numbers_in}

@@ -1,17 +1,11 @@
 -- The words `today` and `now`, and the moment that they mean.
-use Rattle.std.specs.Prelude.{◌&&◌, ◌==◌, ◌%◌, Bool, ℤ, pos, int_le, nat_lt, unsigned_abs, List, ℕ, codes, bytes_eq, Option, Some, None, option_map, if◌then◌else◌}
+use Rattle.std.specs.Prelude.{◌&&◌, ◌==◌, ◌%◌, Bool, ℤ, pos, int_le, nat_lt, unsigned_abs, List, ℕ, Option, Some, None, if◌then◌else◌}
 use Rattle.cal_time.specs.Date.{year_at}
 use Rattle.cal_datetime.specs.DateTime.{clamped_date_time, date_at}
 use Rattle.cal_datetime.specs.OffsetDateTime.{LocalAndOffset, instant, local_at, unix_nanoseconds, unix_seconds}
-use Rattle.cal_text.specs.AnyForm.{date_text}
 use Rattle.cal_text.specs.Rfc3339.{moment_text}
 use Rattle.cal_text.specs.UnixText.{unix_text}
-use Rattle.cal_text.specs.declared.any.DateForm.TheVariants.{Calendar}
-use Rattle.cal_text.specs.declared.any.DateOrMoment.{DateOrMoment}
-use Rattle.cal_text.specs.declared.any.DateOrMoment.TheVariants.{Date, Moment}
-use Rattle.cal_text.specs.declared.any.MomentForm.TheVariants.{Rfc3339}
 use Rattle.cal_zone.specs.Timeline.{Timeline, offset_at}
-use Rattle.caldate_run.specs.declared.request.Clock.{Clock}
 
 -- The moment at z of UTC, at the offset that a zone has then, or at UTC. A local date-time past the
 -- range is clamped to it.

@@ -1,5 +1,5 @@
 -- TEXT of `until` and `since` in other fields of the line.
-use Rattle.std.specs.Prelude.{◌≡◌, ℕ, List, MatchOption, Option, Some, None, is_some, option_and_then, option_map, Result, Ok, Err}
+use Rattle.std.specs.Prelude.{◌≡◌, ℕ, List, MatchOption, Option, Some, None, option_and_then, option_map, Result, Ok, Err}
 use Rattle.cal_text.specs.declared.any.DateOrMoment.{DateOrMoment}
 use Rattle.caldate_run.specs.Answers.{Answer, IsAnswer, IsNotRead, IsReadAs}
 use Rattle.caldate_run.specs.Fields.{selected_text, with_numbers}

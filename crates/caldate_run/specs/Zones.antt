@@ -1,8 +1,6 @@
 -- The zones and the holidays of names: the files, what they say, and why a name has none.
 use denote.Ref.{Bor}
-use Rattle.std.specs.Prelude.{◌≡◌, ℕ, ◌+◌, ◌==◌, ◌&&◌, ◌||◌, nat_le, not, Bool, false, is_none, List, [], ◌∷◌, ◌++◌, drop, position, bytes_eq, codes, Option, Some, None, option_map, Result, Ok, Err, if◌then◌else◌}
-use Rattle.std.specs.Option.{option_map_or}
-use Rattle.std.specs.Result.{result_ok}
+use Rattle.std.specs.Prelude.{◌≡◌, ℕ, ◌+◌, ◌==◌, ◌&&◌, ◌||◌, nat_le, not, Bool, false, is_none, List, [], ◌∷◌, ◌++◌, position, bytes_eq, Option, Some, None, Result, Ok, Err, if◌then◌else◌}
 use Rattle.cal_tzif.specs.File.{IsFile, IsFileError}
 use Rattle.cal_zone.specs.Timeline.{Timeline}
 use Rattle.caldate_run.specs.declared.holidays.holiday_file.HolidayFile.{HolidayFile}

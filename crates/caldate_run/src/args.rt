@@ -40,7 +40,7 @@ use crate::request::{Clock, Command, DayMove, Field, Filter, Place, Policy, Requ
 use crate::zones::{DataFiles, is_zone_like, zone_of};
 use cal_datetime::{OffsetDateTime, PlainDateTime};
 use cal_schedule::Workdays;
-use cal_time::{SignedDuration, UtcOffset, Weekday};
+use cal_time::{SignedDuration, Weekday};
 use cal_zone::Zone;
 
 /// Parses arguments with zero bytes between them, or `None` if they are too long.
