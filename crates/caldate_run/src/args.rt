@@ -25,7 +25,7 @@ use crate::args::listing::list_of;
 use crate::args::names::{CommandName, Verb};
 use crate::args::offset::offset_of;
 use crate::args::options::{
-    Options, assumptions_in, conflict_in, field_of, options_of, readers_in,
+    Options, assumptions_in, conflict_in, field_of, options_of, readers_in, zone_of,
 };
 use crate::args::spelling::{
     command_of, minutes_of, minutes_word, parse_i64, parse_u8, period_of, start_of, unit_of,
@@ -34,21 +34,24 @@ use crate::args::spelling::{
 use crate::args::target::target_at;
 use crate::args::usage_error::{Expected, UsageError, usage_error_at};
 use crate::args::words::{cut, ended, ends_at, only_at, word_as, word_at};
+use crate::data_files::DataFiles;
 use crate::field_name::FieldName;
 use crate::on_invalid::OnInvalid;
 use crate::request::{Clock, Command, DayMove, Field, Filter, Place, Policy, Request, TimeUnit};
-use crate::zones::{DataFiles, is_zone_like, zone_of};
+use crate::run::lines::next_line;
+use crate::run::quoting::Quoting;
+use crate::zones::is_zone_like;
 use cal_datetime::{OffsetDateTime, PlainDateTime};
 use cal_schedule::Workdays;
 use cal_time::{SignedDuration, Weekday};
 use cal_zone::Zone;
 
 /// Parses arguments with zero bytes between them, or `None` if they are too long.
-pub fn asked_by<'a>(
+pub fn asked_by<'a, D: DataFiles<'a>>(
     arguments: Option<&'a [u8]>,
     now: Option<PlainDateTime>,
-    files: &DataFiles<'a>,
-) -> Result<Command<'a>, UsageError>
+    files: &mut D,
+) -> Result<Command<'a>, UsageError<'a>>
     ensures steps { IfOk result HasValidStep }
 {
     match arguments {
@@ -60,11 +63,11 @@ pub fn asked_by<'a>(
 /// Parses arguments with zero bytes between them, or returns the first invalid or missing word. In
 /// `add 1 fortnight` the word at index 2 is not a unit. The words `today` and `now` mean the
 /// date-time `now`, which is at UTC.
-pub fn parse_args<'a>(
+pub fn parse_args<'a, D: DataFiles<'a>>(
     words: &'a [u8],
     now: Option<PlainDateTime>,
-    files: &DataFiles<'a>,
-) -> Result<Command<'a>, UsageError>
+    files: &mut D,
+) -> Result<Command<'a>, UsageError<'a>>
     ensures steps { IfOk result HasValidStep }
 {
     let nothing = usage_error_at(0, Expected::Something);
@@ -88,11 +91,11 @@ pub fn parse_args<'a>(
 }
 
 /// Parses the text after `--date`, options and a request.
-fn once_of<'a>(
+fn once_of<'a, D: DataFiles<'a>>(
     words: &'a [u8],
     now: Option<PlainDateTime>,
-    files: &DataFiles<'a>,
-) -> Result<Command<'a>, UsageError>
+    files: &mut D,
+) -> Result<Command<'a>, UsageError<'a>>
     ensures steps { IfOk result HasValidStep }
 {
     let Some(rest) = cut(words).1 else {
@@ -102,7 +105,19 @@ fn once_of<'a>(
     if text == b"".as_slice() {
         return Err(usage_error_at(1, Expected::Target));
     }
-    Ok(once_command(filter_at(words, rest, 2, now, files)?))
+    let filter = filter_at(words, rest, 2, now, files)?;
+    if has_more_lines(filter.field, text) {
+        return Err(usage_error_at(1, Expected::Target));
+    }
+    Ok(once_command(filter))
+}
+
+/// Returns whether the text has more than one line, or with `--csv` more than one record.
+fn has_more_lines(field: Option<Field>, text: &[u8]) -> bool {
+    match next_line(field, Quoting::Ready, text) {
+        Some((_line, rest)) => !rest.is_empty(),
+        None => false,
+    }
 }
 
 /// Returns the command for the lines of the input.
@@ -135,13 +150,13 @@ fn named_field(filter: &Filter<'_>) -> Option<Field> {
 }
 
 /// Parses options and a request from the word at an index on, where `rest` is.
-fn filter_at<'a>(
+fn filter_at<'a, D: DataFiles<'a>>(
     words: &'a [u8],
     rest: Option<&'a [u8]>,
     at: usize,
     now: Option<PlainDateTime>,
-    files: &DataFiles<'a>,
-) -> Result<Filter<'a>, UsageError>
+    files: &mut D,
+) -> Result<Filter<'a>, UsageError<'a>>
     requires few { at ≤ 2 }
 {
     let (options, at) = options_of(rest, at, files)?;
@@ -157,7 +172,7 @@ fn filter_with<'a>(
     at: usize,
     options: Options<'a>,
     request: Request<'a>,
-) -> Result<Filter<'a>, UsageError> {
+) -> Result<Filter<'a>, UsageError<'static>> {
     if let Some(expected) = conflict_with_request(&options, &request) {
         return Err(usage_error_at(at, expected));
     }
@@ -232,12 +247,12 @@ fn default_mode(request: &Request<'_>, part: bool) -> OnInvalid {
 }
 
 /// Parses the request whose verb has this index.
-fn request_at<'a>(
+fn request_at<'a, D: DataFiles<'a>>(
     words: &'a [u8],
     at: usize,
     now: Option<OffsetDateTime>,
-    files: &DataFiles<'a>,
-) -> Result<Request<'a>, UsageError>
+    files: &mut D,
+) -> Result<Request<'a>, UsageError<'a>>
     requires { at + 5 < 2 ^ 64 }
 {
     let verb = word_as(words, at, verb_of, expected_verb(at))?;
@@ -245,13 +260,13 @@ fn request_at<'a>(
 }
 
 /// Parses the arguments of a verb.
-fn request_of<'a>(
+fn request_of<'a, D: DataFiles<'a>>(
     verb: Verb,
     words: &'a [u8],
     at: usize,
     now: Option<OffsetDateTime>,
-    files: &DataFiles<'a>,
-) -> Result<Request<'a>, UsageError>
+    files: &mut D,
+) -> Result<Request<'a>, UsageError<'a>>
     requires { at + 4 < 2 ^ 64 }
 {
     match verb {
@@ -283,14 +298,14 @@ fn request_of<'a>(
 }
 
 /// Parses `WEEKDAY`.
-fn weekday_at(words: &[u8], at: usize) -> Result<Weekday, UsageError>
+fn weekday_at(words: &[u8], at: usize) -> Result<Weekday, UsageError<'static>>
     requires { at + 1 < 2 ^ 64 }
 {
     only_at(words, at, weekday_of, Expected::Weekday)
 }
 
 /// Parses `FORM` or `FORMAT`.
-fn to_at(words: &[u8], at: usize) -> Result<Request<'static>, UsageError>
+fn to_at(words: &[u8], at: usize) -> Result<Request<'static>, UsageError<'static>>
     requires { at + 1 < 2 ^ 64 }
 {
     let usage_error = usage_error_at(at, Expected::Form);
@@ -300,7 +315,7 @@ fn to_at(words: &[u8], at: usize) -> Result<Request<'static>, UsageError>
 }
 
 /// Parses `PERIOD`, `day`, `hour`, `minute` or `N minutes`.
-fn start_at(words: &[u8], at: usize) -> Result<Request<'static>, UsageError>
+fn start_at(words: &[u8], at: usize) -> Result<Request<'static>, UsageError<'static>>
     requires { at + 2 < 2 ^ 64 }
 {
     match word_at(words, at).and_then(minutes_of) {
@@ -309,7 +324,7 @@ fn start_at(words: &[u8], at: usize) -> Result<Request<'static>, UsageError>
     }
 }
 
-fn floor_at(words: &[u8], at: usize, minutes: u16) -> Result<Request<'static>, UsageError>
+fn floor_at(words: &[u8], at: usize, minutes: u16) -> Result<Request<'static>, UsageError<'static>>
     requires { at + 1 < 2 ^ 64 }
 {
     only_at(words, at, minutes_word, Expected::Minutes)?;
@@ -317,7 +332,7 @@ fn floor_at(words: &[u8], at: usize, minutes: u16) -> Result<Request<'static>, U
 }
 
 /// Parses `PERIOD`.
-fn end_at(words: &[u8], at: usize) -> Result<Request<'static>, UsageError>
+fn end_at(words: &[u8], at: usize) -> Result<Request<'static>, UsageError<'static>>
     requires { at + 1 < 2 ^ 64 }
 {
     let period = only_at(words, at, period_of, Expected::Period)?;
@@ -325,7 +340,11 @@ fn end_at(words: &[u8], at: usize) -> Result<Request<'static>, UsageError>
 }
 
 /// Parses `OFFSET` or `ZONE`.
-fn place_at<'a>(words: &[u8], at: usize, files: &DataFiles<'a>) -> Result<Place<'a>, UsageError>
+fn place_at<'a, D: DataFiles<'a>>(
+    words: &'a [u8],
+    at: usize,
+    files: &mut D,
+) -> Result<Place<'a>, UsageError<'a>>
     requires { at + 1 < 2 ^ 64 }
 {
     if names_zone(words, at) {
@@ -344,16 +363,16 @@ fn names_zone(words: &[u8], at: usize) -> bool {
 }
 
 /// Parses `ZONE`.
-pub(crate) fn zone_at<'a>(
-    words: &[u8],
+pub(crate) fn zone_at<'a, D: DataFiles<'a>>(
+    words: &'a [u8],
     at: usize,
-    files: &DataFiles<'a>,
-) -> Result<Zone<'a>, UsageError>
+    files: &mut D,
+) -> Result<Zone<'a>, UsageError<'a>>
     requires { at + 1 < 2 ^ 64 }
 {
     let usage_error = usage_error_at(at, Expected::Zone);
-    let word = word_at(words, at).ok_or(usage_error)?;
-    let zone = zone_of(files, word).ok_or(usage_error)?;
+    let name = word_at(words, at).ok_or(usage_error)?;
+    let zone = zone_of(name, usage_error, files)?;
     ended(words, at + 1, zone)
 }
 
@@ -367,7 +386,7 @@ fn expected_verb(at: usize) -> Expected {
 }
 
 /// Parses `N` or `N UNIT`. The default unit is days.
-fn amount_at(words: &[u8], at: usize) -> Result<Request<'static>, UsageError>
+fn amount_at(words: &[u8], at: usize) -> Result<Request<'static>, UsageError<'static>>
     requires { at + 2 < 2 ^ 64 }
 {
     let number = word_as(words, at, parse_i64, Expected::Number)?;
@@ -379,7 +398,7 @@ fn amount_at(words: &[u8], at: usize) -> Result<Request<'static>, UsageError>
 }
 
 /// Parses the last word as a unit. The default is days.
-fn unit_at(words: &[u8], at: usize) -> Result<TimeUnit, UsageError>
+fn unit_at(words: &[u8], at: usize) -> Result<TimeUnit, UsageError<'static>>
     requires { at + 1 < 2 ^ 64 }
 {
     if ends_at(words, at) {
@@ -409,7 +428,7 @@ fn duration_of(number: i64, unit: u32) -> Option<Request<'static>> {
 }
 
 /// Parses `WEEKDAY` or `WEEKDAY N`.
-fn occurrence_at(words: &[u8], at: usize) -> Result<(Weekday, u8), UsageError>
+fn occurrence_at(words: &[u8], at: usize) -> Result<(Weekday, u8), UsageError<'static>>
     requires { at + 2 < 2 ^ 64 }
 {
     let weekday = word_as(words, at, weekday_of, Expected::Weekday)?;
@@ -417,7 +436,7 @@ fn occurrence_at(words: &[u8], at: usize) -> Result<(Weekday, u8), UsageError>
 }
 
 /// Parses the last word as a count. The default is 1.
-fn count_at(words: &[u8], at: usize) -> Result<u8, UsageError>
+fn count_at(words: &[u8], at: usize) -> Result<u8, UsageError<'static>>
     requires { at + 1 < 2 ^ 64 }
 {
     if ends_at(words, at) {

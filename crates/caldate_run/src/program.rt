@@ -31,7 +31,6 @@ use crate::run::run;
 use crate::run::run_error::RunError;
 use crate::streams::text::Text;
 use crate::streams::{Sink, Source};
-use crate::zones::DataFiles;
 use cal_datetime::PlainDateTime;
 use cal_time::ShortText;
 use std::env::Env;
@@ -46,10 +45,9 @@ const INVALID_ARGUMENTS: u8 = 2;
 /// If the arguments are invalid, this only writes one line to standard error, and the status is 2.
 #[tactic(auto, using(crate::proofs::Calls::sent_all, crate::proofs::Reported::no_reads))]
 pub fn perform<R: Source, W: Sink, E: Sink>(
-    asked: Result<Command<'_>, UsageError>,
+    asked: Result<Command<'_>, UsageError<'_>>,
     arguments: &[u8],
     now: &Option<PlainDateTime>,
-    files: &DataFiles<'_>,
     reader: &mut R,
     writer: &mut W,
     errors: &mut E,
@@ -134,7 +132,7 @@ pub fn perform<R: Source, W: Sink, E: Sink>(
         Ok(Command::Version) => end(write_all(writer, VERSION), errors),
         Err(usage_error) => Ending {
             status: INVALID_ARGUMENTS,
-            reported: report_usage_error(arguments, files, usage_error, errors),
+            reported: report_usage_error(arguments, usage_error, errors),
         },
     }
 }
@@ -142,10 +140,9 @@ pub fn perform<R: Source, W: Sink, E: Sink>(
 /// Performs the command as `perform` does, and reads the files as one input. Returns the ending of
 /// `perform`, with status 2 if a file couldn't be read.
 pub fn perform_on_files<S: Env + Files, I: Read + Drop, F: Sink + Drop, W: Sink, E: Sink>(
-    asked: Result<Command<'_>, UsageError>,
+    asked: Result<Command<'_>, UsageError<'_>>,
     arguments: &[u8],
     now: &Option<PlainDateTime>,
-    zones: &DataFiles<'_>,
     files: &mut Joined<NamedFiles<'_, S, I, F>>,
     writer: &mut W,
     errors: &mut E,
@@ -161,7 +158,7 @@ pub fn perform_on_files<S: Env + Files, I: Read + Drop, F: Sink + Drop, W: Sink,
         × ReportsOutcome outcome own (E.contents errors.old) (E.contents errors.new)) }
     ensures reported { Writes E.write_gives errors.old (write_failure result.reported) errors.new }
 {
-    let ending = perform(asked, arguments, now, zones, files, writer, errors);
+    let ending = perform(asked, arguments, now, files, writer, errors);
     Ending {
         status: files.texts.status(ending.status),
         reported: ending.reported,

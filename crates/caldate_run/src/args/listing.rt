@@ -8,7 +8,7 @@ use crate::args::words::{ends_at, found_at, keyword_at, word_as, word_at};
 use crate::args::zone_at;
 use crate::request::{Command, Listing, Occurrences, Span, Step, StepUnit, TimeUnit};
 use crate::run::lines::index_of;
-use crate::zones::DataFiles;
+use crate::data_files::DataFiles;
 use cal_datetime::OffsetDateTime;
 use cal_recurrence::{Recurrence, parse};
 use cal_text::DateOrMoment;
@@ -16,11 +16,11 @@ use cal_time::Date;
 
 /// Parses `list from A to B`, `list from A to B by N UNIT` or `list from A to B by RULE`, perhaps
 /// with `at ZONE`.
-pub fn list_of<'a>(
-    words: &[u8],
+pub fn list_of<'a, D: DataFiles<'a>>(
+    words: &'a [u8],
     now: &Option<OffsetDateTime>,
-    files: &DataFiles<'a>,
-) -> Result<Command<'a>, UsageError>
+    files: &mut D,
+) -> Result<Command<'a>, UsageError<'a>>
     ensures steps { IfOk result HasValidStep }
 {
     keyword_at(words, 1, b"from", Expected::From)?;
@@ -35,11 +35,11 @@ pub fn list_of<'a>(
 }
 
 /// Parses `A to B by RULE`, where A and B are two dates or two moments, perhaps with `at ZONE`.
-fn occurrences_of<'a>(
-    words: &[u8],
+fn occurrences_of<'a, D: DataFiles<'a>>(
+    words: &'a [u8],
     now: &Option<OffsetDateTime>,
-    files: &DataFiles<'a>,
-) -> Result<Occurrences<'a>, UsageError> {
+    files: &mut D,
+) -> Result<Occurrences<'a>, UsageError<'a>> {
     let first = found_at(words, 2, Expected::Target, *now)?;
     keyword_at(words, 3, b"to", Expected::UpTo)?;
     let span = span_from(words, &first, now)?;
@@ -50,11 +50,11 @@ fn occurrences_of<'a>(
 }
 
 /// Parses `at ZONE` after two moments and RULE, or the end of the words.
-fn span_at<'a>(
-    words: &[u8],
+fn span_at<'a, D: DataFiles<'a>>(
+    words: &'a [u8],
     span: Span<'a>,
-    files: &DataFiles<'a>,
-) -> Result<Span<'a>, UsageError> {
+    files: &mut D,
+) -> Result<Span<'a>, UsageError<'a>> {
     if ends_at(words, 7) {
         return Ok(span);
     }
@@ -71,7 +71,7 @@ fn span_from(
     words: &[u8],
     first: &DateOrMoment,
     now: &Option<OffsetDateTime>,
-) -> Result<Span<'static>, UsageError> {
+) -> Result<Span<'static>, UsageError<'static>> {
     match first {
         DateOrMoment::Date(_, date) => Ok(Span::Dates(*date, date_at(words, 4, now)?)),
         DateOrMoment::Moment(_, moment) => Ok(Span::Moments(*moment, moment_at(words, 4, now)?)),
@@ -79,7 +79,7 @@ fn span_from(
 }
 
 /// Parses the word at an index as a date.
-fn date_at(words: &[u8], at: usize, now: &Option<OffsetDateTime>) -> Result<Date, UsageError> {
+fn date_at(words: &[u8], at: usize, now: &Option<OffsetDateTime>) -> Result<Date, UsageError<'static>> {
     let found = found_at(words, at, Expected::Date, *now)?;
     date_in(&found).ok_or(usage_error_at(at, Expected::Date))
 }
@@ -96,7 +96,7 @@ fn moment_at(
     words: &[u8],
     at: usize,
     now: &Option<OffsetDateTime>,
-) -> Result<OffsetDateTime, UsageError> {
+) -> Result<OffsetDateTime, UsageError<'static>> {
     let found = found_at(words, at, Expected::Moment, *now)?;
     moment_in(&found).ok_or(usage_error_at(at, Expected::Moment))
 }
@@ -114,7 +114,7 @@ const EVERY_DAY: Step = Step {
 };
 
 /// Parses `by N UNIT` after the two dates. The default is every day.
-fn step_of(words: &[u8]) -> Result<Step, UsageError>
+fn step_of(words: &[u8]) -> Result<Step, UsageError<'static>>
     ensures steps { IfOk result IsStep }
 {
     if ends_at(words, 5) {
@@ -133,7 +133,7 @@ fn step_of(words: &[u8]) -> Result<Step, UsageError>
 }
 
 /// Parses the word at an index as a number from 1 to 4294967295.
-fn number_at(words: &[u8], at: usize) -> Result<u32, UsageError>
+fn number_at(words: &[u8], at: usize) -> Result<u32, UsageError<'static>>
     ensures { IfOk result (λ number. 1 ≤ number) }
 {
     match word_at(words, at) {

@@ -1,15 +1,16 @@
 //! The options before a request.
 ghost use Rattle.std.specs.Prelude.{◌+◌, ◌≤◌, ◌^◌, IfOk};
 
+use crate::answer::moves::workdays_except;
 use crate::args::formats::reader_of;
 use crate::args::names::{MODES, OPTIONS, OptionName, POLICIES, value_named};
 use crate::args::offset::offset_of;
 use crate::args::spelling::parse_i64;
 use crate::args::usage_error::{Expected, UsageError, usage_error_at};
 use crate::args::words::cut;
+use crate::data_files::DataFiles;
 use crate::field_name::FieldName;
 use crate::field_names::FieldNames;
-use crate::holidays::workdays_of;
 use crate::more_fields::{MAX_MORE, MoreFields};
 use crate::on_invalid::OnInvalid;
 use crate::reading::reader::{Assumptions, Reader};
@@ -18,7 +19,6 @@ use crate::reading::value_format::ValueFormat;
 use crate::reading::{Readers, Reading};
 use crate::request::{Field, FieldNumbers, Policy};
 use crate::run::lines::index_of;
-use crate::zones::{DataFiles, zone_of};
 use cal_schedule::Workdays;
 use cal_time::UtcOffset;
 use cal_zone::Zone;
@@ -89,17 +89,15 @@ pub enum OptionsAfter<'a> {
     Continued(Options<'a>, Option<OptionName>),
     /// The word is not an option.
     Ended(Options<'a>),
-    /// The word is not a valid value.
-    Invalid(Expected),
 }
 
 /// Parses the options from the word at an index on, and returns them with the index of the word
 /// after them.
-pub fn options_of<'a>(
+pub fn options_of<'a, D: DataFiles<'a>>(
     words: Option<&'a [u8]>,
     at: usize,
-    files: &DataFiles<'a>,
-) -> Result<(Options<'a>, usize), UsageError>
+    files: &mut D,
+) -> Result<(Options<'a>, usize), UsageError<'a>>
     requires { at ≤ 2 }
     ensures within { IfOk result (λ front. front.1 ≤ 2 ^ 63 + 2) }
 {
@@ -109,13 +107,12 @@ pub fn options_of<'a>(
     let mut left = words;
     while let Some(some) = left {
         let (word, rest) = cut(some);
-        match parse_word(options, given, word, files) {
+        match parse_word(options, given, word, index, files)? {
             OptionsAfter::Continued(more, option) => {
                 options = more;
                 given = option;
             }
             OptionsAfter::Ended(all) => return Ok((all, index)),
-            OptionsAfter::Invalid(expected) => return Err(usage_error_at(index, expected)),
         }
         left = rest;
         index += 1;
@@ -126,44 +123,39 @@ pub fn options_of<'a>(
     }
 }
 
-/// Parses one more word: an option, or if `given` is an option, its value.
-fn parse_word<'a>(
+/// Parses one more word, which has this index: an option, or if `given` is an option, its value.
+fn parse_word<'a, D: DataFiles<'a>>(
     options: Options<'a>,
     given: Option<OptionName>,
     word: &'a [u8],
-    files: &DataFiles<'a>,
-) -> OptionsAfter<'a> {
+    index: usize,
+    files: &mut D,
+) -> Result<OptionsAfter<'a>, UsageError<'a>> {
     if let Some(option) = given {
-        return after_value(options, option, word, files);
+        return after_value(options, option, word, index, files);
     }
     let (name, value) = cut_value(word);
     let Some(option) = option_in(&options, name) else {
-        return OptionsAfter::Ended(options);
+        return Ok(OptionsAfter::Ended(options));
     };
-    if takes_value(option) {
-        if is_joined(word) {
-            after_value(options, option, value, files)
-        } else {
-            OptionsAfter::Continued(options, Some(option))
-        }
-    } else if is_joined(word) {
-        OptionsAfter::Ended(options)
-    } else {
-        after_value(options, option, value, files)
+    match (takes_value(option), is_joined(word)) {
+        (true, false) => Ok(OptionsAfter::Continued(options, Some(option))),
+        (false, true) => Ok(OptionsAfter::Ended(options)),
+        _ => after_value(options, option, value, index, files),
     }
 }
 
 /// Returns the options after the value of one more option.
-fn after_value<'a>(
+fn after_value<'a, D: DataFiles<'a>>(
     options: Options<'a>,
     option: OptionName,
     value: &'a [u8],
-    files: &DataFiles<'a>,
-) -> OptionsAfter<'a> {
-    match with_value(options, option, value, files) {
-        Some(more) => OptionsAfter::Continued(more, None),
-        None => OptionsAfter::Invalid(expected_value(option)),
-    }
+    index: usize,
+    files: &mut D,
+) -> Result<OptionsAfter<'a>, UsageError<'a>> {
+    let invalid = usage_error_at(index, expected_value(option));
+    let more = with_value(options, option, value, invalid, files)?;
+    Ok(OptionsAfter::Continued(more, None))
 }
 
 /// Returns whether the word contains a `=`.
@@ -249,39 +241,64 @@ pub fn is_option(word: &[u8]) -> bool {
     }
 }
 
-/// Sets the option, or returns `None` if the value is invalid. An option without a value ignores it.
-fn with_value<'a>(
+/// Sets the option, or returns the error if the value is invalid. An option without a value ignores
+/// it.
+fn with_value<'a, D: DataFiles<'a>>(
     options: Options<'a>,
     option: OptionName,
     value: &'a [u8],
-    files: &DataFiles<'a>,
-) -> Option<Options<'a>> {
+    invalid: UsageError<'a>,
+    files: &mut D,
+) -> Result<Options<'a>, UsageError<'a>> {
     let mut more = options;
     match option {
-        OptionName::Invalid => more.on_invalid = Some(value_named(value, &MODES)?),
-        OptionName::Field => return with_named(more, name_in(value), field_in(value)?),
+        OptionName::Invalid => more.on_invalid = Some(value_named(value, &MODES).ok_or(invalid)?),
+        OptionName::Field => return with_named(more, value).ok_or(invalid),
         OptionName::Append => more.append = Some(FieldName::new(value)),
         OptionName::Csv => more.csv = true,
         OptionName::Header => more.header = true,
         OptionName::Scan => more.scan = true,
-        OptionName::Separator => more.separator = Some(byte_of(value)?),
-        OptionName::Skip => more.skip = Some(skip_of(value)?),
-        OptionName::Read => return with_reader(more, reader_of(value)?),
-        OptionName::Assume => more.offset = Some(offset_of(value)?),
-        OptionName::AssumeYear => more.year = Some(year_of(value)?),
-        OptionName::Zone => more.zone = Some(zone_of(files, value)?),
-        OptionName::Ambiguous => more.policy = Some(value_named(value, &POLICIES)?),
-        OptionName::Holidays => more.workdays = Some(workdays_of(files, value)?),
+        OptionName::Separator => more.separator = Some(byte_of(value).ok_or(invalid)?),
+        OptionName::Skip => more.skip = Some(skip_of(value).ok_or(invalid)?),
+        OptionName::Read => return with_reader(more, value).ok_or(invalid),
+        OptionName::Assume => more.offset = Some(offset_of(value).ok_or(invalid)?),
+        OptionName::AssumeYear => more.year = Some(year_of(value).ok_or(invalid)?),
+        OptionName::Zone => more.zone = Some(zone_of(value, invalid, files)?),
+        OptionName::Ambiguous => more.policy = Some(value_named(value, &POLICIES).ok_or(invalid)?),
+        OptionName::Holidays => more.workdays = Some(workdays_of(value, invalid, files)?),
     }
-    Some(more)
+    Ok(more)
 }
 
-/// Adds a field and its name, or returns `None` if four fields are given.
-fn with_named<'a>(
-    options: Options<'a>,
-    name: Option<FieldName<'a>>,
-    field: FieldNumbers,
-) -> Option<Options<'a>> {
+/// Returns the zone with this name, or the error with the reason why it has none.
+pub fn zone_of<'a, D: DataFiles<'a>>(
+    name: &'a [u8],
+    invalid: UsageError<'a>,
+    files: &mut D,
+) -> Result<Zone<'a>, UsageError<'a>> {
+    match files.zone(name) {
+        Ok(zone) => Ok(zone),
+        Err(error) => Err(invalid.because(error)),
+    }
+}
+
+/// Returns Monday to Friday without the holidays in the file with this name, or the error with the
+/// reason why it has none.
+fn workdays_of<'a, D: DataFiles<'a>>(
+    name: &[u8],
+    invalid: UsageError<'a>,
+    files: &mut D,
+) -> Result<Workdays<'a>, UsageError<'a>> {
+    match files.holidays(name) {
+        Ok(days) => Ok(workdays_except(days)),
+        Err(error) => Err(invalid.because(error)),
+    }
+}
+
+/// Adds a field and its name, or returns `None` if the value is invalid or four fields are given.
+fn with_named<'a>(options: Options<'a>, value: &'a [u8]) -> Option<Options<'a>> {
+    let field = field_in(value)?;
+    let name = name_in(value);
     let mut more = options;
     if more.fields.is_none() {
         more.fields = Some(field);
@@ -402,8 +419,9 @@ pub fn field_of(options: &Options<'_>) -> Option<Field> {
     })
 }
 
-/// Adds a form of `--read`, or returns `None` if four are given.
-fn with_reader(options: Options<'_>, reader: Reader) -> Option<Options<'_>> {
+/// Adds a form of `--read`, or returns `None` if the value is invalid or four are given.
+fn with_reader<'a>(options: Options<'a>, value: &[u8]) -> Option<Options<'a>> {
+    let reader = reader_of(value)?;
     let mut more = options;
     if more.readers.try_push(reader) {
         Some(more)

@@ -14,7 +14,7 @@ pub fn target_at<'a>(
     words: &'a [u8],
     at: usize,
     now: Option<OffsetDateTime>,
-) -> Result<(Target<'a>, Option<TimeUnit>), UsageError>
+) -> Result<(Target<'a>, Option<TimeUnit>), UsageError<'static>>
     requires { at + 4 < 2 ^ 64 }
 {
     if names_field(words, at) {
@@ -34,7 +34,7 @@ fn names_field(words: &[u8], at: usize) -> bool {
 }
 
 /// Parses `N`, `N-M` or `NAME`.
-fn other_at<'a>(words: &'a [u8], at: usize) -> Result<Target<'a>, UsageError> {
+fn other_at<'a>(words: &'a [u8], at: usize) -> Result<Target<'a>, UsageError<'static>> {
     let usage_error = usage_error_at(at, Expected::FieldNumber);
     let word = word_at(words, at).ok_or(usage_error)?;
     other_of(word).ok_or(usage_error)
@@ -48,7 +48,7 @@ fn other_of<'a>(word: &'a [u8]) -> Option<Target<'a>> {
 }
 
 /// Parses `in UNIT`, or returns `None` if the words end here.
-fn in_unit_at(words: &[u8], at: usize) -> Result<Option<TimeUnit>, UsageError>
+fn in_unit_at(words: &[u8], at: usize) -> Result<Option<TimeUnit>, UsageError<'static>>
     requires { at + 2 < 2 ^ 64 }
 {
     if ends_at(words, at) {

@@ -34,7 +34,7 @@ pub fn word_as<T: Drop, F: FnOnce(&[u8]) -> Option<T>>(
     at: usize,
     meaning: F,
     expected: Expected,
-) -> Result<T, UsageError>
+) -> Result<T, UsageError<'static>>
     requires { F.IsAlwaysCallable meaning }
 {
     word_at(words, at)
@@ -48,7 +48,7 @@ pub fn keyword_at(
     at: usize,
     name: &[u8],
     expected: Expected,
-) -> Result<(), UsageError> {
+) -> Result<(), UsageError<'static>> {
     match word_at(words, at) {
         Some(word) if word == name => Ok(()),
         _ => Err(usage_error_at(at, expected)),
@@ -61,7 +61,7 @@ pub fn found_at(
     at: usize,
     expected: Expected,
     now: Option<OffsetDateTime>,
-) -> Result<DateOrMoment, UsageError> {
+) -> Result<DateOrMoment, UsageError<'static>> {
     match word_at(words, at) {
         Some(word) => found_in(word, now).ok_or(usage_error_at(at, expected)),
         None => Err(usage_error_at(at, expected)),
@@ -84,7 +84,7 @@ pub fn ends_at(words: &[u8], at: usize) -> bool {
 }
 
 /// Returns `meaning` if the words end at the index or before it.
-pub fn ended<T: Drop>(words: &[u8], at: usize, meaning: T) -> Result<T, UsageError> {
+pub fn ended<T: Drop>(words: &[u8], at: usize, meaning: T) -> Result<T, UsageError<'static>> {
     if ends_at(words, at) {
         Ok(meaning)
     } else {
@@ -98,7 +98,7 @@ pub fn only_at<T: Drop, F: FnOnce(&[u8]) -> Option<T>>(
     at: usize,
     meaning: F,
     expected: Expected,
-) -> Result<T, UsageError>
+) -> Result<T, UsageError<'static>>
     requires calls { F.IsAlwaysCallable meaning }
     requires fits { at + 1 < 2 ^ 64 }
 {

@@ -227,7 +227,7 @@ fn push_file_message(line: &mut Buffer, name: &[u8], error: FileError)
 }
 
 /// Appends the name, with `?` for each byte that does not print.
-fn push_file_name(line: &mut Buffer, name: &[u8])
+pub(crate) fn push_file_name(line: &mut Buffer, name: &[u8])
     requires { length line.old + length name.now ≤ 65000 }
     ensures longer { length line.new ≡ length line.old + length name.now }
 {

@@ -1,4 +1,5 @@
 //! Runs over writers that take one byte in each call, are interrupted or fail.
+use crate::tests::memory_files::MemoryFiles;
 use crate::tests::streams::{Dripping, Sipping};
 use crate::tests::{holds, holds_at, repeated, run_by};
 use caldate_run::args::asked_by;
@@ -9,7 +10,6 @@ use caldate_run::run::no_answer::NoAnswer;
 use caldate_run::run::run_error::RunError;
 use caldate_run::run::tally::Tally;
 use caldate_run::run::unanswered::UnansweredLine;
-use caldate_run::zones::DataFiles;
 use std::io::ErrorKind;
 use std::process::Abort;
 use std::test::Fail;
@@ -206,10 +206,9 @@ fn check_kind<H: Abort + AllocGlobal>(rt: &H, arguments: &[u8], kind: ErrorKind)
     };
     let mut reported = Vec::new(rt.alloc());
     let ending = perform(
-        asked_by(Some(arguments), None, &DataFiles::none()),
+        asked_by(Some(arguments), None, &mut MemoryFiles),
         arguments,
         &None,
-        &DataFiles::none(),
         &mut INPUT,
         &mut writer,
         &mut reported,
