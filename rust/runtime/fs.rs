@@ -1,5 +1,5 @@
 //! Files that are read.
-use std::fs::{File, Metadata};
+pub use std::fs::{File, Metadata};
 use std::io::{Read, Result};
 
 /// Access to files.
