@@ -107,13 +107,6 @@ abbrev pub keeps : Request → Bool
 keeps (Keep bounds) = true
 keeps other = false
 
--- The request counts working days.
-abbrev pub counts_workdays : Request → Bool
-counts_workdays (Move (move.Workdays z)) = true
-counts_workdays (Until target (Some unit.Workdays)) = true
-counts_workdays (Since target (Some unit.Workdays)) = true
-counts_workdays other = false
-
 -- `keep` leaves out a line whose date or moment lies outside of its bounds.
 abbrev pub leaves_out : Request → DateOrMoment → Bool
 leaves_out (Keep bounds) found = option_map_or not (lies_in bounds found) false
