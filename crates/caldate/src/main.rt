@@ -33,24 +33,10 @@ fn main(rt: HostRuntime) -> ExitCode {
     let mut errors = rt.stderr();
     let Some(first) = joined.and_then(|joined| joined.first_file) else {
         let mut reader = rt.reader();
-        let ending = perform(
-            asked,
-            words,
-            &now,
-            &mut reader,
-            &mut writer,
-            &mut errors,
-        );
+        let ending = perform(asked, words, &now, &mut reader, &mut writer, &mut errors);
         return ExitCode::from(ending.status);
     };
     let mut input = Joined::new(NamedFiles::new(&rt, first, rt.reader(), rt.stderr()));
-    let ending = perform_on_files(
-        asked,
-        words,
-        &now,
-        &mut input,
-        &mut writer,
-        &mut errors,
-    );
+    let ending = perform_on_files(asked, words, &now, &mut input, &mut writer, &mut errors);
     ExitCode::from(ending.status)
 }

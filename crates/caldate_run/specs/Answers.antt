@@ -23,7 +23,6 @@ use Rattle.caldate_run.specs.Readers.{IsFoundBy, IsUnread}
 use Rattle.caldate_run.specs.declared.run.no_answer.NoAnswer.{NoAnswer}
 use Rattle.caldate_run.specs.declared.run.no_answer.NoAnswer.TheVariants as why
 use Rattle.caldate_run.specs.declared.request.DayMove.{DayMove}
-use Rattle.caldate_run.specs.declared.request.DayMove.TheVariants as move
 use Rattle.caldate_run.specs.declared.request.Filter.{Filter}
 use Rattle.caldate_run.specs.declared.request.Form.TheVariants.{Moment}
 use Rattle.caldate_run.specs.declared.request.Place.{Place}

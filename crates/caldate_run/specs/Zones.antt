@@ -1,5 +1,5 @@
 -- The zones of names: the names, and what their files say.
-use Rattle.std.specs.Prelude.{◌≡◌, ⊤, ℕ, ◌==◌, ◌&&◌, ◌||◌, nat_le, not, Bool, false, is_none, List, [], ◌∷◌, ◌++◌, position, Option, Result, Ok, Err}
+use Rattle.std.specs.Prelude.{⊤, ℕ, ◌==◌, ◌&&◌, ◌||◌, nat_le, not, Bool, false, is_none, List, [], ◌∷◌, ◌++◌, position, Option, Result, Ok, Err}
 use Rattle.std.specs.Io.KnownBytes.{Consumes, IsAtEnd}
 use Rattle.cal_tzif.specs.File.{IsFile, IsFileError}
 use Rattle.cal_zone.specs.Timeline.{Timeline}

@@ -10,7 +10,11 @@ use cal_datetime::OffsetDateTime;
 use cal_text::DateOrMoment;
 
 /// Parses `from A to B`, `after A` or `before B`.
-pub fn bounds_at(words: &[u8], at: usize, now: Option<OffsetDateTime>) -> Result<Bounds, UsageError<'static>>
+pub fn bounds_at(
+    words: &[u8],
+    at: usize,
+    now: Option<OffsetDateTime>,
+) -> Result<Bounds, UsageError<'static>>
     requires { at + 4 < 2 ^ 64 }
 {
     let unbound = usage_error_at(at, Expected::Bounds);
@@ -38,7 +42,11 @@ fn bound_at(
 }
 
 /// Parses `A to B`.
-fn range_at(words: &[u8], at: usize, now: Option<OffsetDateTime>) -> Result<Bounds, UsageError<'static>>
+fn range_at(
+    words: &[u8],
+    at: usize,
+    now: Option<OffsetDateTime>,
+) -> Result<Bounds, UsageError<'static>>
     requires { at + 3 < 2 ^ 64 }
 {
     let first = found_at(words, at, Expected::Target, now)?;

@@ -6,9 +6,9 @@ use crate::args::spelling::{parse_u32, unit_of};
 use crate::args::usage_error::{Expected, UsageError, usage_error_at};
 use crate::args::words::{ends_at, found_at, keyword_at, word_as, word_at};
 use crate::args::zone_at;
+use crate::data_files::DataFiles;
 use crate::request::{Command, Listing, Occurrences, Span, Step, StepUnit, TimeUnit};
 use crate::run::lines::index_of;
-use crate::data_files::DataFiles;
 use cal_datetime::OffsetDateTime;
 use cal_recurrence::{Recurrence, parse};
 use cal_text::DateOrMoment;
@@ -79,7 +79,11 @@ fn span_from(
 }
 
 /// Parses the word at an index as a date.
-fn date_at(words: &[u8], at: usize, now: &Option<OffsetDateTime>) -> Result<Date, UsageError<'static>> {
+fn date_at(
+    words: &[u8],
+    at: usize,
+    now: &Option<OffsetDateTime>,
+) -> Result<Date, UsageError<'static>> {
     let found = found_at(words, at, Expected::Date, *now)?;
     date_in(&found).ok_or(usage_error_at(at, Expected::Date))
 }

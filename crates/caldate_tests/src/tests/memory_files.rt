@@ -1,7 +1,4 @@
 //! Files of zones and holidays in memory.
-ghost use Rattle.std.specs.Prelude.{IfOk};
-ghost use Rattle.cal_time.specs.Counted.{IsRising};
-ghost use Rattle.cal_time.specs.Date.{julian_day_at};
 
 use cal_time::Date;
 use cal_tzif::parse;

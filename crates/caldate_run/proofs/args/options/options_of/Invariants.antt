@@ -4,7 +4,7 @@ use Rattle.caldate_run.proofs.args.options.options_of.Given as goal
 
 -- the index is at most the bytes so far
 abbrev pub invariant-loop-left : goal.invariant-loop-left
-invariant-loop-left l = l.index + bytes_left l.left ≤ 2 ^ 63 + 2
+invariant-loop-left g l = l.index + bytes_left l.left ≤ 2 ^ 63 + 2
 
 abbrev pub decreases-loop-left : goal.decreases-loop-left
-decreases-loop-left l = bytes_left l.left
+decreases-loop-left g l = bytes_left l.left
