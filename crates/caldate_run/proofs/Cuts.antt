@@ -7,7 +7,7 @@ use Rattle.std.proofs.lemmas.Bool.{eqb-true}
 use Rattle.std.proofs.lemmas.Bool.Decides.{nat_tests}
 use Rattle.std.proofs.lemmas.List.{append-nil, take_rest}
 use Rattle.std.proofs.lemmas.List.Splits.{join_with_byte-slice_split, length-slice_split}
-use Rattle.caldate_run.specs.Fields.{HasFirst, IsAfter, each_ended, fields_of, has_too_few, in_place_of, is_open, is_quote, joined_fields, part_of, quoting_after, split_outside_quotes, split_record, with_part}
+use Rattle.caldate_run.specs.Fields.{Cut, HasFirst, IsAfter, cut_of, each_begun, each_ended, fields_of, has_too_few, is_open, is_quote, joined_fields, quoting_after, split_outside_quotes, split_record}
 use Rattle.caldate_run.specs.declared.run.quoting.Quoting.{Quoting}
 use Rattle.caldate_run.specs.declared.run.quoting.Quoting.TheVariants.{Ready}
 use Rattle.caldate_run.specs.declared.request.Field.{Field}
@@ -90,19 +90,22 @@ further field count text rest first after cut whole h = record {
 }
 
 -- ---- the first field
+begun_join : (c : ℕ) (parts : List (List ℕ)) → 0 < length parts → each_begun c parts ≡ c ∷ join_with_byte c parts
+begun_join c [] h = absurd (omega (arith, h))
+begun_join c (part ∷ []) h = ap (λ l. c ∷ l) (append-nil part)
+begun_join c (part ∷ next ∷ parts) h = ap (λ l. c ∷ (part ++ l)) (begun_join c (next ∷ parts) (omega arith))
+
 pub first_of : (field : Field) (text : List ℕ) (n : ℕ)
     → (n < length text) × (fields_of field text ≡ take n text ∷ fields_of field (drop (n + 1) text)) × (text ≡ take n text ++ field.separator ∷ drop (n + 1) text)
     → HasFirst field text n
 first_of field text n (within, cut, whole) =
     let more = fields_of field (drop (n + 1) text) in
     let k : length (take n text) ≡ n = omega (arith, within, length-take n text) in
-    let rest : drop n text ≡ field.separator ∷ drop (n + 1) text =
-    ap (λ j. drop j text) (sym k) ∙ ap (drop (length (take n text))) whole ∙ drop-append_seam (take n text) (field.separator ∷ drop (n + 1) text) in
     record {
       others = more;
       fields = cut;
-      around = λ words. join_first field.separator words more (some_fields field (drop (n + 1) text))
-          ∙ ap (λ l. words ++ field.separator ∷ l) (join_fields field (drop (n + 1) text)) ∙ ap (λ l. words ++ l) (sym rest);
+      after = ap (λ j. drop j text) (sym k) ∙ ap (drop (length (take n text))) whole ∙ drop-append_seam (take n text) (field.separator ∷ drop (n + 1) text)
+          ∙ ap (λ l. field.separator ∷ l) (sym (join_fields field (drop (n + 1) text))) ∙ sym (begun_join field.separator more (some_fields field (drop (n + 1) text)));
     }
 
 -- ---- the fields that are asked for
@@ -110,8 +113,8 @@ first_of field text n (within, cut, whole) =
 pub record Found (field : Field) (text before part after : List ℕ) : Type 0 where
   pub has : has_too_few field text ≡ false
   pub asked : joined_fields field text ≡ part
-  pub around : (words : List ℕ) → join_with_byte field.separator (take (field.first - 1) (fields_of field text) ++ words ∷ drop (field.first - 1 + field.joined + 1) (fields_of field text))
-      ≡ before ++ words ++ after
+  pub front : each_ended field.separator (take (field.first - 1) (fields_of field text)) ≡ before
+  pub rest : each_begun field.separator (drop (field.first - 1 + field.joined + 1) (fields_of field text)) ≡ after
   pub whole : text ≡ before ++ part ++ after
 
 not_le : (n m : ℕ) → m < n → nat_le n m ≡ false
@@ -148,10 +151,8 @@ found field text rest last n a b first =
           (omega (arith, ap length all, a.many, b.many, length-append a.passed (b.passed ++ x ∷ first.others), length-append b.passed (x ∷ first.others)));
       asked = ap (λ l. join_with_byte c (take (field.joined + 1) l)) rest_is ∙ ap (join_with_byte c) (take_one b.passed first.others x field.joined (sym b.many))
           ∙ join_each c b.passed (x ∷ []) (omega arith);
-      around = λ words. ap (λ l. join_with_byte c (take (field.first - 1) parts ++ words ∷ l)) others_are
-          ∙ ap (λ l. join_with_byte c (l ++ words ∷ first.others)) (ap (take (field.first - 1)) all ∙ take_front a.passed (b.passed ++ x ∷ first.others) (field.first - 1) (sym a.many))
-          ∙ join_each c a.passed (words ∷ first.others) (omega arith) ∙ ap (λ l. each_ended c a.passed ++ l) (first.around words)
-          ∙ sym (append_assoc (each_ended c a.passed) words (drop n last));
+      front = ap (λ l. each_ended c l) (ap (take (field.first - 1)) all ∙ take_front a.passed (b.passed ++ x ∷ first.others) (field.first - 1) (sym a.many));
+      rest = ap (λ l. each_begun c l) others_are ∙ sym first.after;
       whole = a.whole ∙ ap (λ l. each_ended c a.passed ++ l)
           (b.whole ∙ ap (λ l. each_ended c b.passed ++ l) (sym (take-append-drop n last)) ∙ sym (append_assoc (each_ended c b.passed) x (drop n last)))
           ∙ sym (append_assoc (each_ended c a.passed) (each_ended c b.passed ++ x) (drop n last));
@@ -184,24 +185,26 @@ places field text rest last n start end a b within e f =
       omega (arith, f, within, ap length a.whole, length-append front rest, ap length b.whole, length-append middle last, length-append middle (take n last), length-take n last),
     )
 
--- ---- the fields that are asked for, and the words that replace them
+-- ---- the cut
 pub record IsCut (field : Field) (text before part after : List ℕ) : Type 0 where
-  pub part_is : part_of field text ≡ Some part
-  pub around : (words : List ℕ) → with_part field text words ≡ before ++ in_place_of field part words ++ after
+  pub cut_is : cut_of field text ≡ Some (record { front = before; part = part; rest = after })
   pub whole : text ≡ before ++ part ++ after
 
-cut : (field : Field) (text before part after : List ℕ) → Found field text before part after → IsCut field text before part after
-cut field text before part after h = record {
-  part_is = ap (λ b. cond b None (Some (joined_fields field text))) h.has ∙ ap Some h.asked;
-  around = λ words. ap (λ b. cond b text (join_with_byte field.separator (take (field.first - 1) (fields_of field text) ++ in_place_of field (joined_fields field text) words ∷ drop (field.first - 1 + field.joined + 1) (fields_of field text)))) h.has
-      ∙ ap (λ p. join_with_byte field.separator (take (field.first - 1) (fields_of field text) ++ in_place_of field p words ∷ drop (field.first - 1 + field.joined + 1) (fields_of field text))) h.asked
-      ∙ h.around (in_place_of field part words);
-  whole = h.whole;
-}
+abbrev made : List ℕ → List ℕ → List ℕ → Cut
+made before part after = record { front = before; part = part; rest = after }
 
-same_cut : (field : Field) (text b p a before part after : List ℕ) → b ≡ before → p ≡ part → a ≡ after → IsCut field text before part after → IsCut field text b p a
-same_cut field text b p a before part after e f g h =
-    subst (λ x. IsCut field text x p a) (sym e) (subst (λ y. IsCut field text before y a) (sym f) (subst (λ z. IsCut field text before part z) (sym g) h))
+cut : (field : Field) (text b p a before part after : List ℕ) → b ≡ before → p ≡ part → a ≡ after → Found field text before part after → IsCut field text b p a
+cut field text b p a before part after e f g h =
+    let parts = fields_of field text in
+    let c = field.separator in
+    let fronts = each_ended c (take (field.first - 1) parts) in
+    let rests = each_begun c (drop (field.first - 1 + field.joined + 1) parts) in
+    record {
+      cut_is = ap (λ (t : Bool). cond t None (Some (made fronts (joined_fields field text) rests))) h.has
+          ∙ ap (λ l. Some (made l (joined_fields field text) rests)) (h.front ∙ sym e) ∙ ap (λ l. Some (made b l rests)) (h.asked ∙ sym f)
+          ∙ ap (λ l. Some (made b p l)) (h.rest ∙ sym g);
+      whole = h.whole ∙ ap (λ l. l ++ part ++ after) (sym e) ∙ ap (λ l. b ++ l ++ after) (sym f) ∙ ap (λ l. b ++ p ++ l) (sym g);
+    }
 
 pub cut_at : (field : Field) (text rest last : List ℕ) (n start end : ℕ) → IsAfter field (field.first - 1) text rest → IsAfter field field.joined rest last
     → HasFirst field last n → n ≤ length last → start ≡ length text - length rest → end ≡ length text - length last + n
@@ -212,7 +215,7 @@ cut_at field text rest last n start end a b first within e f =
     let before = each_ended field.separator a.passed in
     let part = each_ended field.separator b.passed ++ take n last in
     let s = slices text before part (drop n last) start end h.whole at.0 at.1 in
-    same_cut field text _ _ _ before part (drop n last) s.front s.middle (take_rest text end ∙ s.back) (cut field text before part (drop n last) h)
+    cut field text _ _ _ before part (drop n last) s.front s.middle (take_rest text end ∙ s.back) h
 
 -- ---- a separator of a field that isn't in quotes
 plain_fields : (field : Field) (text : List ℕ) → field.csv ≡ false → fields_of field text ≡ slice_split (λ b. eqb b field.separator) text

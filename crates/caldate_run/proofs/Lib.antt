@@ -14,7 +14,7 @@ pub mod RecordFields
 pub mod NewFields
 pub mod NextMoments
 pub mod OneList
-pub mod Each
+pub mod PieceOuts
 pub mod Replied
 pub mod Reported
 pub mod DayLists
@@ -22,7 +22,6 @@ pub mod HolidayLines
 pub mod Steps
 pub mod OneCount
 pub mod OneAnswer
-pub mod OneReply
 pub mod Others
 pub mod Leads
 pub mod Listed
@@ -46,4 +45,3 @@ mod TextEnds
 mod TextStarts
 mod DigitStarts
 pub mod Scans
-pub mod OneScan

@@ -6,7 +6,7 @@ use Rattle.std.proofs.Math.Nat.{min-eq_left}
 use Rattle.std.proofs.lemmas.List.{append-nil, take-append-le, take_all}
 use Rattle.std.proofs.lemmas.Bool.{false≢true}
 use Rattle.caldate_run.specs.Lines.{all_lines, ended_lines, last_part, split_from, split_input, text_of, unended, without_empty_last, without_last}
-use Rattle.caldate_run.specs.Replies.{Describes, EndsAt, IsAnswerOf, IsReplyTo, stops}
+use Rattle.caldate_run.specs.Replies.{Describes, EndsAt, IsOutcome, IsReplyTo, stops}
 use Rattle.caldate_run.specs.Runs.{AnswersAll, AnswersEnded, AnswersFront, AppendsFront, IsPassedOn, AppendsReply, StopsAt}
 use Rattle.caldate_run.specs.RunStates.{AreReplies, AtLine, FirstEnds, IsDroppedFront, NoEnd, Replies, RunState, counted, no_lines, onto, passed, quoting_in, quoting_of}
 use Rattle.caldate_run.specs.declared.run.no_answer.NoAnswer.{NoAnswer}
@@ -220,14 +220,14 @@ none_passed : (filter : Filter) (out kept all : List ℕ) → passed filter.on_i
 none_passed filter out kept all none whole = sym (append-nil out) ∙ ap (λ p. out ++ p) (sym none) ∙ whole
 
 -- a line at which the run ends, and its description
-pub ends_at : (filter : Filter) (old now : Progress) (line : List ℕ) (any : NoAnswer) (reported : UnansweredLine) → now ≡ old
-    → AtLine old line (λ before whole. (stops filter.on_invalid ≡ true) × IsAnswerOf filter before (text_of whole) (Err any))
-    → AtLine now line (λ before whole. Describes before whole any reported) → Ends filter old line reported
+pub ends_at : (filter : Filter) (old now : Progress) (line : List ℕ) (any : NoAnswer) (reported : UnansweredLine) → now ≡ old → EndsUnanswered filter old line any
+    → ((before : ℕ) → now.tally.lines ≡ counted before → Describes before any reported) → Ends filter old line reported
 ends_at filter old now line any reported same ends described = λ kept before held number.
     let end = ends kept before held number in
-    let told = subst (λ progress. AtLine progress line (λ before whole. Describes before whole any reported)) same described kept before held number in
+    let told = described before (ap (λ (p : Progress). p.tally.lines) same ∙ number) in
     record {
-      is = subst (λ w. IsAnswerOf filter before (text_of (kept ++ line)) (Err w)) (sym told.why_is) end.1;
+      out = end.1.0;
+      is = subst (λ w. IsOutcome filter before (text_of (kept ++ line)) (Some w) end.1.0) (sym told.why_is) end.1.1;
       ends = end.0;
       reported_is = record { number_is = told.number_is; why_is = refl };
     }

@@ -1,37 +1,47 @@
 -- The part of a line to answer: all of its text, or some of its fields.
-use Rattle.std.specs.Prelude.{◌≡◌, ℕ, ◌+◌, ◌-◌, ◌==◌, ◌&&◌, ◌||◌, not, nat_le, Bool, true, false, List, [], ◌∷◌, ◌++◌, length, take, drop, Option, Some, None, option_map, slice_index, map, is_some, unwrap_or, if◌then◌else◌}
-use Rattle.std.specs.List.{join_with_byte, onto_first, slice_split, zip}
+use Rattle.std.specs.Prelude.{◌≡◌, ℕ, ◌+◌, ◌-◌, ◌==◌, ◌&&◌, ◌||◌, not, nat_le, nat_lt, get_or, Bool, true, false, List, [], ◌∷◌, ◌++◌, length, take, drop, Option, Some, None, option_map, slice_index, unwrap_or, if◌then◌else◌}
+use Rattle.std.specs.List.{join_with_byte, onto_first, slice_split}
 use Rattle.caldate_run.specs.declared.run.quoting.Quoting.{Quoting}
 use Rattle.caldate_run.specs.declared.run.quoting.Quoting.TheVariants.{Ready, Open, Bare}
 use Rattle.caldate_run.specs.declared.request.Field.{Field}
 use Rattle.caldate_run.specs.declared.request.FieldNumbers.{FieldNumbers}
+use Rattle.caldate_run.specs.declared.several_fields.RankedField.{RankedField}
 
 -- The same field with other numbers.
 abbrev pub with_numbers : Field → FieldNumbers → Field
 with_numbers field numbers = record field { first = numbers.first; joined = numbers.joined }
 
--- The fields after the first one, which have its separator.
-abbrev pub each_of : Field → List FieldNumbers → List Field
-each_of field [] = []
-each_of field (next ∷ more) = with_numbers field next ∷ each_of field more
+-- ---- several fields
+-- A field, if there is one, before those that begin after it.
+abbrev pub inserted_if : Option RankedField → List RankedField → List RankedField
+inserted_if None fields = fields
+inserted_if (Some field) [] = field ∷ []
+inserted_if (Some field) (next ∷ fields) = if nat_lt field.numbers.first next.numbers.first then field ∷ next ∷ fields else next ∷ inserted_if (Some field) fields
 
--- All fields to answer, if there are more than one.
-abbrev pub several : Option Field → List FieldNumbers → List Field
-several None more = []
-several (Some field) [] = []
-several (Some field) (next ∷ more) = field ∷ each_of field (next ∷ more)
+abbrev pub inserted : RankedField → List RankedField → List RankedField
+inserted field fields = inserted_if (Some field) fields
+
+-- The field with its own of these numbers, if that is given.
+abbrev pub renumber : List (Option ℕ) → RankedField → RankedField
+renumber numbers field = record field { numbers = record { first = unwrap_or (get_or numbers field.rank None) field.numbers.first; joined = field.numbers.joined } }
+
+-- The same for each field, from the left.
+abbrev pub renumbered : List (Option ℕ) → List RankedField → List RankedField
+renumbered numbers [] = []
+renumbered numbers (field ∷ fields) = inserted (renumber numbers field) (renumbered numbers fields)
+
+-- A field begins before the one to its left ends.
+abbrev pub overlap_after : ℕ → List RankedField → Bool
+overlap_after end [] = false
+overlap_after end (field ∷ fields) = nat_le field.numbers.first end || overlap_after (field.numbers.first + field.numbers.joined) fields
+
+abbrev pub overlap : List RankedField → Bool
+overlap fields = overlap_after 0 fields
 
 -- ---- names
 -- A name stands for each of up to four fields that is given by a name.
 abbrev pub no_names : List (Option (List ℕ))
 no_names = None ∷ None ∷ None ∷ None ∷ []
-
--- The field with this number in place of its own, if it is given.
-abbrev pub with_first : FieldNumbers × Option ℕ → FieldNumbers
-with_first field = record { first = unwrap_or field.1 field.0.first; joined = field.0.joined }
-
-abbrev pub with_firsts : List FieldNumbers → List (Option ℕ) → List FieldNumbers
-with_firsts fields numbers = map with_first (zip fields numbers)
 
 -- ---- quotes
 -- A quote is byte 34.
@@ -116,42 +126,43 @@ escaped quoted words = if quoted then doubled words else in_quotes words
 abbrev pub end_of_field : Field → Bool → List ℕ → List ℕ
 end_of_field field quoted words = if quoted then doubled words ++ 34 ∷ [] else as_field field words
 
--- ---- the text to answer
--- The part of a text that the fields are, if it has them.
-abbrev pub part_of : Field → List ℕ → Option (List ℕ)
-part_of field text = if has_too_few field text then None else Some (joined_fields field text)
+-- ---- a field that is cut out of a text
+-- Each of these fields, with a separator after it, or before it.
+abbrev pub each_ended : ℕ → List (List ℕ) → List ℕ
+each_ended separator [] = []
+each_ended separator (part ∷ parts) = part ++ separator ∷ each_ended separator parts
 
--- The text to answer is the whole text, or the fields to answer within their quotes, if the text
--- has them.
-abbrev pub selected_text : Option Field → List ℕ → Option (List ℕ)
-selected_text None text = Some text
-selected_text (Some field) text = option_map (within_quotes field) (part_of field text)
+abbrev pub each_begun : ℕ → List (List ℕ) → List ℕ
+each_begun separator [] = []
+each_begun separator (part ∷ parts) = separator ∷ (part ++ each_begun separator parts)
 
--- The words replace the fields to answer, if the text has them. The separators around them stay.
-abbrev pub with_part : Field → List ℕ → List ℕ → List ℕ
-with_part field text words =
-    if has_too_few field text then text else
-    join_with_byte field.separator (take (field.first - 1) (fields_of field text)
-    ++ in_place_of field (joined_fields field text) words ∷ drop (field.first - 1 + field.joined + 1) (fields_of field text))
+-- The fields to answer, with the bytes before and after them.
+pub record Cut : Type 0 where
+  pub front : List ℕ
+  pub part : List ℕ
+  pub rest : List ℕ
+
+-- The cut of a text that has the fields.
+abbrev pub cut_of : Field → List ℕ → Option Cut
+cut_of field text =
+    if has_too_few field text then None else Some (record {
+      front = each_ended field.separator (take (field.first - 1) (fields_of field text));
+      part = joined_fields field text;
+      rest = each_begun field.separator (drop (field.first - 1 + field.joined + 1) (fields_of field text));
+    })
+
+-- The text of the fields, if the text of the line has them.
+abbrev pub selected_text : Field → List ℕ → Option (List ℕ)
+selected_text field text = option_map (λ cut. within_quotes field cut.part) (cut_of field text)
 
 -- The words are a new last field.
 abbrev pub with_last : Field → List ℕ → List ℕ → List ℕ
 with_last field text words = text ++ field.separator ∷ as_field field words
 
--- The text with its answer, or with the words in place of one.
-abbrev pub text_with : Option Field → List ℕ → List ℕ → List ℕ
-text_with None text words = words
-text_with (Some field) text words = if field.appends then with_last field text words else with_part field text words
-
 -- The text without an answer. A field that would be new is empty.
 abbrev pub text_without : Option Field → List ℕ → List ℕ
 text_without None text = text
 text_without (Some field) text = if field.appends then text ++ field.separator ∷ [] else text
-
--- Each of these fields, with a separator after it.
-abbrev pub each_ended : ℕ → List (List ℕ) → List ℕ
-each_ended separator [] = []
-each_ended separator (part ∷ parts) = part ++ separator ∷ each_ended separator parts
 
 -- The text begins with this many fields, each with its separator, and the rest has the others.
 pub record IsAfter (field : Field) (count : ℕ) (text rest : List ℕ) : Type 0 where
@@ -160,8 +171,8 @@ pub record IsAfter (field : Field) (count : ℕ) (text rest : List ℕ) : Type 0
   pub fields : fields_of field text ≡ passed ++ fields_of field rest
   pub whole : text ≡ each_ended field.separator passed ++ rest
 
--- The first field of the text has this length. Any words may replace it.
+-- The first field of the text has this length, and the others come after it.
 pub record HasFirst (field : Field) (text : List ℕ) (n : ℕ) : Type 0 where
   pub others : List (List ℕ)
   pub fields : fields_of field text ≡ take n text ∷ others
-  pub around : (words : List ℕ) → join_with_byte field.separator (words ∷ others) ≡ words ++ drop n text
+  pub after : drop n text ≡ each_begun field.separator others

@@ -1,9 +1,9 @@
 -- The header, the first line of an input, and fields by their names in it.
-use Rattle.std.specs.Prelude.{◌⊎◌, ℕ, ◌+◌, ◌<◌, ◌&&◌, nat_le, nat_lt, Bool, true, false, unwrap_or, drop, get_or, List, [], ◌∷◌, ◌++◌, bytes_eq, codes, length, MatchResult, Option, Some, None, Result, Ok, Err, slice_index, if◌then◌else◌}
+use Rattle.std.specs.Prelude.{◌⊎◌, ℕ, ◌+◌, ◌<◌, ◌&&◌, nat_le, nat_lt, Bool, true, false, unwrap_or, get_or, List, [], ◌∷◌, ◌++◌, bytes_eq, codes, length, MatchBool, MatchResult, Option, Some, None, Result, Ok, Err, slice_index, if◌then◌else◌}
 use Rattle.std.specs.Option.{option_map_or}
 use Rattle.std.specs.Io.KnownBytes.{Consumes, IsAtEnd}
 use Rattle.caldate_run.specs.Ending.{Says}
-use Rattle.caldate_run.specs.Fields.{fields_of, is_quote, is_quoted, no_names, with_firsts, within_quotes}
+use Rattle.caldate_run.specs.Fields.{fields_of, is_quote, is_quoted, no_names, renumbered, overlap, within_quotes}
 use Rattle.caldate_run.specs.Lines.{split_input, text_of}
 use Rattle.caldate_run.specs.Room.{longest_text}
 use Rattle.caldate_run.specs.RunStates.{NoEnd}
@@ -89,19 +89,20 @@ with_number (Some n) request = with_target (Fields (record { first = n; joined =
 abbrev pub numbered : Filter → Field → (List (Option ℕ) × Option ℕ) → Filter
 numbered filter field numbers = record filter {
   field = Some (record field { first = unwrap_or (get_or numbers.0 0 None) field.first });
-  more = with_firsts filter.more (drop 1 numbers.0);
+  several = renumbered numbers.0 filter.several;
   names = no_names;
   request = with_number numbers.1 filter.request;
 }
 
 -- The reader gave `front` first. If a read failed before the header ended, the run stops. Otherwise
 -- the filter runs over the whole input with the numbers that the header gives its names. If the
--- header lacks a name, the run stops with the error of the header.
+-- header lacks a name, or two fields overlap, the run stops with the error of the header.
 pub record EndsNamed (filter : Filter) (field : Field) (old : Option (List ℕ)) (Runs : Filter → Result Unit RunError → Type 0) (Stops : Bool → List ℕ → Type 0) : Type 0 where
   pub front : List ℕ
   pub left : Option (List ℕ)
   pub given : Consumes old left front
   pub ends : (NoEnd (Some field) Ready front × ((words : List ℕ) × Says 2 words × Stops true words))
       ⊎ (HasHeader field left front × MatchResult (numbers_in filter field (header_of field front))
-      (λ numbers. (outcome : Result Unit RunError) × Runs (numbered filter field numbers) outcome)
+      (λ numbers. MatchBool (overlap (numbered filter field numbers).several) ((words : List ℕ) × Says 2 words × Stops false words)
+      ((outcome : Result Unit RunError) × Runs (numbered filter field numbers) outcome))
       (λ name. (words : List ℕ) × Says 2 words × Stops false words))

@@ -2,10 +2,10 @@
 use Rattle.std.specs.Prelude.{◌≡◌, ◌⊎◌, ℕ, ⊤, ◌<◌, Bool, true, false, List, [], ◌∷◌, ◌++◌, length, is_some, unwrap_or, Option, Some, None, Result, Ok, Err}
 use Rattle.std.specs.Io.KnownBytes.{Appends, Consumes, IsAtEnd}
 use Rattle.caldate_run.specs.Answers.{Answer}
-use Rattle.caldate_run.specs.Lines.{all_lines, ended_lines, unended}
-use Rattle.caldate_run.specs.Replies.{EndsAt, IsReplyTo}
+use Rattle.caldate_run.specs.Lines.{all_lines, ended_lines, text_of, unended}
+use Rattle.caldate_run.specs.Replies.{EndsAt, IsOutcome, IsReplyTo, stops}
 use Rattle.caldate_run.specs.Room.{longest_text}
-use Rattle.caldate_run.specs.RunStates.{AreReplies, IsDroppedFront, Replies, RunState, counted, no_lines, passed}
+use Rattle.caldate_run.specs.RunStates.{AreReplies, AtLine, IsDroppedFront, Replies, RunState, counted, no_lines, passed}
 use Rattle.caldate_run.specs.declared.run.run_error.RunError.{RunError}
 use Rattle.caldate_run.specs.declared.run.run_error.RunError.TheVariants.{Read, Write, Stopped, Unanswered}
 use Rattle.caldate_run.specs.declared.run.no_answer.NoAnswer.{NoAnswer}
@@ -37,6 +37,18 @@ AppendsReply IsReply mode progress tally line old new =
     (kept : List ℕ) (before : ℕ) → IsDroppedFront progress.is_long kept line
     → progress.tally.lines ≡ counted before
     → AppendsSome (λ words. IsReply before (kept ++ line) (passed mode kept ++ words) progress.tally tally) old new
+
+-- This goes out for the line that the run is at, without the front that was passed on.
+abbrev pub Leaves : Filter → Progress → List ℕ → Option NoAnswer → Bool → List ℕ → List ℕ → Type 0
+Leaves filter progress line why goes old new =
+    (kept : List ℕ) (before : ℕ) → IsDroppedFront progress.is_long kept line → progress.tally.lines ≡ counted before
+    → (out : Option (List ℕ)) × (words : List ℕ) × (new ≡ old ++ words) × (passed filter.on_invalid kept ++ words ≡ unwrap_or out [])
+    × (goes ≡ is_some out) × IsOutcome filter before (text_of (kept ++ line)) why out
+
+-- The run ends at the line that it is at, which has no answer for this reason.
+abbrev pub EndsUnanswered : Filter → Progress → List ℕ → NoAnswer → Type 0
+EndsUnanswered filter progress line any =
+    AtLine progress line (λ before whole. (stops filter.on_invalid ≡ true) × ((out : Option (List ℕ)) × IsOutcome filter before (text_of whole) (Some any) out))
 
 -- The error is a failed write.
 abbrev pub IsOfWrite : RunError → Type 0

@@ -156,6 +156,16 @@ pub(crate) fn report_header_error<W: Sink>(
     write_all(writer, words.as_bytes())
 }
 
+/// Writes that fields overlap, in one line.
+#[tactic(auto, using(crate::proofs::Calls::sent_all))]
+pub(crate) fn report_overlap<W: Sink>(writer: &mut W) -> Result<(), RunError>
+    ensures words { (words : List ℕ) × (0 < length words)
+        × WritesPage words result (W.contents writer.old) (W.contents writer.new) }
+    ensures writes { Writes W.write_gives writer.old (write_failure result) writer.new }
+{
+    write_all(writer, b"caldate: fields of --field can't overlap\n")
+}
+
 /// Appends the message, with the program's name and a line feed.
 fn push_header_error(words: &mut Buffer, field: Field, name: &[u8], header: &[u8])
     requires { words.old ≡ [] }

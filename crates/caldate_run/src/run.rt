@@ -9,13 +9,14 @@ ghost use Rattle.caldate_run.specs.Runs.{AppendsFront, IsRunResult, EndsFrom, Fa
 ghost use Rattle.caldate_run.specs.RunStates.{Advances, NoEnd, passed, quoting_of};
 ghost use Rattle.caldate_run.specs.declared.run.unanswered.UnansweredLine.{UnansweredLine};
 
-pub(crate) mod each;
 pub mod ending;
 pub mod excerpt;
 pub mod lines;
 pub(crate) mod named;
 pub mod no_answer;
 pub(crate) mod other;
+pub(crate) mod piece;
+pub(crate) mod pieces;
 pub(crate) mod progress;
 pub mod quoting;
 pub(crate) mod record;

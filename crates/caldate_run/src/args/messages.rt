@@ -17,7 +17,7 @@ macro_rules! messages {
 
 /// The error, the name of a missing argument, and the expected words, if the message has them. The
 /// rows have the order of `Expected`.
-pub(crate) const MESSAGES: [(Expected, &str, &str, &str); 58] = messages! {
+pub(crate) const MESSAGES: [(Expected, &str, &str, &str); 59] = messages! {
     Something: "missing command; try 'caldate --help'";
     Short: "arguments too long; expected at most 4096 bytes";
     Start: "unknown command", "command",
@@ -32,6 +32,7 @@ pub(crate) const MESSAGES: [(Expected, &str, &str, &str); 58] = messages! {
     CsvField: "--csv requires --field";
     AppendField: "--append requires --field";
     AppendFields: "--append requires a single --field";
+    Overlap: "fields of --field can't overlap";
     AppendKeep: "--append can't be used with keep";
     OtherField: "another field requires --field";
     CsvSeparator: "--csv can't use a quote as the separator";

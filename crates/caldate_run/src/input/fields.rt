@@ -1,34 +1,28 @@
 //! The fields of a line.
 ghost use Rattle.std.specs.Prelude.{◌≡◌, ◌+◌, ◌<◌, ◌≤◌, ◌++◌, ◌∷◌, [], ℕ, List, Some, None, IfSome, IsTrue, MatchOption, drop, false, length, slice_index, take};
-ghost use Rattle.caldate_run.specs.Fields.{HasFirst, IsAfter, fields_of, in_place_of, is_quote, is_quoted, part_of, selected_text, split_outside_quotes, with_part, within_quotes};
+ghost use Rattle.caldate_run.specs.Fields.{HasFirst, IsAfter, cut_of, fields_of, is_quote, is_quoted, selected_text, split_outside_quotes, within_quotes};
 ghost use Rattle.caldate_run.specs.declared.run.quoting.Quoting.TheVariants.{Ready};
 
 use crate::request::Field;
 use crate::run::lines::index_of;
 use crate::run::quoting::Quoting;
 
-/// Returns the fields of the text within their quotes, if the text has them. Without fields,
-/// returns the whole text.
-pub fn selected_text(field: Option<Field>, text: &[u8]) -> Option<&[u8]>
+/// Returns the text of the fields, within their quotes, if the text of the line has them.
+pub fn selected_text(field: Field, text: &[u8]) -> Option<&[u8]>
     ensures asked { MatchOption result (selected_text field text.now ≡ None)
         (λ asked. selected_text field text.now ≡ Some asked.now) }
     ensures fits { IfSome result (λ asked. length asked.now ≤ length text.now) }
 {
-    match field {
-        Some(field) => Some(within_quotes(field, cut_field(field, text)?.1)),
-        None => Some(text),
-    }
+    Some(within_quotes(field, cut_field(field, text)?.1))
 }
 
 /// Returns the bytes before the fields, the fields and the bytes after them, if the text has them.
 /// Field 2 of `a,2024-02-29,c`, split at commas, has `a,` before it and `,c` after it.
 #[inline(always)]
 pub fn cut_field(field: Field, text: &[u8]) -> Option<(&[u8], &[u8], &[u8])>
-    ensures part { MatchOption result (part_of field text.now ≡ None)
-        (λ parts. part_of field text.now ≡ Some parts.1.now) }
-    ensures around { MatchOption result (length text.now ≡ length text.now)
-        (λ parts. (words : List ℕ) → with_part field text.now words
-        ≡ parts.0.now ++ in_place_of field parts.1.now words ++ parts.2.now) }
+    ensures cut { MatchOption result (cut_of field text.now ≡ None)
+        (λ parts. cut_of field text.now
+        ≡ Some (record { front = parts.0.now; part = parts.1.now; rest = parts.2.now })) }
     ensures whole { MatchOption result (length text.now ≡ length text.now)
         (λ parts. text.now ≡ parts.0.now ++ parts.1.now ++ parts.2.now) }
     ensures short { MatchOption result (length text.now ≡ length text.now)

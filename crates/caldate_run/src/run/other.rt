@@ -1,12 +1,10 @@
 //! Answers by TEXT in other fields of the line.
-ghost use Rattle.std.specs.Prelude.{◌≡◌, ◌+◌, ◌≤◌, List, Result, Some, ℕ, false, is_some, length, true};
-ghost use Rattle.cal_text.specs.declared.any.DateOrMoment.{DateOrMoment};
+ghost use Rattle.std.specs.Prelude.{◌≡◌, ◌+◌, ◌≤◌, List, Some, ℕ, false, is_some, length, true};
 ghost use Rattle.caldate_run.specs.Answers.{IsAnswerTo, keeps};
 ghost use Rattle.caldate_run.specs.Room.{HasRoom, longest_answer};
 ghost use Rattle.caldate_run.specs.Runs.{AppendsAnswer, AppendsSome};
 ghost use Rattle.caldate_run.specs.Targets.{IsAnswerAt, IsOther, IsReadOther, other_field, target_fields, with_target};
 ghost use Rattle.caldate_run.specs.declared.request.Target.TheVariants.{Text};
-ghost use Rattle.caldate_run.specs.declared.run.no_answer.NoAnswer.{NoAnswer};
 
 use crate::answer::{push_answer, push_between, read_with};
 use crate::input::fields::selected_text;
@@ -31,11 +29,9 @@ pub fn other_field(filter: &Filter<'_>) -> Option<Field>
 /// For field 2 of `a,2024-02-29` in CSV, this returns 2024-02-29. Returns `NoOtherField` if the line
 /// has too few fields, and `UnreadOtherField` if the text of the other fields is in none of the forms.
 pub fn read_other(filter: &Filter<'_>, other: Field, text: &[u8]) -> Result<DateOrMoment, NoAnswer>
-    ensures value { IsOther filter.now other text.now result }
-    ensures one { (found : Result DateOrMoment NoAnswer) → IsOther filter.now other text.now found
-        → result ≡ found }
+    ensures { IsOther filter.now other text.now result }
 {
-    match selected_text(Some(other), text) {
+    match selected_text(other, text) {
         Some(asked) => read_asked(filter, asked),
         None => Err(NoAnswer::NoOtherField),
     }
@@ -43,9 +39,7 @@ pub fn read_other(filter: &Filter<'_>, other: Field, text: &[u8]) -> Result<Date
 
 /// Parses the text of the other fields.
 fn read_asked(filter: &Filter<'_>, asked: &[u8]) -> Result<DateOrMoment, NoAnswer>
-    ensures value { IsReadOther filter.now result asked.now }
-    ensures one { (found : Result DateOrMoment NoAnswer) → IsReadOther filter.now found asked.now
-        → result ≡ found }
+    ensures { IsReadOther filter.now result asked.now }
 {
     match read_with(filter, asked) {
         Ok(found) => Ok(found),
