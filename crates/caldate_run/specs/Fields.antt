@@ -1,8 +1,8 @@
 -- The part of a line to answer: all of its text, or some of its fields.
 use Rattle.std.specs.Prelude.{◌≡◌, ℕ, ◌+◌, ◌-◌, ◌==◌, ◌&&◌, ◌||◌, not, nat_le, nat_lt, get_or, Bool, true, false, List, [], ◌∷◌, ◌++◌, length, take, drop, Option, Some, None, option_map, slice_index, unwrap_or, if◌then◌else◌}
-use Rattle.std.specs.List.{join_with_byte, onto_first, slice_split}
+use Rattle.std.specs.List.{join_with_byte, onto_first}
 use Rattle.caldate_run.specs.declared.run.quoting.Quoting.{Quoting}
-use Rattle.caldate_run.specs.declared.run.quoting.Quoting.TheVariants.{Ready, Open, Bare}
+use Rattle.caldate_run.specs.declared.run.quoting.Quoting.TheVariants.{Off, Ready, Open, Bare}
 use Rattle.caldate_run.specs.declared.request.Field.{Field}
 use Rattle.caldate_run.specs.declared.request.FieldNumbers.{FieldNumbers}
 use Rattle.caldate_run.specs.declared.several_fields.RankedField.{RankedField}
@@ -49,8 +49,10 @@ abbrev pub is_quote : ℕ → Bool
 is_quote byte = byte == 34
 
 -- The quotes of a CSV record after a byte. A quote opens them at the start of a field, and again just
--- after another quote closed them: a doubled quote. In the rest of a field it is an ordinary byte.
+-- after another quote closed them: a doubled quote. In the rest of a field it is an ordinary byte, and
+-- everywhere if the line isn't a record.
 abbrev pub quoting_after : ℕ → Quoting → ℕ → Quoting
+quoting_after separator Off byte = Off
 quoting_after separator Ready byte = if is_quote byte then Open else if byte == separator then Ready else Bare
 quoting_after separator Open byte = if is_quote byte then Ready else Open
 quoting_after separator Bare byte = if byte == separator then Ready else Bare
@@ -64,20 +66,22 @@ abbrev pub is_open : Quoting → Bool
 is_open Open = true
 is_open quoting = false
 
--- The bytes are split at each byte `end` outside of quotes.
-abbrev pub split_outside_quotes : ℕ → ℕ → Quoting → List ℕ → List (List ℕ)
-split_outside_quotes end separator quoting [] = [] ∷ []
-split_outside_quotes end separator quoting (byte ∷ bytes) =
-    if byte == end && not (is_open quoting) then [] ∷ split_outside_quotes end separator Ready bytes else
-    onto_first byte (split_outside_quotes end separator (quoting_after separator quoting byte) bytes)
+-- The bytes are split at each byte `end` outside of quotes. After it, the quotes are as at the start.
+abbrev pub split_outside_quotes : ℕ → ℕ → Quoting → Quoting → List ℕ → List (List ℕ)
+split_outside_quotes end separator start quoting [] = [] ∷ []
+split_outside_quotes end separator start quoting (byte ∷ bytes) =
+    if byte == end && not (is_open quoting) then [] ∷ split_outside_quotes end separator start start bytes else
+    onto_first byte (split_outside_quotes end separator start (quoting_after separator quoting byte) bytes)
 
--- A CSV record is split at its separators.
-abbrev pub split_record : ℕ → List ℕ → List (List ℕ)
-split_record separator text = split_outside_quotes separator separator Ready text
+-- The fields of a text are between separators, and in a CSV record outside of quotes.
+abbrev pub quotes_of : Field → Quoting
+quotes_of field = if field.csv then Ready else Off
 
--- The fields of a text are between separators.
+abbrev pub split_fields : ℕ → Quoting → List ℕ → List (List ℕ)
+split_fields separator start text = split_outside_quotes separator separator start start text
+
 abbrev pub fields_of : Field → List ℕ → List (List ℕ)
-fields_of field text = if field.csv then split_record field.separator text else slice_split (λ byte. byte == field.separator) text
+fields_of field text = split_fields field.separator (quotes_of field) text
 
 -- The text doesn't have the last of the fields to answer.
 abbrev pub has_too_few : Field → List ℕ → Bool

@@ -3,7 +3,7 @@ use Rattle.std.specs.Prelude.{◌≡◌, ℕ, ⊤, ◌+◌, ◌-◌, ◌^◌, �
 use Rattle.std.specs.List.{onto_first}
 use Rattle.std.specs.Io.KnownBytes.{Appends}
 use Rattle.caldate_run.specs.Fields.{quoting_past}
-use Rattle.caldate_run.specs.Lines.{is_end, split_from, split_input}
+use Rattle.caldate_run.specs.Lines.{is_end, separator_of, split_from, split_input}
 use Rattle.caldate_run.specs.Room.{longest_text}
 use Rattle.caldate_run.specs.declared.run.quoting.Quoting.{Quoting}
 use Rattle.caldate_run.specs.declared.run.quoting.Quoting.TheVariants.{Ready}
@@ -46,10 +46,9 @@ abbrev pub IsDroppedFront : Bool → List ℕ → List ℕ → Type 0
 IsDroppedFront false kept pending = kept ≡ []
 IsDroppedFront true kept pending = (longest_text < length kept) × (0 < length pending)
 
--- The quotes after these bytes, if there are any.
+-- The quotes after these bytes.
 abbrev pub quoting_in : Option Field → Quoting → List ℕ → Quoting
-quoting_in None quoting bytes = quoting
-quoting_in (Some field) quoting bytes = quoting_past field.separator quoting bytes
+quoting_in field quoting bytes = quoting_past (separator_of field) quoting bytes
 
 -- The quotes after the dropped front.
 abbrev pub quoting_of : Progress → Quoting

@@ -3,10 +3,11 @@
 ghost use Rattle.std.specs.List.{join_with_byte};
 ghost use Rattle.std.specs.Prelude.{◌≡◌, ◌==◌, ◌<◌, List, ℕ, All, IsOk, Option, Result, Some, false, length, map, true};
 ghost use Rattle.caldate_run.specs.Answers.{Answer, IsAnswer};
-ghost use Rattle.caldate_run.specs.Fields.{in_place_of, split_record};
+ghost use Rattle.caldate_run.specs.Fields.{in_place_of, split_fields};
 ghost use Rattle.caldate_run.specs.Lines.{all_lines};
 ghost use Rattle.caldate_run.specs.Recurring.{ListsOccurrences};
 ghost use Rattle.caldate_run.specs.Records.{IsField, IsRecord, records_text};
+ghost use Rattle.caldate_run.specs.declared.run.quoting.Quoting.TheVariants.{Ready};
 ghost use Rattle.caldate_run.specs.declared.run.run_error.RunError.{RunError};
 
 use crate::answer::read_with;
@@ -41,7 +42,7 @@ pub fn one_list(asked: &Occurrences<'_>)
 pub fn record_fields(separator: u8)
     ensures { (fields : List (List ℕ)) → (34 == separator) ≡ false → 0 < length fields
         → All (IsField separator) fields
-        → split_record separator (join_with_byte separator fields) ≡ fields }
+        → split_fields separator Ready (join_with_byte separator fields) ≡ fields }
 {}
 
 /// Proves that the records of RFC 4180 are the lines of an input, which may have quoted line feeds.

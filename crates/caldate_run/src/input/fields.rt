@@ -1,10 +1,9 @@
 //! The fields of a line.
-ghost use Rattle.std.specs.Prelude.{◌≡◌, ◌+◌, ◌<◌, ◌≤◌, ◌++◌, ◌∷◌, [], ℕ, List, Some, None, IfSome, IsTrue, MatchOption, drop, false, length, slice_index, take};
-ghost use Rattle.caldate_run.specs.Fields.{HasFirst, IsAfter, cut_of, fields_of, is_quote, is_quoted, selected_text, split_outside_quotes, within_quotes};
-ghost use Rattle.caldate_run.specs.declared.run.quoting.Quoting.TheVariants.{Ready};
+ghost use Rattle.std.specs.Prelude.{◌≡◌, ◌+◌, ◌<◌, ◌≤◌, ◌++◌, ◌∷◌, [], Some, None, IfSome, IsTrue, MatchOption, drop, length, take};
+ghost use Rattle.caldate_run.specs.Fields.{HasFirst, IsAfter, cut_of, fields_of, is_quoted, quotes_of, selected_text, within_quotes};
 
 use crate::request::Field;
-use crate::run::lines::index_of;
+use crate::run::lines::part_end;
 use crate::run::quoting::Quoting;
 
 /// Returns the text of the fields, within their quotes, if the text of the line has them.
@@ -101,39 +100,18 @@ fn separator_index(field: Field, bytes: &[u8]) -> Option<usize>
         ≡ take at bytes.now ∷ fields_of field (drop (at + 1) bytes.now))
         × (bytes.now ≡ take at bytes.now ++ field.separator ∷ drop (at + 1) bytes.now)) }
 {
-    if field.csv && has_first_quote(bytes) {
-        index_outside_quotes(field.separator, field.separator, Quoting::Ready, bytes)
+    let start = quotes_of(field);
+    part_end(field.separator, field.separator, start, start, bytes)
+}
+
+/// Returns the state of the quotes at the start of a field.
+#[inline(always)]
+fn quotes_of(field: Field) -> Quoting
+    ensures { result ≡ quotes_of field }
+{
+    if field.csv {
+        Quoting::Ready
     } else {
-        index_of(field.separator, bytes)
+        Quoting::Off
     }
-}
-
-/// Returns whether the first byte is a quote.
-fn has_first_quote(bytes: &[u8]) -> bool
-    ensures { result ≡ is_quote (slice_index bytes.now 0) }
-{
-    match bytes {
-        [b'"', ..] => true,
-        _ => false,
-    }
-}
-
-/// Returns the index of the first byte `end` outside of quotes, from a state of the quotes on.
-#[inline(never)]
-pub fn index_outside_quotes(end: u8, separator: u8, quoting: Quoting, bytes: &[u8]) -> Option<usize>
-    ensures { MatchOption result
-        (split_outside_quotes end separator quoting bytes.now ≡ bytes.now ∷ [])
-        (λ at. (at < length bytes.now) × ((more : List ℕ)
-        → split_outside_quotes end separator quoting (bytes.now ++ more)
-        ≡ take at bytes.now ∷ split_outside_quotes end separator Ready (drop (at + 1) bytes.now ++ more))
-        × (bytes.now ≡ take at bytes.now ++ end ∷ drop (at + 1) bytes.now)) }
-{
-    let mut state = quoting;
-    for (i, byte) in bytes.iter().enumerate() {
-        if *byte == end && !state.is_open() {
-            return Some(i);
-        }
-        state = state.after(separator, *byte);
-    }
-    None
 }
