@@ -14,8 +14,8 @@ pub mod RecordFields
 pub mod NewFields
 pub mod NextMoments
 pub mod OneList
-pub mod PieceOuts
 pub mod Replied
+pub mod PieceOuts
 pub mod Reported
 pub mod DayLists
 pub mod HolidayLines

@@ -7,9 +7,10 @@ use Rattle.std.proofs.lemmas.Bool.{false≢true}
 use Rattle.std.proofs.lemmas.List.{append-nil, take_all}
 use Rattle.caldate_run.specs.Answers.{Answer, IsAnswer, keeps}
 use Rattle.caldate_run.specs.Fields.{Cut, cut_of, end_of_field, in_place_of, in_quotes, as_field, is_quoted, with_numbers, within_quotes}
-use Rattle.caldate_run.specs.Pieces.{IsAnswered, IsAnswerToAsked, IsOutOf, IsPieceOut, Piece, closed_words, earlier, field_end, field_piece, fields_from, fields_in, is_quoted_in, joined, later_cut, new_field, own_field, pieces_in, pieces_of, placed, replaced, single, whole}
+use Rattle.caldate_run.specs.Pieces.{IsAnswered, IsAnswerToAsked, IsOutOf, IsPieceOut, Piece, Pieces, closed_words, earlier, field_end, field_piece, fields_from, fields_in, is_quoted_in, joined, later_cut, new_field, own_field, pieces_in, pieces_of, placed, replaced, single, whole}
 use Rattle.caldate_run.specs.Runs.{AppendsAnswer, AppendsOut, AppendsSome}
 use Rattle.caldate_run.specs.Targets.{IsAnswerAt}
+use Rattle.caldate_run.proofs.Replied.{weaker}
 use Rattle.caldate_run.specs.declared.request.Field.{Field}
 use Rattle.caldate_run.specs.declared.request.Filter.{Filter}
 use Rattle.caldate_run.specs.declared.run.no_answer.NoAnswer.{NoAnswer}
@@ -127,3 +128,14 @@ field_pieces filter field fields text e h is =
 pub several_in : (field : Field) (fields : List RankedField) → 0 < length fields → fields ≡ fields_in field fields
 several_in field [] some = absurd (omega (arith, some))
 several_in field (next ∷ fields) some = refl
+
+pub single_answered : (filter : Filter) (text : List ℕ) (piece own : Piece) (any : Option NoAnswer) (goes : Bool) (old new : List ℕ) → pieces_of filter text ≡ single piece → own ≡ piece
+    → AppendsOut (IsPieceOut filter text own any) goes old new → AppendsOut (IsAnswered filter text (pieces_of filter text) any) goes old new
+single_answered filter text piece own any goes old new e f h =
+    weaker _ _ goes old new (λ out o. subst (λ (ps : Pieces). IsAnswered filter text ps any out) (sym e) (single_out filter text piece any out (subst (λ (p : Piece). IsPieceOut filter text p any out) f o))) h
+
+pub fields_answered : (filter : Filter) (text : List ℕ) (field : Field) (fields : List RankedField) (any : Option NoAnswer) (goes : Bool) (old new : List ℕ)
+    → filter.field ≡ Some field → field.appends ≡ false → fields ≡ fields_in field filter.several
+    → AppendsOut (IsAnswered filter text (fields_from field text 0 fields) any) goes old new → AppendsOut (IsAnswered filter text (pieces_of filter text) any) goes old new
+fields_answered filter text field fields any goes old new e h is put =
+    subst (λ (ps : Pieces). AppendsOut (IsAnswered filter text ps any) goes old new) (sym (field_pieces filter field fields text e h is)) put

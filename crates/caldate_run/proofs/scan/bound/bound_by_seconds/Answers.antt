@@ -1,0 +1,13 @@
+use Rattle.std.proofs.Common.{◌≡◌, ◌∙◌, ◌≤◌, ◌-◌, List, ℕ, ap, length, subst, sym, take}
+use Rattle.caldate_run.specs.Readings.{HasFormIn}
+use Rattle.caldate_run.specs.Scans.{Bounds}
+use Rattle.caldate_run.specs.Spellings.{unix_text}
+use Rattle.caldate_run.specs.declared.reading.Reading.TheVariants.{Any}
+use Rattle.caldate_run.proofs.TextBounds.{seconds_within}
+use Rattle.caldate_run.proofs.scan.bound.bound_by_seconds.Goals as goal
+
+pub returns-clause-text : goal.returns-clause-text
+returns-clause-text c = λ n found fits h.
+    let bytes = c.args.bytes.now in
+    let full : c.as_bytes.result.now ≡ unix_text (take c.min.result bytes) = ?
+    in ?
