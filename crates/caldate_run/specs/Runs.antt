@@ -145,12 +145,6 @@ IsRunResult filter (Err (Write kind)) r0 r w0 w = ReadsLines filter r0 r (λ lin
 IsRunResult filter (Err Read) r0 r w0 w = Gives r0 r (λ input. AnswersEnded filter input w0 w)
 IsRunResult filter (Err (Stopped reported)) r0 r w0 w = ReadsLines filter r0 r (λ lines rest. StopsAt filter reported lines w0 w)
 
--- With this outcome, all lines of the input got their replies.
-abbrev pub IsComplete : Result Unit RunError → Type 0
-IsComplete (Ok done) = ⊤
-IsComplete (Err (Unanswered reported)) = ⊤
-IsComplete (Err other) = ⊥
-
 -- The writer took these bytes of a page with this outcome.
 abbrev pub WritesPage : List ℕ → Result Unit RunError → Option (List ℕ) → Option (List ℕ) → Type 0
 WritesPage page (Ok done) old new = Appends old new page
