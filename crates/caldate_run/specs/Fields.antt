@@ -91,12 +91,23 @@ has_too_few field text = nat_le (length (fields_of field text)) (field.first - 1
 abbrev pub joined_fields : Field → List ℕ → List ℕ
 joined_fields field text = join_with_byte field.separator (take (field.joined + 1) (drop (field.first - 1) (fields_of field text)))
 
--- A field of a CSV record may be in quotes (RFC 4180). Its text is between them.
+-- A field of a CSV record may be in quotes (RFC 4180).
 abbrev pub is_quoted : Field → List ℕ → Bool
 is_quoted field part = field.csv && (nat_le 2 (length part) && (is_quote (slice_index part 0) && is_quote (slice_index part (length part - 1))))
 
-abbrev pub within_quotes : Field → List ℕ → List ℕ
-within_quotes field part = if is_quoted field part then take (length part - 2) (drop 1 part) else part
+-- The text of a field after its first quote, as Python's csv module reads it: up to the next quote
+-- that isn't doubled, which is followed by ordinary bytes. A doubled quote is one.
+abbrev pub unquoted : List ℕ → Option (List ℕ)
+unquoted [] = None
+unquoted (byte ∷ []) = if is_quote byte then Some [] else None
+unquoted (byte ∷ next ∷ bytes) =
+    if not (is_quote byte) then option_map (λ text. byte ∷ text) (unquoted (next ∷ bytes)) else
+    if is_quote next then option_map (λ text. 34 ∷ text) (unquoted bytes) else Some (next ∷ bytes)
+
+-- Without a closing quote, the first one is part of the text.
+abbrev pub field_text : Bool → List ℕ → List ℕ
+field_text csv [] = []
+field_text csv (byte ∷ bytes) = if csv && is_quote byte then unwrap_or (unquoted bytes) (byte ∷ bytes) else byte ∷ bytes
 
 -- ---- words that become a field
 -- Between quotes, each quote is doubled.
@@ -157,7 +168,7 @@ cut_of field text =
 
 -- The text of the fields, if the text of the line has them.
 abbrev pub selected_text : Field → List ℕ → Option (List ℕ)
-selected_text field text = option_map (λ cut. within_quotes field cut.part) (cut_of field text)
+selected_text field text = option_map (λ cut. field_text field.csv cut.part) (cut_of field text)
 
 -- The words are a new last field.
 abbrev pub with_last : Field → List ℕ → List ℕ → List ℕ

@@ -1,9 +1,9 @@
 -- The header, the first line of an input, and fields by their names in it.
-use Rattle.std.specs.Prelude.{◌⊎◌, ℕ, ◌+◌, ◌<◌, ◌&&◌, nat_le, nat_lt, Bool, true, false, unwrap_or, get_or, List, [], ◌∷◌, ◌++◌, bytes_eq, codes, length, MatchBool, MatchResult, Option, Some, None, Result, Ok, Err, slice_index, if◌then◌else◌}
+use Rattle.std.specs.Prelude.{◌⊎◌, ℕ, ◌+◌, ◌<◌, nat_lt, Bool, true, false, unwrap_or, get_or, List, [], ◌∷◌, ◌++◌, bytes_eq, codes, length, MatchBool, MatchResult, Option, Some, None, Result, Ok, Err, slice_index, if◌then◌else◌}
 use Rattle.std.specs.Option.{option_map_or}
 use Rattle.std.specs.Io.KnownBytes.{Consumes, IsAtEnd}
 use Rattle.caldate_run.specs.Ending.{Says}
-use Rattle.caldate_run.specs.Fields.{fields_of, is_quote, is_quoted, no_names, renumbered, overlap, within_quotes}
+use Rattle.caldate_run.specs.Fields.{field_text, fields_of, no_names, overlap, renumbered}
 use Rattle.caldate_run.specs.Lines.{split_input, text_of}
 use Rattle.caldate_run.specs.Room.{longest_text}
 use Rattle.caldate_run.specs.RunStates.{NoEnd}
@@ -33,22 +33,8 @@ abbrev pub HasHeader : Field → Option (List ℕ) → List ℕ → Type 0
 HasHeader field left bytes = HasLine field bytes ⊎ (IsAtEnd left ⊎ (longest_text + 1 < length bytes))
 
 -- ---- names
--- The text begins with a doubled quote.
-abbrev pub is_pair : List ℕ → Bool
-is_pair text = nat_le 2 (length text) && (is_quote (slice_index text 0) && is_quote (slice_index text 1))
-
--- The text between the quotes of a field: each doubled quote is one (RFC 4180).
-abbrev pub unescaped : List ℕ → List ℕ
-unescaped [] = []
-unescaped (byte ∷ []) = byte ∷ []
-unescaped (byte ∷ next ∷ bytes) = if is_quote byte && is_quote next then 34 ∷ unescaped bytes else byte ∷ unescaped (next ∷ bytes)
-
--- The name of a field is its text, or in a CSV record what its quotes enclose.
-abbrev pub field_name : Field → List ℕ → List ℕ
-field_name field part = if is_quoted field part then unescaped (within_quotes field part) else part
-
 abbrev pub has_name : Field → List ℕ → List ℕ → Bool
-has_name field name part = bytes_eq (field_name field part) name
+has_name field name part = bytes_eq (field_text field.csv part) name
 
 -- The number of the first of these fields that has the name, counted from n.
 abbrev pub name_number : ℕ → Field → List ℕ → List (List ℕ) → Option ℕ

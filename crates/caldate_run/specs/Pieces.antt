@@ -3,7 +3,7 @@ use Rattle.std.specs.Prelude.{◌≡◌, ℕ, ◌+◌, ◌||◌, nat_le, nat_lt,
 use Rattle.std.specs.Option.{option_map_or}
 use Rattle.std.specs.Result.{result_err}
 use Rattle.caldate_run.specs.Answers.{Answer, keeps}
-use Rattle.caldate_run.specs.Fields.{Cut, cut_of, end_of_field, in_place_of, is_quoted, selected_text, with_numbers, within_quotes}
+use Rattle.caldate_run.specs.Fields.{Cut, cut_of, end_of_field, field_text, in_place_of, is_quoted, selected_text, with_numbers}
 use Rattle.caldate_run.specs.Reasons.{reason}
 use Rattle.caldate_run.specs.Targets.{IsAnswerAt}
 use Rattle.caldate_run.specs.declared.on_invalid.OnInvalid.{OnInvalid}
@@ -46,7 +46,7 @@ later_cut at (Some cut) = if nat_le at (length cut.front) then Some cut else Non
 
 abbrev pub field_piece : Field → ℕ → ℕ → Option Cut → Piece
 field_piece field rank at None = missing rank
-field_piece field rank at (Some cut) = record { kept = drop at cut.front; source = cut.part; asked = Some (within_quotes field cut.part); rank = rank }
+field_piece field rank at (Some cut) = record { kept = drop at cut.front; source = cut.part; asked = Some (field_text field.csv cut.part); rank = rank }
 
 -- The number of bytes up to its end.
 abbrev pub field_end : ℕ → Option Cut → ℕ
@@ -125,8 +125,8 @@ earlier rank (Some any) (Some later) = if nat_lt later.0 rank then Some later el
 
 -- What goes out for a piece, and why its text has no answer.
 abbrev pub IsPieceOut : Filter → List ℕ → Piece → Option NoAnswer → Option (List ℕ) → Type 0
-IsPieceOut filter text piece why out =
-    (answer : Answer) × IsAnswerToAsked filter text piece.asked answer × (why ≡ result_err answer)
+IsPieceOut filter text piece any out =
+    (answer : Answer) × IsAnswerToAsked filter text piece.asked answer × (any ≡ result_err answer)
     × (out ≡ option_map (λ words. piece.kept ++ words) (replaced filter piece.source (is_some piece.asked) answer))
 
 -- Nothing goes out for a line if nothing goes out for one of its pieces.
@@ -143,4 +143,4 @@ IsOutOf filter text (piece ∷ pieces) rest first out =
     × (first ≡ earlier piece.rank own later) × (out ≡ joined words more)
 
 abbrev pub IsAnswered : Filter → List ℕ → Pieces → Option NoAnswer → Option (List ℕ) → Type 0
-IsAnswered filter text pieces why out = (first : Option (ℕ × NoAnswer)) × IsOutOf filter text pieces.texts pieces.rest first out × (why ≡ option_map (λ one. one.1) first)
+IsAnswered filter text pieces any out = (first : Option (ℕ × NoAnswer)) × IsOutOf filter text pieces.texts pieces.rest first out × (any ≡ option_map (λ one. one.1) first)

@@ -1,5 +1,5 @@
 -- The reply to a line, and the count of the lines without an answer.
-use Rattle.std.specs.Prelude.{◌≡◌, ℕ, ◌+◌, ◌^◌, ◌==◌, ◌&&◌, min, not, nat_lt, Bool, true, false, List, [], ◌++◌, ◌∷◌, length, MatchBool, MatchOption, IsSomeAnd, Option, Some, None, is_some, Ok, Err, if◌then◌else◌}
+use Rattle.std.specs.Prelude.{◌≡◌, ℕ, ◌+◌, ◌-◌, ◌^◌, ◌==◌, ◌&&◌, min, not, nat_lt, Bool, true, false, List, [], ◌++◌, ◌∷◌, length, MatchBool, MatchOption, IsSomeAnd, Option, Some, None, is_some, Ok, Err, if◌then◌else◌}
 use Rattle.std.specs.Result.{result_err}
 use Rattle.caldate_run.specs.Answers.{Answer}
 use Rattle.caldate_run.specs.Fields.{text_without, with_last}
@@ -41,21 +41,21 @@ of_line mode source (Ok out) = out
 of_line mode source (Err any) = instead mode source (reason any)
 
 abbrev pub IsLine : OnInvalid → List ℕ → Answer → Option NoAnswer → Option (List ℕ) → Type 0
-IsLine mode source answer why out = (why ≡ result_err answer) × (out ≡ of_line mode source answer)
+IsLine mode source answer any out = (any ≡ result_err answer) × (out ≡ of_line mode source answer)
 
 -- ---- the outcome
 -- With --scan, the texts of the line are answered.
 abbrev pub IsOutcomeOfText : Filter → List ℕ → Option NoAnswer → Option (List ℕ) → Type 0
-IsOutcomeOfText filter text why out =
-    MatchBool filter.scans ((answer : Answer) × IsScanned filter text answer × IsLine filter.on_invalid text answer why out)
-    (IsAnswered filter text (pieces_of filter text) why out)
+IsOutcomeOfText filter text any out =
+    MatchBool filter.scans ((answer : Answer) × IsScanned filter text answer × IsLine filter.on_invalid text answer any out)
+    (IsAnswered filter text (pieces_of filter text) any out)
 
 -- Why the text of a line after `before` lines has no answer, and what goes out for it.
 abbrev pub IsOutcome : Filter → ℕ → List ℕ → Option NoAnswer → Option (List ℕ) → Type 0
-IsOutcome filter before text why out =
+IsOutcome filter before text any out =
     let line = text_without (own_field filter before) text in
-    MatchBool (nat_lt longest_text (length text)) (IsLine filter.on_invalid line (Err why.TooLong) why out)
-    (MatchBool (nat_lt before filter.skip) (IsLine filter.on_invalid line (skipped filter before text) why out) (IsOutcomeOfText filter text why out))
+    MatchBool (nat_lt longest_text (length text)) (IsLine filter.on_invalid line (Err why.TooLong) any out)
+    (MatchBool (nat_lt before filter.skip) (IsLine filter.on_invalid line (skipped filter before text) any out) (IsOutcomeOfText filter text any out))
 
 -- ---- a line without an answer
 -- A run ends at the line.

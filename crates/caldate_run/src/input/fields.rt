@@ -1,19 +1,10 @@
 //! The fields of a line.
 ghost use Rattle.std.specs.Prelude.{◌≡◌, ◌+◌, ◌<◌, ◌≤◌, ◌++◌, ◌∷◌, [], Some, None, IfSome, IsTrue, MatchOption, drop, length, take};
-ghost use Rattle.caldate_run.specs.Fields.{HasFirst, IsAfter, cut_of, fields_of, is_quoted, quotes_of, selected_text, within_quotes};
+ghost use Rattle.caldate_run.specs.Fields.{HasFirst, IsAfter, cut_of, fields_of, is_quoted, quotes_of};
 
 use crate::request::Field;
 use crate::run::lines::part_end;
 use crate::run::quoting::Quoting;
-
-/// Returns the text of the fields, within their quotes, if the text of the line has them.
-pub fn selected_text(field: Field, text: &[u8]) -> Option<&[u8]>
-    ensures asked { MatchOption result (selected_text field text.now ≡ None)
-        (λ asked. selected_text field text.now ≡ Some asked.now) }
-    ensures fits { IfSome result (λ asked. length asked.now ≤ length text.now) }
-{
-    Some(within_quotes(field, cut_field(field, text)?.1))
-}
 
 /// Returns the bytes before the fields, the fields and the bytes after them, if the text has them.
 /// Field 2 of `a,2024-02-29,c`, split at commas, has `a,` before it and `,c` after it.
@@ -33,18 +24,6 @@ pub fn cut_field(field: Field, text: &[u8]) -> Option<(&[u8], &[u8], &[u8])>
     let start = text.len() - rest.len();
     let end = text.len() - last.len() + first_length(field, last);
     Some((&text[..start], &text[start..end], &text[end..]))
-}
-
-/// Returns the text between the quotes of a field of a CSV record, or the field if it has none.
-pub fn within_quotes(field: Field, part: &[u8]) -> &[u8]
-    ensures text { result.now ≡ within_quotes field part.now }
-    ensures fits { length result.now ≤ length part.now }
-{
-    if is_quoted(field, part) {
-        &part[1..part.len() - 1]
-    } else {
-        part
-    }
 }
 
 /// Returns whether the field of a CSV record is in quotes.

@@ -112,7 +112,7 @@ fn separator_of(field: Option<Field>) -> u8
 }
 
 /// Returns whether a quote is among the bytes.
-fn has_quote(bytes: &[u8]) -> bool
+pub fn has_quote(bytes: &[u8]) -> bool
     ensures { result ≡ false → position is_quote bytes.now ≡ None }
 {
     index_of(b'"', bytes).is_some()

@@ -1,10 +1,11 @@
 //! Pieces of a line.
-ghost use Rattle.std.specs.Prelude.{◌≡◌, ◌+◌, ◌≤◌, ◌++◌, IfSome, MatchOption, None, Some, length};
-ghost use Rattle.caldate_run.specs.Fields.{cut_of};
+ghost use Rattle.std.specs.Prelude.{◌≡◌, ◌+◌, ◌≤◌, ◌++◌, IfSome, Some, length, option_map};
+ghost use Rattle.caldate_run.specs.Fields.{cut_of, field_text, selected_text};
 ghost use Rattle.caldate_run.specs.Pieces.{field_end, field_piece, later_cut, missing, new_field, whole};
 ghost use Rattle.caldate_run.specs.Room.{HasRoom, longest_text};
 
-use crate::input::fields::{cut_field, selected_text, within_quotes};
+use crate::input::field_text::{FieldText, plain_text};
+use crate::input::fields::cut_field;
 use crate::output::buffer::Buffer;
 use crate::request::Field;
 use std::marker::Model;
@@ -15,25 +16,27 @@ pub struct Piece<'a> {
     kept: &'a [u8],
     separator: Option<u8>,
     source: &'a [u8],
-    asked: Option<&'a [u8]>,
+    part: Option<&'a [u8]>,
+    csv: bool,
     rank: u8,
 }
 
 impl<'a> Model for Piece<'a> {
     ghost use Rattle.std.specs.Prelude.{◌≤◌, ◌++◌, IfSome, length, option_map, option_to_list};
-    ghost use Rattle.caldate_run.specs.Pieces.{Piece as Value};
+    ghost use Rattle.caldate_run.specs.Fields.{field_text};
+    ghost use Rattle.caldate_run.specs.Pieces.{Piece as TextPiece};
     ghost use Rattle.caldate_run.specs.Room.{longest_text};
 
-    ghost Value = { Value };
+    ghost Value = { TextPiece };
 
     ghost view = { λ piece. record {
         kept = piece.kept.now ++ option_to_list piece.separator;
         source = piece.source.now;
-        asked = option_map (λ asked. asked.now) piece.asked;
+        asked = option_map (λ part. field_text piece.csv part.now) piece.part;
         rank = piece.rank
     } };
 
-    ghost invariant = { λ piece. IfSome piece.asked (λ asked. length asked.now ≤ longest_text) };
+    ghost invariant = { λ piece. IfSome piece.part (λ part. length part.now ≤ longest_text) };
 }
 
 impl<'a> Piece<'a> {
@@ -55,12 +58,20 @@ impl<'a> Piece<'a> {
         self.source
     }
 
-    /// Returns the text, if the line has it.
-    pub fn asked(&self) -> Option<&[u8]>
-        ensures text { MatchOption result (self.now.asked ≡ None) (λ asked. self.now.asked ≡ Some asked.now) }
-        ensures few { IfSome result (λ asked. length asked.now ≤ longest_text) }
+    /// Returns the text if the bytes of the line have it as it is.
+    #[inline(always)]
+    pub fn plain(&self) -> Option<&[u8]>
+        ensures text { IfSome result (λ text. self.now.asked ≡ Some text.now) }
+        ensures few { IfSome result (λ text. length text.now ≤ longest_text) }
     {
-        self.asked
+        plain_text(self.csv, self.part?)
+    }
+
+    /// Returns the text, if the line has it.
+    pub fn text(&self) -> Option<FieldText>
+        ensures { result ≡ self.now.asked }
+    {
+        Some(FieldText::new(self.csv, self.part?))
     }
 }
 
@@ -73,7 +84,8 @@ pub fn whole(text: &[u8]) -> Piece<'_>
         kept: b"",
         separator: None,
         source: text,
-        asked: Some(text),
+        part: Some(text),
+        csv: false,
         rank: 0,
     }
 }
@@ -87,9 +99,18 @@ pub fn new_field(field: Field, text: &[u8]) -> Piece<'_>
         kept: text,
         separator: Some(field.separator),
         source: b"",
-        asked: selected_text(field, text),
+        part: part_of(field, text),
+        csv: field.csv,
         rank: 0,
     }
+}
+
+/// Returns the field, if the line has it.
+fn part_of(field: Field, text: &[u8]) -> Option<&[u8]>
+    ensures part { option_map (λ part. field_text field.csv part.now) result ≡ selected_text field text.now }
+    ensures fits { IfSome result (λ part. length part.now ≤ length text.now) }
+{
+    Some(cut_field(field, text)?.1)
 }
 
 /// Cuts a field off a line, after its first `at` bytes, and returns where the field ends.
@@ -107,7 +128,8 @@ pub fn field_piece(field: Field, rank: u8, text: &[u8], at: usize) -> (Piece<'_>
                 kept: &front[at..],
                 separator: None,
                 source: part,
-                asked: Some(within_quotes(field, part)),
+                part: Some(part),
+                csv: field.csv,
                 rank,
             };
             (piece, front.len() + part.len())
@@ -124,7 +146,8 @@ fn missing<'a>(rank: u8) -> Piece<'a>
         kept: b"",
         separator: None,
         source: b"",
-        asked: None,
+        part: None,
+        csv: false,
         rank,
     }
 }

@@ -138,7 +138,8 @@ fn push_piece(
     text: &[u8],
     piece: &Piece<'_>,
 ) -> (bool, Option<NoAnswer>)
-    requires { HasRoom (length piece.now.kept + length piece.now.source + longest_text + longest_field + 1) buffer.old }
+    requires fits { length text.now ≤ longest_text }
+    requires room { HasRoom (length piece.now.kept + length piece.now.source + longest_text + longest_field + 1) buffer.old }
     ensures out { AppendsOut (IsPieceOut filter.now text.now piece.now result.1) result.0 buffer.old buffer.new }
     ensures short { length buffer.new
         ≤ length buffer.old + length piece.now.kept + length piece.now.source + longest_field }
@@ -167,14 +168,36 @@ fn push_text(
     text: &[u8],
     piece: &Piece<'_>,
 ) -> (bool, Option<NoAnswer>)
-    requires { HasRoom (length piece.now.source + longest_text + longest_field + 1) buffer.old }
+    requires fits { length text.now ≤ longest_text }
+    requires room { HasRoom (length piece.now.source + longest_text + longest_field + 1) buffer.old }
     ensures out { AppendsOut (λ out. (answer : Answer) × IsAnswerToAsked filter.now text.now piece.now.asked answer
         × (result.1 ≡ result_err answer) × (out ≡ replaced filter.now piece.now.source (is_some piece.now.asked) answer))
         result.0 buffer.old buffer.new }
     ensures short { length buffer.new ≤ length buffer.old + length piece.now.source + longest_field }
 {
-    match piece.asked() {
+    match piece.plain() {
         Some(asked) => push_asked(buffer, filter, text, piece.source(), asked),
+        None => push_unquoted(buffer, filter, text, piece),
+    }
+}
+
+/// Appends what replaces the text of a field that isn't in the line as it is, or is missing.
+#[inline(never)]
+fn push_unquoted(
+    buffer: &mut Buffer,
+    filter: &Filter<'_>,
+    text: &[u8],
+    piece: &Piece<'_>,
+) -> (bool, Option<NoAnswer>)
+    requires fits { length text.now ≤ longest_text }
+    requires room { HasRoom (length piece.now.source + longest_text + longest_field + 1) buffer.old }
+    ensures out { AppendsOut (λ out. (answer : Answer) × IsAnswerToAsked filter.now text.now piece.now.asked answer
+        × (result.1 ≡ result_err answer) × (out ≡ replaced filter.now piece.now.source (is_some piece.now.asked) answer))
+        result.0 buffer.old buffer.new }
+    ensures short { length buffer.new ≤ length buffer.old + length piece.now.source + longest_field }
+{
+    match piece.text() {
+        Some(asked) => push_asked(buffer, filter, text, piece.source(), asked.as_bytes()),
         None => {
             let why = NoAnswer::NoField;
             let goes_out = push_instead(buffer, filter, piece.source(), false, why);
@@ -191,6 +214,7 @@ fn push_asked(
     source: &[u8],
     asked: &[u8],
 ) -> (bool, Option<NoAnswer>)
+    requires fits { length text.now ≤ longest_text }
     requires few { length asked.now ≤ longest_text }
     requires room { HasRoom (length source.now + longest_text + longest_field + 1) buffer.old }
     ensures out { AppendsOut (λ out. (answer : Answer) × IsAnswerToAsked filter.now text.now (Some asked.now) answer

@@ -65,11 +65,11 @@ fn push_otherwise(
     filter: &Filter<'_>,
     progress: &mut Progress,
     text: &[u8],
-    has_return: bool,
+    with_return: bool,
 ) -> Result<(), NoAnswer>
     requires room { HasRoom longest_reply buffer.old }
-    requires line { HasRoom (length text.now + (if has_return then 3 else 2)) buffer.old }
-    ensures replied { OnOk result ((line : List ℕ) → text.now ≡ text_of line → has_return ≡ has_return line
+    requires line { HasRoom (length text.now + (if with_return then 3 else 2)) buffer.old }
+    ensures replied { OnOk result ((line : List ℕ) → text.now ≡ text_of line → with_return ≡ has_return line
         → AppendsReply (IsReplyTo filter.now) filter.now.on_invalid progress.old progress.new.tally
         line buffer.old buffer.new) }
     ensures counted { OnOk result (progress.new.tally.lines ≡ more progress.old.tally.lines) }
@@ -87,7 +87,7 @@ fn push_otherwise(
             return Err(why);
         }
     }
-    push_end(buffer, goes_out, has_return);
+    push_end(buffer, goes_out, with_return);
     count(progress, text, why);
     Ok(())
 }
