@@ -6,7 +6,7 @@ use Rattle.std.proofs.Math.Seq.{drop-append_seam, take-append_seam, take-append-
 use Rattle.std.proofs.lemmas.Bool.{eqb-true}
 use Rattle.std.proofs.lemmas.Bool.Decides.{nat_tests}
 use Rattle.std.proofs.lemmas.List.{append-nil, take_rest}
-use Rattle.caldate_run.specs.Fields.{Cut, HasFirst, IsAfter, cut_of, each_begun, each_ended, fields_of, has_too_few, is_open, joined_fields, quotes_of, quoting_after, split_outside_quotes}
+use Rattle.caldate_run.specs.Fields.{Cut, HasFirst, IsAfter, cut_of, each_begun, each_ended, fields_of, has_too_few, is_open, joined_fields, quotes_of, quoting_after, split_fields, split_outside_quotes}
 use Rattle.caldate_run.specs.declared.run.quoting.Quoting.{Quoting}
 use Rattle.caldate_run.specs.declared.request.Field.{Field}
 use Rattle.caldate_run.proofs.Quotes.{onto_some}
@@ -208,12 +208,17 @@ cut_at field text rest last n start end a b first within e f =
     cut field text _ _ _ before part (drop n last) s.front s.middle (take_rest text end ∙ s.back) h
 
 -- ---- the separator after the first field
-pub separator_at : (field : Field) (text : List ℕ) (r : Option ℕ)
-    → MatchOption r (fields_of field text ≡ text ∷ [])
-    (λ at. (at < length text) × ((more : List ℕ) → fields_of field (text ++ more) ≡ take at text ∷ fields_of field (drop (at + 1) text ++ more))
+pub separator_at : (field : Field) (start : Quoting) (text : List ℕ) (r : Option ℕ) → start ≡ quotes_of field
+    → MatchOption r (split_fields field.separator start text ≡ text ∷ [])
+    (λ at. (at < length text) × ((more : List ℕ) → split_fields field.separator start (text ++ more) ≡ take at text ∷ split_fields field.separator start (drop (at + 1) text ++ more))
     × (text ≡ take at text ++ field.separator ∷ drop (at + 1) text))
     → MatchOption r (fields_of field text ≡ text ∷ []) (λ at. (at < length text) × (fields_of field text ≡ take at text ∷ fields_of field (drop (at + 1) text))
     × (text ≡ take at text ++ field.separator ∷ drop (at + 1) text))
-separator_at field text None h = h
-separator_at field text (Some k) h =
-    (h.0, ap (fields_of field) (sym (append-nil text)) ∙ h.1 [] ∙ ap (λ t. take k text ∷ fields_of field t) (append-nil (drop (k + 1) text)), h.2)
+separator_at field start text None e h = ap (λ q. split_fields field.separator q text) (sym e) ∙ h
+separator_at field start text (Some k) e h = (
+  h.0,
+  ap (λ q. split_fields field.separator q text) (sym e) ∙ ap (split_fields field.separator start) (sym (append-nil text)) ∙ h.1 []
+      ∙ ap (λ t. take k text ∷ split_fields field.separator start t) (append-nil (drop (k + 1) text))
+      ∙ ap (λ q. take k text ∷ split_fields field.separator q (drop (k + 1) text)) e,
+  h.2,
+)

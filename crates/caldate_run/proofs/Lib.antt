@@ -15,6 +15,7 @@ pub mod NewFields
 pub mod NextMoments
 pub mod OneList
 pub mod Replied
+pub mod FieldTexts
 pub mod PieceOuts
 pub mod Reported
 pub mod DayLists

@@ -3,16 +3,13 @@ use Rattle.std.proofs.Common.{◌≡◌, ℕ, ◌-◌, Bool, true, false, cond, 
 use Rattle.std.specs.Prelude.{◌&&◌, ◌||◌, nat_le, slice_index}
 use Rattle.std.proofs.lemmas.Bool.{or_parts}
 use Rattle.std.proofs.lemmas.List.{append-nil}
-use Rattle.caldate_run.specs.Fields.{as_field, doubled, end_of_field, escaped, in_place_of, in_quotes, is_quote, is_quoted, is_special, needs_quotes, within_quotes}
+use Rattle.caldate_run.specs.Fields.{as_field, doubled, end_of_field, escaped, in_place_of, in_quotes, is_quote, is_quoted, is_special, needs_quotes}
 use Rattle.caldate_run.specs.declared.request.Field.{Field}
 
 -- ---- a text that is not a record
 pub plain_quotes : (field : Field) (part : List ℕ) → field.csv ≡ false → is_quoted field part ≡ false
 plain_quotes field part e =
     ap (λ b. b && (nat_le 2 (length part) && (is_quote (slice_index part 0) && is_quote (slice_index part (length part - 1))))) e
-
-pub plain_within : (field : Field) (part : List ℕ) → field.csv ≡ false → within_quotes field part ≡ part
-plain_within field part e = ap (λ b. cond b (take (length part - 2) (drop 1 part)) part) (plain_quotes field part e)
 
 pub plain_words : (field : Field) (part words : List ℕ) → field.csv ≡ false → in_place_of field part words ≡ words
 plain_words field part words e =

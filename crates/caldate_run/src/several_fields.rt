@@ -1,5 +1,5 @@
 //! Several fields to answer.
-ghost use Rattle.std.specs.Prelude.{◌≡◌, ◌+◌, ◌<◌, ◌≤◌, ◌++◌, ◌∷◌, [], None, get_or, length};
+ghost use Rattle.std.specs.Prelude.{◌≡◌, ◌+◌, ◌<◌, ◌≤◌, ◌++◌, ◌∷◌, [], None, get_or, is_some, length, if◌then◌else◌};
 ghost use Rattle.caldate_run.specs.Fields.{inserted, inserted_if, overlap, overlap_after, renumber, renumbered};
 
 use crate::field_names::MAX_FIELDS;
@@ -53,7 +53,8 @@ impl SeveralFields {
 
     fn push(&mut self, field: RankedField)
         requires { length self.old < 4 }
-        ensures { self.new ≡ self.old ++ field ∷ [] }
+        ensures appended { self.new ≡ self.old ++ field ∷ [] }
+        ensures longer { length self.new ≡ length self.old + 1 }
     {
         self.items[self.count] = field;
         self.count += 1;
@@ -95,7 +96,7 @@ impl SeveralFields {
 
 /// Appends the fields, with the other one before those that begin after it.
 fn push_inserted(list: &mut SeveralFields, fields: &[RankedField], field: Option<RankedField>)
-    requires { length list.old + length fields.now < 4 }
+    requires { length list.old + length fields.now + (if is_some field then 1 else 0) ≤ 4 }
     ensures { list.new ≡ list.old ++ inserted_if field fields.now }
 {
     match fields {
@@ -160,8 +161,15 @@ fn overlap_after(end: u32, fields: &[RankedField]) -> bool
     match fields {
         [] => false,
         [field, others @ ..] => {
-            let first = u32::from(field.numbers.first);
-            first <= end || overlap_after(first + u32::from(field.numbers.joined), others)
+            let numbers = field.numbers;
+            u32::from(numbers.first) <= end || overlap_after(end_of(numbers), others)
         }
     }
+}
+
+/// Returns the number of the last field.
+fn end_of(numbers: FieldNumbers) -> u32
+    ensures { result ≡ numbers.first + numbers.joined }
+{
+    u32::from(numbers.first) + u32::from(numbers.joined)
 }

@@ -81,14 +81,13 @@ impl FieldText {
             if *byte != b'"' {
                 self.push(&[*byte]);
                 rest = others;
-                continue;
-            }
-            if !starts_with_quote(others) {
+            } else if starts_with_quote(others) {
+                self.push(b"\"");
+                rest = &others[1..];
+            } else {
                 self.push(others);
                 return true;
             }
-            self.push(b"\"");
-            rest = &others[1..];
         }
         false
     }
@@ -104,10 +103,13 @@ pub fn plain_text(csv: bool, part: &[u8]) -> Option<&[u8]>
         return Some(part);
     }
     let end = part.len() - 1;
-    if end > 0 && part[end] == b'"' && !has_quote(&part[1..end]) {
-        return Some(&part[1..end]);
+    if end == 0 || part[end] != b'"' {
+        return None;
     }
-    None
+    if has_quote(&part[1..end]) {
+        return None;
+    }
+    Some(&part[1..end])
 }
 
 fn starts_with_quote(bytes: &[u8]) -> bool

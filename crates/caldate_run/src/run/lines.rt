@@ -53,7 +53,9 @@ pub fn part_end(
         ≡ take at bytes.now ∷ split_outside_quotes end separator start start (drop (at + 1) bytes.now ++ more))
         × (bytes.now ≡ take at bytes.now ++ end ∷ drop (at + 1) bytes.now)) }
 {
-    let at = index_of(end, bytes)?;
+    let Some(at) = index_of(end, bytes) else {
+        return None;
+    };
     if let Quoting::Off = quoting {
         return Some(at);
     }

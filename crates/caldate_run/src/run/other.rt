@@ -118,7 +118,6 @@ fn push_count(
     found: &DateOrMoment,
     target: &DateOrMoment,
 )
-    requires fits { length text.now ≤ longest_text }
     requires room { HasRoom longest_answer buffer.old }
     requires other { is_some (target_fields request.now) ≡ true }
     ensures text { (asked : List ℕ) → AppendsSome
