@@ -1,6 +1,6 @@
 -- The text of a field in quotes.
 use Rattle.std.proofs.Common.{◌≡◌, ◌∙◌, ℕ, suc, ◌+◌, ◌-◌, ◌<◌, ◌≤◌, Bool, true, false, cond, eqb, eq-eqb, List, [], ◌∷◌, ◌++◌, length, take, drop, get_or, Option, Some, None, refl, sym, ap, arith, append_assoc, length-drop}
-use Rattle.std.specs.Prelude.{All, not, option_map, unwrap_or, ◌&&◌}
+use Rattle.std.specs.Prelude.{All, MatchOption, not, option_map, unwrap_or, ◌&&◌}
 use Rattle.std.proofs.lemmas.List.{take_all, take_more}
 use Rattle.std.proofs.lemmas.List.Elements.{All-head, All-tail}
 use Rattle.caldate_run.specs.Fields.{field_text, is_quote, unquoted}
@@ -58,3 +58,32 @@ quoted_text (x ∷ xs) end q some at inner last h =
     let close : get_or xs (end - 1) 0 ≡ 34 = ap (λ n. get_or (x ∷ xs) n 0) next ∙ last in
     let is = ap unquoted (whole ∙ ap (λ b. take (end - 1) xs ++ b ∷ []) close) ∙ all_unquoted (take (end - 1) xs) h in
     sym (ap (λ b. cond b (unwrap_or (unquoted xs) (x ∷ xs)) (x ∷ xs)) q ∙ ap (λ t. unwrap_or t (x ∷ xs)) is)
+
+-- ---- it is no longer than the field
+mapped : (x : ℕ) (o : Option (List ℕ)) (n m : ℕ) → n + 1 ≤ m → MatchOption o (Unit {0}) (λ t. length t ≤ n) → MatchOption (option_map (λ t. x ∷ t) o) (Unit {0}) (λ t. length t ≤ m)
+mapped x None n m h k = tt
+mapped x (Some t) n m h k = omega (arith, h, k)
+
+one_few : (b : Bool) (x : ℕ) → MatchOption (cond b (Some []) None) (Unit {0}) (λ t. length t ≤ length (x ∷ []))
+one_few true x = omega arith
+one_few false x = tt
+
+two_few : (a b : Bool) (x y : ℕ) (ys : List ℕ) → MatchOption (unquoted (y ∷ ys)) (Unit {0}) (λ t. length t ≤ length (y ∷ ys)) → MatchOption (unquoted ys) (Unit {0}) (λ t. length t ≤ length ys)
+    → MatchOption (cond (not a) (option_map (λ t. x ∷ t) (unquoted (y ∷ ys))) (cond b (option_map (λ t. 34 ∷ t) (unquoted ys)) (Some (y ∷ ys)))) (Unit {0}) (λ t. length t ≤ length (x ∷ y ∷ ys))
+two_few false b x y ys h k = mapped x (unquoted (y ∷ ys)) (length (y ∷ ys)) (length (x ∷ y ∷ ys)) (omega arith) h
+two_few true true x y ys h k = mapped 34 (unquoted ys) (length ys) (length (x ∷ y ∷ ys)) (omega arith) k
+two_few true false x y ys h k = omega arith
+
+unquoted_few : (xs : List ℕ) → MatchOption (unquoted xs) (Unit {0}) (λ t. length t ≤ length xs)
+unquoted_few [] = tt
+unquoted_few (x ∷ []) = one_few (is_quote x) x
+unquoted_few (x ∷ y ∷ ys) = two_few (is_quote x) (is_quote y) x y ys (unquoted_few (y ∷ ys)) (unquoted_few ys)
+
+either_few : (b : Bool) (o : Option (List ℕ)) (xs all : List ℕ) → length xs ≤ length all → MatchOption o (Unit {0}) (λ t. length t ≤ length xs) → length (cond b (unwrap_or o all) all) ≤ length all
+either_few true None xs all few h = omega arith
+either_few true (Some t) xs all few h = omega (arith, few, h)
+either_few false o xs all few h = omega arith
+
+pub text_few : (csv : Bool) (part : List ℕ) → length (field_text csv part) ≤ length part
+text_few csv [] = omega arith
+text_few csv (x ∷ xs) = either_few (csv && is_quote x) (unquoted xs) xs (x ∷ xs) (omega arith) (unquoted_few xs)

@@ -1,18 +1,25 @@
 -- What goes out for the pieces of a line.
-use Rattle.std.proofs.Common.{◌≡◌, ◌∙◌, ℕ, ◌+◌, ◌-◌, ◌<◌, ◌≤◌, Bool, true, false, cond, List, [], ◌∷◌, ◌++◌, length, take, drop, get_or, Option, Some, None, Result, Ok, Err, refl, sym, ap, arith, subst, append_assoc}
-use Rattle.std.specs.Prelude.{◌&&◌, MatchOption, is_some, option_map, unwrap_or}
+use Rattle.std.proofs.Common.{◌≡◌, ◌∙◌, ℕ, ◌+◌, ◌-◌, ◌<◌, ◌≤◌, Bool, true, false, cond, List, [], ◌∷◌, ◌++◌, length, take, drop, get_or, Option, Some, None, Result, Ok, Err, refl, sym, ap, arith, subst, append_assoc, length-append}
+use Rattle.std.specs.Prelude.{◌&&◌, is_some, nat_le, option_map, unwrap_or}
 use Rattle.std.specs.Result.{result_err}
 use Rattle.std.proofs.Math.Seq.{drop-append_seam, take-append_seam}
 use Rattle.std.proofs.lemmas.Bool.{false≢true}
-use Rattle.std.proofs.lemmas.List.{append-nil, take_all}
-use Rattle.caldate_run.specs.Answers.{Answer, IsAnswer, keeps}
-use Rattle.caldate_run.specs.Fields.{Cut, cut_of, end_of_field, in_place_of, in_quotes, as_field, is_quoted, with_numbers, within_quotes}
+use Rattle.std.proofs.lemmas.Bool.Decides.{nat_tests}
+use Rattle.std.proofs.lemmas.List.{append-nil, take_all, take_rest}
+use Rattle.cal_schedule.specs.Workdays.{WorkWeek}
+use Rattle.cal_text.specs.declared.any.DateOrMoment.{DateOrMoment}
+use Rattle.caldate_run.specs.Answers.{Answer, IsAnswer, IsAnswerTo, keeps}
+use Rattle.caldate_run.specs.Fields.{Cut, cut_of, end_of_field, in_place_of, in_quotes, as_field, field_text, is_quote, is_quoted, unquoted, with_numbers}
 use Rattle.caldate_run.specs.Pieces.{IsAnswered, IsAnswerToAsked, IsOutOf, IsPieceOut, Piece, Pieces, closed_words, earlier, field_end, field_piece, fields_from, fields_in, is_quoted_in, joined, later_cut, new_field, own_field, pieces_in, pieces_of, placed, replaced, single, whole}
 use Rattle.caldate_run.specs.Runs.{AppendsAnswer, AppendsOut, AppendsSome}
-use Rattle.caldate_run.specs.Targets.{IsAnswerAt}
+use Rattle.caldate_run.specs.Targets.{other_field}
+use Rattle.caldate_run.proofs.NewFields.{plain_words}
+use Rattle.caldate_run.proofs.Others.{by_itself}
 use Rattle.caldate_run.proofs.Replied.{weaker}
 use Rattle.caldate_run.specs.declared.request.Field.{Field}
 use Rattle.caldate_run.specs.declared.request.Filter.{Filter}
+use Rattle.caldate_run.specs.declared.request.Request.{Request}
+use Rattle.caldate_run.specs.declared.request.Request.TheVariants.{To, Print, Add, Move, Floor, Until, Since, At, Keep}
 use Rattle.caldate_run.specs.declared.run.no_answer.NoAnswer.{NoAnswer}
 use Rattle.caldate_run.specs.declared.several_fields.RankedField.{RankedField}
 
@@ -84,6 +91,12 @@ more_parts : (fields : List RankedField) (d : RankedField) → 1 ≤ length fiel
 more_parts [] d some = absurd (omega (arith, some))
 more_parts (f ∷ fs) d some = ap (λ l. f ∷ l) (sym (take_all (length (f ∷ fs) - 1) fs (omega arith)))
 
+pub no_fields_out : (filter : Filter) (field : Field) (fields : List RankedField) (text : List ℕ) (at : ℕ) (old new : List ℕ) → length fields < 1
+    → new ≡ old ++ take (length text - at) (drop at text)
+    → AppendsOut (IsOutOf filter text (fields_from field text at fields).texts (fields_from field text at fields).rest None) true old new
+no_fields_out filter field [] text at old new none put = (Some (drop at text), put ∙ ap (λ l. old ++ l) (take_rest text at), refl, (refl, refl))
+no_fields_out filter field (next ∷ fields) text at old new none put = absurd (omega (arith, none))
+
 pub fields_out : (filter : Filter) (field own : Field) (fields : List RankedField) (d : RankedField) (text : List ℕ) (at end : ℕ) (piece : Piece) (any : Option NoAnswer) (later : Option (ℕ × NoAnswer))
     (goes goes_on both : Bool) (old mid after new : List ℕ) (start : ℕ) → 1 ≤ length fields → own ≡ with_numbers field (get_or fields 0 d).numbers
     → piece ≡ field_piece own (get_or fields 0 d).rank at (later_cut at (cut_of own text)) → end ≡ field_end at (later_cut at (cut_of own text)) → start ≡ length old
@@ -139,3 +152,94 @@ pub fields_answered : (filter : Filter) (text : List ℕ) (field : Field) (field
     → AppendsOut (IsAnswered filter text (fields_from field text 0 fields) any) goes old new → AppendsOut (IsAnswered filter text (pieces_of filter text) any) goes old new
 fields_answered filter text field fields any goes old new e h is put =
     subst (λ (ps : Pieces). AppendsOut (IsAnswered filter text ps any) goes old new) (sym (field_pieces filter field fields text e h is)) put
+
+-- ---- a text that is answered by itself
+cond_of : (b : Bool) (part words all : List ℕ) → (b ≡ true → all ≡ part) → words ≡ all → cond b part words ≡ all
+cond_of true part words all h e = sym (h refl)
+cond_of false part words all h e = e
+
+-- `keep` answers with the text itself
+kept_words : (workdays : WorkWeek) (q : Request) (text : List ℕ) (found : DateOrMoment) (words : List ℕ) → IsAnswerTo workdays q text found words → keeps q ≡ true → words ≡ text
+kept_words workdays (Keep bounds) text found words h e = h.1
+kept_words workdays (To form) text found words h e = absurd (false≢true e)
+kept_words workdays (Print items) text found words h e = absurd (false≢true e)
+kept_words workdays (Add d) text found words h e = absurd (false≢true e)
+kept_words workdays (Move by) text found words h e = absurd (false≢true e)
+kept_words workdays (Floor n) text found words h e = absurd (false≢true e)
+kept_words workdays (Until target unit) text found words h e = absurd (false≢true e)
+kept_words workdays (Since target unit) text found words h e = absurd (false≢true e)
+kept_words workdays (At place) text found words h e = absurd (false≢true e)
+
+own_words : (filter : Filter) (text words : List ℕ) → IsAnswer filter text (Ok (Some words)) → placed filter.field text words ≡ words
+    → replaced filter text true (Ok (Some words)) ≡ Some words
+own_words filter text words h e =
+    ap Some (cond_of (keeps filter.request) text (placed filter.field text words) words (λ k. kept_words filter.workdays filter.request text h.0 words h.2 k) e)
+
+-- a whole line
+whole_out : (filter : Filter) (text : List ℕ) (goes : Bool) (old new : List ℕ) → filter.field ≡ None → other_field filter ≡ None → AppendsAnswer (IsAnswer filter text) (Ok goes) old new
+    → AppendsOut (IsPieceOut filter text (whole text) None) goes old new
+whole_out filter text true old new none other (words, e, h) = (
+  Some words,
+  e,
+  refl,
+  (Ok (Some words), by_itself filter text text (Ok (Some words)) other h, refl, sym (ap (option_map (λ w. [] ++ w)) (own_words filter text words h (ap (λ f. placed f text words) none)))),
+)
+whole_out filter text false old new none other (e, h) = (None, e ∙ sym (append-nil old), refl, (Ok None, by_itself filter text text (Ok None) other h, refl, refl))
+
+pub whole_answered : (filter : Filter) (text : List ℕ) (goes : Bool) (old new : List ℕ) → filter.field ≡ None → other_field filter ≡ None → AppendsAnswer (IsAnswer filter text) (Ok goes) old new
+    → AppendsOut (IsAnswered filter text (pieces_of filter text) None) goes old new
+whole_answered filter text goes old new none other h =
+    single_answered filter text (whole text) (whole text) None goes old new (whole_pieces filter text none) refl (whole_out filter text goes old new none other h)
+
+-- a field that isn't one of a CSV record
+plain_field : (csv : Bool) (part : List ℕ) → csv ≡ false → field_text csv part ≡ part
+plain_field csv [] e = refl
+plain_field csv (x ∷ xs) e = ap (λ b. cond (b && is_quote x) (unwrap_or (unquoted xs) (x ∷ xs)) (x ∷ xs)) e
+
+from_start : (n : ℕ) → nat_le 0 n ≡ true
+from_start n = grind (arith, nat_tests)
+
+abbrev pub Parts : List ℕ → List ℕ → List ℕ → Cut
+Parts front part rest = record { front = front; part = part; rest = rest }
+
+field_piece_is : (field : Field) (text front part rest : List ℕ) → field.csv ≡ false → cut_of field text ≡ Some (Parts front part rest)
+    → (later_cut 0 (cut_of field text) ≡ Some (Parts front part rest)) × (field_piece field 0 0 (later_cut 0 (cut_of field text)) ≡ record { kept = front; source = part; asked = Some part; rank = 0 })
+field_piece_is field text front part rest csv cut =
+    let later = ap (later_cut 0) cut ∙ ap (λ b. cond b (Some (Parts front part rest)) None) (from_start (length front)) in
+    (later, ap (field_piece field 0 0) later ∙ ap (λ t. record { kept = front; source = part; asked = Some t; rank = 0 }) (plain_field field.csv part csv))
+
+pub field_answered : (filter : Filter) (field : Field) (text front part rest old new : List ℕ) (answer : Answer) (out : Option (List ℕ)) (goes : Bool) → filter.field ≡ Some field → filter.several ≡ []
+    → field.csv ≡ false → field.appends ≡ false → other_field filter ≡ None → cut_of field text ≡ Some (Parts front part rest) → text ≡ front ++ part ++ rest → IsAnswer filter part answer
+    → result_err answer ≡ None → joined (option_map (λ words. front ++ words) (replaced filter part true answer)) (Some rest) ≡ out → new ≡ old ++ unwrap_or out [] → goes ≡ is_some out
+    → AppendsOut (IsAnswered filter text (pieces_of filter text) None) goes old new
+field_answered filter field text front part rest old new answer out goes own single csv in_place other cut whole is none outs put some =
+    let one = own_field field ∷ [] in
+    let at = field_piece_is field text front part rest csv cut in
+    let last : drop (field_end 0 (later_cut 0 (cut_of field text))) text ≡ rest =
+    ap (λ c. drop (field_end 0 c) text) at.0 ∙ ap (drop (length front + length part)) whole ∙ ap (λ n. drop n (front ++ part ++ rest)) (sym (length-append front part)) ∙ drop-append_seam (front ++ part) rest in
+    let piece : IsPieceOut filter text (record { kept = front; source = part; asked = Some part; rank = 0 }) None (option_map (λ words. front ++ words) (replaced filter part true answer)) =
+    (answer, by_itself filter text part answer other is, sym none, refl) in
+    fields_answered filter text field one None goes old new own in_place (ap (fields_in field) (sym single)) (
+      out,
+      put,
+      some,
+      (
+        None,
+        (
+          None,
+          option_map (λ words. front ++ words) (replaced filter part true answer),
+          None,
+          Some rest,
+          subst (λ (p : Piece). IsPieceOut filter text p None (option_map (λ words. front ++ words) (replaced filter part true answer))) (sym at.1) piece,
+          (refl, ap Some (sym last)),
+          refl,
+          sym outs,
+        ),
+        refl,
+      ),
+    )
+
+pub field_words : (filter : Filter) (field : Field) (front part rest words : List ℕ) → filter.field ≡ Some field → field.csv ≡ false → IsAnswer filter part (Ok (Some words))
+    → joined (option_map (λ words. front ++ words) (replaced filter part true (Ok (Some words)))) (Some rest) ≡ Some (front ++ words ++ rest)
+field_words filter field front part rest words own csv h =
+    ap (λ o. joined (option_map (λ words. front ++ words) o) (Some rest)) (own_words filter part words h (ap (λ f. placed f part words) own ∙ plain_words field part words csv))

@@ -3,7 +3,7 @@ use Rattle.std.proofs.Common.{◌≡◌, ◌⊎◌, inl, inr, ℕ, ◌+◌, ◌-
 use Rattle.std.specs.Prelude.{IsSomeAnd, MatchBool, MatchOption, is_some, nat_lt, unwrap_or, ◌&&◌}
 use Rattle.std.proofs.Math.Seq.{take-append-add, take-append_seam}
 use Rattle.std.proofs.lemmas.Bool.{false≢true, le-ltb, lt-ltb}
-use Rattle.std.proofs.lemmas.List.{get_or-append-add}
+use Rattle.std.proofs.lemmas.List.{append-nil, get_or-append-add}
 use Rattle.caldate_run.specs.Answers.{Answer}
 use Rattle.caldate_run.proofs.Steps.{passed_none}
 use Rattle.caldate_run.specs.Fields.{text_without}
@@ -92,6 +92,11 @@ puts_other P Q (Err any) old new f h = (h.0, f (Err any) h.1)
 
 pub taken_back : (old mid rest new : List ℕ) (before : ℕ) → before ≡ length old → mid ≡ old ++ rest → new ≡ take before mid → new ≡ old
 taken_back old mid rest new before at e f = f ∙ ap (λ k. take k mid) at ∙ ap (λ l. take (length old) l) e ∙ take-append_seam old rest
+
+pub line_answered : (Is : Answer → Type 0) (mode : OnInvalid) (text : List ℕ) (goes : Bool) (old new : List ℕ) → AppendsAnswer Is (Ok goes) old new
+    → AppendsOut (λ out. (answer : Answer) × Is answer × IsLine mode text answer None out) goes old new
+line_answered Is mode text true old new (words, e, h) = (Some words, e, refl, (Ok (Some words), h, (refl, refl)))
+line_answered Is mode text false old new (e, h) = (None, e ∙ sym (append-nil old), refl, (Ok None, h, (refl, refl)))
 
 -- ---- a line, after a front that was passed on
 -- what goes out for it

@@ -33,6 +33,9 @@ of_some : (field : Option Field) (q : Quoting) (x : ℕ) (xs : List ℕ)
 of_some field q x xs =
     ap (λ (p : Quoting). cond (ends_at field q x) ([] ∷ split_input field xs) (onto_first x (split_outside_quotes 10 (separator_of field) (quotes_in field Ready) p xs))) (same_after field q x)
 
+pub of_none : (field : Option Field) (q : Quoting) → split_from field q [] ≡ [] ∷ []
+of_none field q = refl
+
 -- ---- the first part
 pub parts_some : (field : Option Field) (q : Quoting) (xs : List ℕ) → 0 < length (split_from field q xs)
 parts_some field q xs = record_some 10 (separator_of field) (quotes_in field Ready) (quotes_in field q) xs

@@ -7,7 +7,7 @@ use Rattle.std.proofs.lemmas.List.{append-nil, take-append-le, take_all}
 use Rattle.std.proofs.lemmas.Bool.{false≢true}
 use Rattle.caldate_run.specs.Lines.{all_lines, ended_lines, last_part, split_from, split_input, text_of, unended, without_empty_last, without_last}
 use Rattle.caldate_run.specs.Replies.{Describes, EndsAt, IsOutcome, IsReplyTo, stops}
-use Rattle.caldate_run.specs.Runs.{AnswersAll, AnswersEnded, AnswersFront, AppendsFront, IsPassedOn, AppendsReply, StopsAt}
+use Rattle.caldate_run.specs.Runs.{AnswersAll, AnswersEnded, AnswersFront, AppendsFront, IsPassedOn, AppendsReply, EndsUnanswered, StopsAt}
 use Rattle.caldate_run.specs.RunStates.{AreReplies, AtLine, FirstEnds, IsDroppedFront, NoEnd, Replies, RunState, counted, no_lines, onto, passed, quoting_in, quoting_of}
 use Rattle.caldate_run.specs.declared.run.no_answer.NoAnswer.{NoAnswer}
 use Rattle.caldate_run.specs.declared.on_invalid.OnInvalid.{OnInvalid}

@@ -25,7 +25,7 @@ abbrev pub longest_out : ℕ
 longest_out = 12109
 
 abbrev pub longest_reply : ℕ
-longest_reply = 17300
+longest_reply = 18300
 
 -- There is room for n more bytes.
 abbrev pub HasRoom : ℕ → List ℕ → Type 0

@@ -256,7 +256,7 @@ fn push_instead(
     has_text: bool,
     why: NoAnswer,
 ) -> bool
-    requires { HasRoom (length source.now + longest_field + 1) buffer.old }
+    requires { HasRoom (length source.now + longest_field + longest_field) buffer.old }
     ensures text { buffer.new ≡ buffer.old ++ unwrap_or (replaced filter.now source.now has_text (Err why)) [] }
     ensures goes_out { result ≡ is_some (replaced filter.now source.now has_text (Err why)) }
     ensures short { length buffer.new ≤ length buffer.old + length source.now + longest_field }
@@ -282,7 +282,7 @@ fn push_reason_instead(
     has_text: bool,
     why: NoAnswer,
 )
-    requires { HasRoom (length source.now + longest_field + 1) buffer.old }
+    requires { HasRoom (length source.now + longest_field + longest_field) buffer.old }
     ensures text { buffer.new ≡ buffer.old
         ++ (if has_place field has_text then placed field source.now (reason why) else source.now) }
     ensures short { length buffer.new ≤ length buffer.old + length source.now + longest_field }

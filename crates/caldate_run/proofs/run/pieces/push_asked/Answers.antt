@@ -1,6 +1,7 @@
 use Rattle.std.proofs.Common.{◌≡◌, ◌∙◌, ◌++◌, [], Some, None, Ok, Err, ap, cond, refl, subst, sym}
+use Rattle.std.specs.Prelude.{unwrap_or}
 use Rattle.std.proofs.lemmas.List.{append-nil}
-use Rattle.caldate_run.specs.Pieces.{placed}
+use Rattle.caldate_run.specs.Pieces.{placed, replaced}
 use Rattle.caldate_run.specs.Runs.{AppendsAnswer, AppendsSome}
 use Rattle.caldate_run.specs.Targets.{IsAnswerAt}
 use Rattle.caldate_run.proofs.PieceOuts.{taken_off, words_placed}
@@ -54,8 +55,8 @@ returns-in-Err-clause-out c =
     let given = c.push_answer_at.new.buffer in
     let put = c.in-Err.ensures.answered in
     let back = taken_off c.args.buffer.now begun given [] _ _ c.len-start.result c.len-start.ensures c.open_words-quoted.ensures.text (put.0 ∙ sym (append-nil begun)) c.truncate-in-Err.ensures in (
-      _,
-      c.push_instead-goes_out.ensures.text ∙ ap (λ l. l ++ _) back,
+      replaced c.args.filter.now c.args.source.now true (Err c.in-Err.why),
+      c.push_instead-goes_out.ensures.text ∙ ap (λ l. l ++ unwrap_or (replaced c.args.filter.now c.args.source.now true (Err c.in-Err.why)) []) back,
       c.push_instead-goes_out.ensures.goes_out,
       (Err c.in-Err.why, put.1, refl, refl),
     )

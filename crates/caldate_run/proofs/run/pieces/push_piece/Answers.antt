@@ -1,4 +1,5 @@
-use Rattle.std.proofs.Common.{◌∙◌}
+use Rattle.std.proofs.Common.{◌++◌, ap}
+use Rattle.std.specs.Prelude.{option_map}
 use Rattle.caldate_run.proofs.PieceOuts.{piece_out}
 use Rattle.caldate_run.proofs.run.pieces.push_piece.Goals as goal
 

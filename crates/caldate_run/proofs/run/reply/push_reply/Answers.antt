@@ -1,4 +1,4 @@
-use Rattle.std.proofs.Common.{None, ap, refl}
+use Rattle.std.proofs.Common.{None, arith, refl}
 use Rattle.caldate_run.proofs.Replied.{of_pieces, replied, short_left, weaker}
 use Rattle.caldate_run.proofs.run.reply.push_reply.Goals as goal
 
