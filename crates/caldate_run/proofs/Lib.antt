@@ -12,14 +12,15 @@ pub mod Takes
 pub mod Texts
 pub mod RecordFields
 pub mod NewFields
-pub mod NextMoments
 pub mod OneList
 pub mod Each
 pub mod Replied
 pub mod Reported
 pub mod DayLists
 pub mod HolidayLines
+pub mod Outputs
 pub mod Steps
+pub mod Advances
 pub mod OneCount
 pub mod OneAnswer
 pub mod OneReply

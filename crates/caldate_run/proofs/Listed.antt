@@ -1,25 +1,26 @@
--- The days of a list, one after the other.
-use Rattle.std.proofs.Common.{◌≡◌, ℕ, suc, ◌+◌, ◌*◌, ◌<◌, ◌∙◌, ap, refl, sym, subst, arith, inl, inr, Option, None, Some, Result, Ok, Err, ℤ, pos, min, List, [], ◌∷◌, ◌++◌, length, get_or, append_assoc, length-append}
-use Rattle.std.specs.Prelude.{IfErr, IfSome, IsErrAnd, IsOk, MatchOption, OnErr, OnOk}
+-- The days and moments of a list, one after another.
+use Rattle.std.proofs.Common.{◌≡◌, ℕ, ◌+◌, ◌<◌, ◌∙◌, ap, refl, sym, subst, arith, Bool, true, false, Option, None, Some, Result, Ok, Err, ℤ, pos, min, List, [], ◌∷◌, ◌++◌, append_assoc}
+use Rattle.std.specs.Prelude.{◌-ℤ◌, ◌≤ℤ◌, ◌<ℤ◌, IfSome, IsOk, MatchOption, is_ok}
 use Rattle.std.specs.List.{flat_map}
-use Rattle.std.proofs.lemmas.Bool.{cases_lt, false≢true}
+use Rattle.std.proofs.lemmas.Bool.{false≢true}
 use Rattle.std.proofs.lemmas.Int.{ints}
-use Rattle.std.proofs.lemmas.List.{append-nil, ext_get_or, get_or_append_left}
-use Rattle.std.proofs.lemmas.List.Concat.{flat_map-append}
-use Rattle.std.proofs.Math.Nat.{suc-mul}
-use Rattle.std.proofs.Math.Seq.{get_or-append_seam}
-use Rattle.std.specs.Io.KnownBytes.{Appends}
+use Rattle.cal_datetime.specs.OffsetDateTime.{LocalAndOffset, instant}
+use Rattle.cal_recurrence.specs.ZonedSet.{IsNextAfter, Occurs}
+use Rattle.cal_recurrence.specs.declared.zoned_set.ZonedSet.{ZonedSet}
 use Rattle.cal_time.specs.Date.{IsDate}
 use Rattle.cal_schedule.specs.Months.{IsMonthsLater}
 use Rattle.cal_schedule.proofs.MonthMoves.{IsMonthNumber-date, one_later}
-use Rattle.caldate_run.specs.Lists.{AreAll, AreFirst, IsUnitsAfter, IsListed, Lists, WritesLines, line_of}
-use Rattle.caldate_run.specs.Runs.{AppendsFront, IsOfWrite, WritesPage}
+use Rattle.caldate_run.specs.Lists.{AreDays, AreListed, IfAll, IsEnd, IsUnitsAfter, IsWithin, Lists, line_of}
+use Rattle.caldate_run.specs.Outputs.{WritesPage}
+use Rattle.caldate_run.specs.Recurring.{AreFirst, AreLeft, IsEndIn, ListsSet, WritesLeft, moment_line}
+use Rattle.caldate_run.specs.declared.list.remaining.Remaining.{Remaining}
+use Rattle.caldate_run.specs.declared.list.remaining.Remaining.TheVariants.{Steps, Dates, Moments, InZone}
 use Rattle.caldate_run.specs.declared.run.run_error.RunError.{RunError}
 use Rattle.caldate_run.specs.declared.request.Listing.{Listing}
 use Rattle.caldate_run.specs.declared.request.StepUnit.{StepUnit}
 use Rattle.caldate_run.specs.declared.request.StepUnit.TheVariants.{Days, Months}
 use Rattle.caldate_run.proofs.OneAnswer.{took-one}
-use Rattle.caldate_run.proofs.Steps.{all_more, front_more}
+use Rattle.caldate_run.proofs.Outputs.{page_longer}
 
 -- any two days of the range are less than a thousand million months from each other
 few_months : (n m s : ℕ) → IsDate n → IsDate s → IsMonthsLater n (pos m) s → m < 1000000000
@@ -45,99 +46,89 @@ pub near : (n m : ℕ) (z : ℤ) (r : Option ℕ) → IsDate n → z ≡ pos (mi
 near n m z None d e has = tt
 near n m z (Some s) d e has = omega (arith, few_months n (min m 1000000000) s d has.0 (subst (λ y. IsMonthsLater n y s) e has.1))
 
--- ---- one day more
-pub one_more : (listing : Listing) (days : List ℕ) (day : ℕ) → AreFirst listing days → IsListed listing (length days) day
-    → AreFirst listing (days ++ day ∷ [])
-one_more listing days day first next k less =
-    elim (cases_lt k (length days)) as (λ _. IsListed listing k (get_or (days ++ day ∷ []) k 0)) [
-      | inl before ↦ subst (IsListed listing k) (sym (get_or_append_left days (day ∷ []) 0 k before)) (first k before)
-      | inr after ↦
-          let last : length days ≡ k = omega (arith, length-append days (day ∷ []), less, after) in
-          subst (λ j. IsListed listing j (get_or (days ++ day ∷ []) j 0)) last
-          (subst (IsListed listing (length days)) (sym (get_or-append_seam days day [] 0)) next)
-    ]
+-- ---- what the writer took of a list
+pub lists_steps : (listing : Listing) (r : Result Unit RunError) (old new : Option (List ℕ)) → WritesLeft (Steps listing 0) r old new → Lists listing r old new
+lists_steps listing r old new (bytes, (days, are, e), page) = (days, are, subst (λ bytes. WritesPage bytes r old new) e page)
 
-pub one_line_more : {X : Type 0} (line : X → List ℕ) (items : List X) (item : X) (written buffered : List ℕ) → flat_map line items ≡ written ++ buffered
-    → flat_map line (items ++ item ∷ []) ≡ written ++ (buffered ++ line item)
-one_line_more line items item written buffered e =
-    flat_map-append line items (item ∷ []) ∙ ap (λ l. l ++ (line item ++ [])) e
-    ∙ ap (λ l. written ++ buffered ++ l) (append-nil (line item)) ∙ append_assoc written buffered (line item)
+pub lists_first : (lines : List ℕ) (r : Result Unit RunError) (old new : Option (List ℕ)) → (bytes : List ℕ) × AreFirst (is_ok r) lines bytes × WritesPage bytes r old new
+    → WritesPage lines r old new
+lists_first lines r old new (bytes, (more, e, all), page) = page_longer bytes more lines r old new e all page
 
-pub next_count : (days : List ℕ) (day count every : ℕ) → count ≡ length days * every → count + every ≡ length (days ++ day ∷ []) * every
-next_count days day count every e =
-    let longer : length (days ++ day ∷ []) ≡ suc (length days) = omega (arith, length-append days (day ∷ [])) in
-    sym (ap (λ k. k * every) longer ∙ suc-mul (length days) every ∙ ap (λ p. p + every) (sym e))
+pub lists_in : (set : ZonedSet) (next : Option LocalAndOffset) (first last : LocalAndOffset) (r : Result Unit RunError) (old new : Option (List ℕ))
+    → IsNextAfter (Occurs set) (instant first -ℤ pos 1) next → WritesLeft (InZone set next last) r old new → ListsSet set first last r old new
+lists_in set next first last r old new is (bytes, left, page) =
+    let (ms, are, e) = left (instant first -ℤ pos 1) is in
+    (ms, are, subst (λ bytes. WritesPage bytes r old new) e page)
 
--- ---- what the writer took
-pub lists_failed : {X : Type 0} (line : X → List ℕ) (First All : List X → Type 0) (r : Result Unit RunError) (old new : Option (List ℕ)) (items : List X)
-    → IsErrAnd r IsOfWrite → First items → AppendsFront old new (flat_map line items) → WritesLines line First All r old new
-lists_failed line First All (Ok done) old new items is first front = absurd is
-lists_failed line First All (Err error) old new items is first front = (is, (items, first, front))
+-- ---- one line more
+pub day_more : (listing : Listing) (count next day : ℕ) → IsWithin listing count day → next ≡ count + listing.step.every → (text : List ℕ) → text ++ 10 ∷ [] ≡ line_of day
+    → (all : Bool) (more : List ℕ) → AreLeft all (Steps listing next) more → AreLeft all (Steps listing count) ((text ++ 10 ∷ []) ++ more)
+day_more listing count next day within e text line all more (days, are, is) = (
+  day ∷ days,
+  (within, subst (λ k. AreDays listing (λ count. IfAll all (IsEnd listing count)) k days) e are),
+  ap (λ l. l ++ more) line ∙ ap (λ l. line_of day ++ l) is,
+)
 
-pub lists_ended : {X : Type 0} (line : X → List ℕ) (First All : List X → Type 0) (r : Result Unit RunError) (start now new : Option (List ℕ)) (items : List X)
-    (written buffered : List ℕ) → First items → All items → flat_map line items ≡ written ++ buffered → Appends start now written
-    → OnOk r (Appends now new buffered) → OnErr r (AppendsFront now new buffered) → IfErr r IsOfWrite → WritesLines line First All r start new
-lists_ended line First All (Ok done) start now new items written buffered first all whole taken ok front err =
-    (items, all, all_more start now new written buffered _ whole taken ok)
-lists_ended line First All (Err error) start now new items written buffered first all whole taken ok front err =
-    (err, (items, first, front_more start now new written buffered _ whole taken front))
+pub first_more : (line left lines bytes : List ℕ) (all : Bool) → lines ≡ line ++ left → AreFirst all left bytes → AreFirst all lines (line ++ bytes)
+first_more line left lines bytes all e (more, is, whole) = (more, e ∙ ap (λ l. line ++ l) is ∙ sym (append_assoc line bytes more), whole)
 
--- ---- lines of which some are left
-pub one_text_more : (all written old room buffered text left : List ℕ) → all ≡ written ++ (old ++ (text ++ 10 ∷ left)) → old ≡ room ++ buffered
-    → all ≡ (written ++ room) ++ (((buffered ++ text) ++ 10 ∷ []) ++ left)
-one_text_more all written old room buffered text left e cut =
-    e ∙ ap (λ l. written ++ (l ++ (text ++ 10 ∷ left))) cut ∙ simp append_assoc refl
+pub moment_more : (set now : ZonedSet) (next next_now : Option LocalAndOffset) (last m : LocalAndOffset) → now ≡ set → next ≡ Some m → instant m ≤ℤ instant last
+    → IsNextAfter (Occurs set) (instant m) next_now → (text : List ℕ) → text ++ 10 ∷ [] ≡ moment_line m
+    → (all : Bool) (more : List ℕ) → AreLeft all (InZone now next_now last) more → AreLeft all (InZone set next last) ((text ++ 10 ∷ []) ++ more)
+moment_more set now next next_now last m same is most after text line all more left x first =
+    let (ms, are, e) = subst (λ s. AreLeft all (InZone s next_now last) more) same left (instant m) after in (
+      m ∷ ms,
+      (record { first = subst (IsNextAfter (Occurs set) x) is first; not_past = most }, are),
+      ap (λ l. l ++ more) line ∙ ap (λ l. moment_line m ++ l) e,
+    )
 
-pub lines_failed : (r : Result Unit RunError) (start now new : Option (List ℕ)) (all written buffered left : List ℕ) → IsErrAnd r IsOfWrite
-    → all ≡ written ++ (buffered ++ left) → Appends start now written → AppendsFront now new buffered → WritesPage all r start new
-lines_failed (Ok done) start now new all written buffered left is e taken front = absurd is
-lines_failed (Err error) start now new all written buffered left is e taken front =
-    let more : AppendsFront now new (buffered ++ left) = record {
-      front = front.front;
-      rest = front.rest ++ left;
-      whole = ap (λ l. l ++ left) front.whole ∙ append_assoc front.front front.rest left;
-      left = omega (arith, front.left, length-append front.rest left);
-      taken = front.taken;
-    } in
-    (is, front_more start now new written (buffered ++ left) all e taken more)
+-- ---- the end
+pub no_more : (all : Bool) (lines : List ℕ) → lines ≡ [] → AreFirst all lines []
+no_more true lines none = (lines, refl, none)
+no_more false lines none = (lines, refl, tt)
 
-pub lines_ended : (r : Result Unit RunError) (start now new : Option (List ℕ)) (all written buffered left : List ℕ) → left ≡ []
-    → all ≡ written ++ (buffered ++ left) → Appends start now written → OnOk r (Appends now new buffered) → OnErr r (AppendsFront now new buffered)
-    → IfErr r IsOfWrite → WritesPage all r start new
-lines_ended (Ok done) start now new all written buffered left none e taken ok front err =
-    all_more start now new written buffered all (e ∙ ap (λ l. written ++ l) (ap (λ l. buffered ++ l) none ∙ append-nil buffered)) taken ok
-lines_ended (Err error) start now new all written buffered left none e taken ok front err =
-    (err, front_more start now new written buffered all (e ∙ ap (λ l. written ++ l) (ap (λ l. buffered ++ l) none ∙ append-nil buffered)) taken front)
+pub no_days : (listing : Listing) (count : ℕ) → IsEnd listing count → (all : Bool) → AreLeft all (Steps listing count) []
+no_days listing count end true = ([], end, refl)
+no_days listing count end false = ([], tt, refl)
+
+pub no_moments : (set : ZonedSet) (next : Option LocalAndOffset) (last : LocalAndOffset) → ((x : ℤ) → IsNextAfter (Occurs set) x next → IsEndIn set last x) → (all : Bool)
+    → AreLeft all (InZone set next last) []
+no_moments set next last end true x first = ([], end x first, refl)
+no_moments set next last end false x first = ([], tt, refl)
+
+pub end_in : (set : ZonedSet) (last : LocalAndOffset) (next : Option LocalAndOffset) → ((m : LocalAndOffset) → next ≡ Some m → instant last <ℤ instant m)
+    → (x : ℤ) → IsNextAfter (Occurs set) x next → IsEndIn set last x
+end_in set last None past x none m next = omega (arith, ints, none next.first.place m next.first.is, next.first.later)
+end_in set last (Some k) past x first m next =
+    omega (arith, ints, (first.first next.first.place m next.first.is next.first.later).0, past k refl, next.not_past)
+
+-- none of them are the first of them
+pub none_yet : (rest : Remaining) → AreLeft false rest []
+none_yet (Steps listing count) = ([], tt, refl)
+none_yet (Dates days last) = (_, refl, tt)
+none_yet (Moments readings offset last) = (_, refl, tt)
+none_yet (InZone set next last) x first = ([], tt, refl)
 
 -- ---- a list has one answer
 pub one_after : (unit : StepUnit) (count n a b : ℕ) → IsUnitsAfter unit count n a → IsUnitsAfter unit count n b → a ≡ b
 one_after Days count n a b h k = h ∙ sym k
 one_after Months count n a b h k = one_later n a b (pos count) h k
 
--- no list of all the days is shorter than another
-no_shorter : (listing : Listing) (days others : List ℕ) → AreAll listing days → AreFirst listing others → ¬ (length days < length others)
-no_shorter listing days others all first less = all.1 (get_or others (length days) 0) (first (length days) less)
-
-one_list : (listing : Listing) (days others : List ℕ) → AreAll listing days → AreAll listing others → days ≡ others
-one_list listing days others all too =
-    let same : length days ≡ length others =
-    elim (cases_lt (length days) (length others)) as (λ _. length days ≡ length others) [
-      | inl less ↦ absurd (no_shorter listing days others all too.0 less)
-      | inr most ↦ elim (cases_lt (length others) (length days)) as (λ _. length days ≡ length others) [
-        | inl more ↦ absurd (no_shorter listing others days too all.0 more)
-        | inr least ↦ omega arith
-      ]
-    ] in
-    ext_get_or 0 days others same (λ k less.
-    one_after listing.step.unit (k * listing.step.every) listing.first (get_or days k 0) (get_or others k 0)
-    (all.0 k less).after (too.0 k (omega (arith, less, same))).after)
+one_days : (listing : Listing) (count : ℕ) (days others : List ℕ) → AreListed listing true count days → AreListed listing true count others → days ≡ others
+one_days listing count [] [] end stop = refl
+one_days listing count [] (k ∷ ks) end (there, rest) = absurd (end k there)
+one_days listing count (day ∷ days) [] (here, others) end = absurd (end day here)
+one_days listing count (day ∷ days) (k ∷ ks) (here, others) (there, rest) =
+    let same = one_after listing.step.unit count listing.first day k here.after there.after in
+    let more = one_days listing (count + listing.step.every) days ks others rest in
+    λ i. same i ∷ more i
 
 pub lists-one : (listing : Listing) (held : List ℕ) (r s : Result Unit RunError) (w v : Option (List ℕ)) → IsOk r → IsOk s
     → Lists listing r (Some held) w → Lists listing s (Some held) v → w ≡ v
 lists-one listing held (Err e) s w v ok too first second = absurd (false≢true ok)
 lists-one listing held (Ok done) (Err e) w v ok too first second = absurd (false≢true too)
 lists-one listing held (Ok done) (Ok end) w v ok too (days, all, took) (others, every, taken) =
-    took-one held _ _ w v took taken (ap (flat_map line_of) (one_list listing days others all every))
+    took-one held _ _ w v took taken (ap (flat_map line_of) (one_days listing 0 days others all every))
 
 pub pages-one : (page held : List ℕ) (r s : Result Unit RunError) (w v : Option (List ℕ)) → IsOk r → IsOk s
     → WritesPage page r (Some held) w → WritesPage page s (Some held) v → w ≡ v

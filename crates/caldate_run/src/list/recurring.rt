@@ -1,19 +1,20 @@
 //! Lists of the dates or moments of a recurrence.
 ghost use Rattle.caldate_run.specs.Calls.{Writes, write_failure};
-ghost use Rattle.caldate_run.specs.Recurring.{ListsOccurrences, lines_left};
-ghost use Rattle.caldate_run.specs.Runs.{WritesPage};
+ghost use Rattle.caldate_run.specs.Recurring.{IsSetIn, ListsOccurrences};
 
-use crate::list::in_zone::list_in_zone;
+use crate::args::clock_words::moment_in;
 use crate::list::remaining::Remaining;
-use crate::output::buffer::Buffer;
-use crate::output::write_all;
+use crate::list::write_lines;
 use crate::request::{Occurrences, Span};
-use crate::run::make_room;
 use crate::run::run_error::RunError;
 use crate::streams::Sink;
+use cal_datetime::OffsetDateTime;
+use cal_recurrence::{CountedZonedSet, Recurrence};
+use cal_zone::Zone;
 
 /// Writes the dates or moments of the recurrence in order, each in the calendar form or in RFC 3339
-/// with a line feed. After a `RunError::Write`, only a part of the lines was written.
+/// with a line feed. In a zone, it starts at the reading of the zone's clocks at the first moment.
+/// After a `RunError::Write`, only a part of the lines was written.
 pub fn list_occurrences<W: Sink>(asked: Occurrences<'_>, writer: &mut W) -> Result<(), RunError>
     ensures lists { ListsOccurrences asked.entry result (W.contents writer.old) (W.contents writer.new) }
     ensures writes { Writes W.write_gives writer.old (write_failure result) writer.new }
@@ -21,27 +22,29 @@ pub fn list_occurrences<W: Sink>(asked: Occurrences<'_>, writer: &mut W) -> Resu
     let recurrence = asked.recurrence;
     match &asked.span {
         Span::Dates(first, last) => {
-            write_lines(Remaining::Dates(recurrence.days(*first), *last), writer)
+            write_lines(&mut Remaining::Dates(recurrence.days(*first), *last), writer)
         }
         Span::Moments(first, last) => {
             let readings = recurrence.readings(first.local());
-            write_lines(Remaining::Moments(readings, first.offset(), *last), writer)
+            write_lines(&mut Remaining::Moments(readings, first.offset(), *last), writer)
         }
-        Span::InZone(zone, first, last) => list_in_zone(zone, recurrence, *first, *last, writer),
+        Span::InZone(zone, first, last) => {
+            let mut set = set_in(zone, &recurrence, *first);
+            // The reading of the start may mean an earlier moment, if clocks show it twice.
+            let next = set.first_from(*first);
+            write_lines(&mut Remaining::InZone(set, next, *last), writer)
+        }
     }
 }
 
-/// Writes the lines of the dates or readings that are left.
-#[tactic(auto, using(crate::proofs::Calls::sent_all, crate::proofs::Calls::writes_then))]
-fn write_lines<W: Sink>(mut rest: Remaining, writer: &mut W) -> Result<(), RunError>
-    ensures lines { WritesPage (lines_left rest) result (W.contents writer.old) (W.contents writer.new) }
-    ensures writes { Writes W.write_gives writer.old (write_failure result) writer.new }
+/// Returns the set of a recurrence that starts at the reading of the zone's clocks at a moment.
+fn set_in<'a>(
+    zone: &'a Zone<'a>,
+    recurrence: &Recurrence,
+    first: OffsetDateTime,
+) -> CountedZonedSet<'a>
+    ensures { IsSetIn zone.now recurrence.now first result }
 {
-    let mut buffer = Buffer::new();
-    while let Some(text) = rest.next_text() {
-        make_room(&mut buffer, 0, writer)?;
-        buffer.push(text.as_bytes());
-        buffer.push(b"\n");
-    }
-    write_all(writer, buffer.as_bytes())
+    let start = moment_in(zone, first).local();
+    recurrence.zoned_set(start, &[], &[], zone)
 }
