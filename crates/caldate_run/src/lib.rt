@@ -24,4 +24,5 @@ mod retries;
 pub mod run;
 mod scan;
 pub mod streams;
+pub mod text;
 pub mod zones;
