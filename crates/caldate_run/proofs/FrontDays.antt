@@ -25,7 +25,8 @@ use Rattle.cal_schedule.proofs.Rules.{all_of_them}
 use Rattle.cal_time.specs.Date.{last_day}
 use Rattle.cal_time.specs.Occurrences.{days_from}
 use Rattle.caldate_run.specs.Lists.{line_of}
-use Rattle.caldate_run.specs.Recurring.{is_day_up_to, is_moment_up_to, days_left, reading_line, readings_left}
+use Rattle.caldate_run.specs.Recurring.{is_day_up_to, is_moment_up_to, lines_left, reading_line}
+use Rattle.caldate_run.specs.declared.list.remaining.Remaining.TheVariants as left
 
 -- ---- the items of a test in order: those within a bound are those before the first that isn't
 abbrev Falls : {X : Type 0} → (ℕ → X) → (X → Bool) → Type 0
@@ -100,9 +101,9 @@ days_up_to last (Until day) rule = subst (λ l. take_while (is_day_up_to last) l
 days_up_to last (Count count) rule = front_days last count rule
 
 pub all_days : (r : Recurrence) (first last : ℕ) (days : List ℕ) → days ≡ days_of r first
-    → flat_map line_of (days_left days last) ≡ flat_map line_of (filter (is_day_up_to last) (days_of r first))
+    → lines_left (left.Dates days last) ≡ flat_map line_of (filter (is_day_up_to last) (days_of r first))
 all_days r first last days e =
-    ap (λ l. flat_map line_of (days_left l last)) e ∙ ap (flat_map line_of) (days_up_to last r.end (rule_of r.pattern first (last_of r.end)))
+    ap (λ l. lines_left (left.Dates l last)) e ∙ ap (flat_map _) (days_up_to last r.end (rule_of r.pattern first (last_of r.end)))
 
 -- ---- the readings of a recurrence
 readings_fall : (offset : ℤ) (last : LocalAndOffset) → Falls pos (is_moment_up_to offset last)
@@ -123,7 +124,7 @@ readings_up_to offset last (Until end) rule =
 readings_up_to offset last (Count count) rule = front_readings offset last count rule
 
 pub all_readings : (r : Recurrence) (first last : LocalAndOffset) (items : List ℤ) → items ≡ readings_of r first.local
-    → flat_map (reading_line first.offset) (readings_left items first.offset last) ≡ flat_map (reading_line first.offset) (filter (is_moment_up_to first.offset last) (readings_of r first.local))
+    → lines_left (left.Moments items first.offset last) ≡ flat_map (reading_line first.offset) (filter (is_moment_up_to first.offset last) (readings_of r first.local))
 all_readings r first last items e =
-    ap (λ l. flat_map (reading_line first.offset) (readings_left l first.offset last)) e
-    ∙ ap (flat_map (reading_line first.offset)) (readings_up_to first.offset last r.end (date_time_rule first.local (last_reading_of r.end) r.pattern r.times))
+    ap (λ l. lines_left (left.Moments l first.offset last)) e
+    ∙ ap (flat_map _) (readings_up_to first.offset last r.end (date_time_rule first.local (last_reading_of r.end) r.pattern r.times))

@@ -1,26 +1,24 @@
 -- The days and moments of a list, one after another.
 use Rattle.std.proofs.Common.{◌≡◌, ℕ, ◌+◌, ◌<◌, ◌∙◌, ap, refl, sym, subst, arith, Bool, true, false, Option, None, Some, Result, Ok, Err, ℤ, pos, min, List, [], ◌∷◌, ◌++◌, append_assoc}
-use Rattle.std.specs.Prelude.{◌-ℤ◌, ◌≤ℤ◌, ◌<ℤ◌, IfSome, IsOk, MatchOption, is_ok}
+use Rattle.std.specs.Prelude.{◌≤ℤ◌, ◌<ℤ◌, IfSome, IsOk, MatchOption, is_ok}
 use Rattle.std.specs.List.{flat_map}
 use Rattle.std.proofs.lemmas.Bool.{false≢true}
 use Rattle.std.proofs.lemmas.Int.{ints}
+use Rattle.std.proofs.lemmas.List.{append-nil}
 use Rattle.cal_datetime.specs.OffsetDateTime.{LocalAndOffset, instant}
 use Rattle.cal_recurrence.specs.ZonedSet.{IsNextAfter, Occurs}
 use Rattle.cal_recurrence.specs.declared.zoned_set.ZonedSet.{ZonedSet}
 use Rattle.cal_time.specs.Date.{IsDate}
 use Rattle.cal_schedule.specs.Months.{IsMonthsLater}
 use Rattle.cal_schedule.proofs.MonthMoves.{IsMonthNumber-date, one_later}
-use Rattle.caldate_run.specs.Lists.{AreDays, AreListed, IfAll, IsEnd, IsUnitsAfter, IsWithin, Lists, line_of}
+use Rattle.caldate_run.specs.Lists.{AreListed, IfAll, IsEnd, IsUnitsAfter, Lists, WritesLines, line_of}
 use Rattle.caldate_run.specs.Outputs.{WritesPage}
-use Rattle.caldate_run.specs.Recurring.{AreFirst, AreLeft, IsEndIn, ListsSet, WritesLeft, moment_line}
-use Rattle.caldate_run.specs.declared.list.remaining.Remaining.{Remaining}
-use Rattle.caldate_run.specs.declared.list.remaining.Remaining.TheVariants.{Steps, Dates, Moments, InZone}
+use Rattle.caldate_run.specs.Recurring.{AreListedIn, IsEndIn, IsNextIn}
 use Rattle.caldate_run.specs.declared.run.run_error.RunError.{RunError}
 use Rattle.caldate_run.specs.declared.request.Listing.{Listing}
 use Rattle.caldate_run.specs.declared.request.StepUnit.{StepUnit}
 use Rattle.caldate_run.specs.declared.request.StepUnit.TheVariants.{Days, Months}
 use Rattle.caldate_run.proofs.OneAnswer.{took-one}
-use Rattle.caldate_run.proofs.Outputs.{page_longer}
 
 -- any two days of the range are less than a thousand million months from each other
 few_months : (n m s : ℕ) → IsDate n → IsDate s → IsMonthsLater n (pos m) s → m < 1000000000
@@ -46,68 +44,45 @@ pub near : (n m : ℕ) (z : ℤ) (r : Option ℕ) → IsDate n → z ≡ pos (mi
 near n m z None d e has = tt
 near n m z (Some s) d e has = omega (arith, few_months n (min m 1000000000) s d has.0 (subst (λ y. IsMonthsLater n y s) e has.1))
 
--- ---- what the writer took of a list
-pub lists_steps : (listing : Listing) (r : Result Unit RunError) (old new : Option (List ℕ)) → WritesLeft (Steps listing 0) r old new → Lists listing r old new
-lists_steps listing r old new (bytes, (days, are, e), page) = (days, are, subst (λ bytes. WritesPage bytes r old new) e page)
+-- ---- the lines that were given and those that are left
+-- The items are those before these, of which the lines were given, and these.
+abbrev pub Follows : {S X : Type 0} → (X → List ℕ) → (Bool → S → List X → Type 0) → S → S → List ℕ → Type 0
+Follows {S} {X} line Are start now given =
+    (all : Bool) (items : List X) → Are all now items → (whole : List X) × Are all start whole × (flat_map line whole ≡ given ++ flat_map line items)
 
-pub lists_first : (lines : List ℕ) (r : Result Unit RunError) (old new : Option (List ℕ)) → (bytes : List ℕ) × AreFirst (is_ok r) lines bytes × WritesPage bytes r old new
-    → WritesPage lines r old new
-lists_first lines r old new (bytes, (more, e, all), page) = page_longer bytes more lines r old new e all page
+pub one_more : {S X : Type 0} (line : X → List ℕ) (Are : Bool → S → List X → Type 0) (start now next : S) (given bytes : List ℕ) (x : X) → bytes ≡ line x
+    → ((all : Bool) (items : List X) → Are all next items → Are all now (x ∷ items)) → Follows line Are start now given → Follows line Are start next (given ++ bytes)
+one_more line Are start now next given bytes x same more follows all items are =
+    let (whole, is, e) = follows all (x ∷ items) (more all items are) in
+    (whole, is, e ∙ sym (append_assoc given (line x) (flat_map line items)) ∙ ap (λ b. (given ++ b) ++ flat_map line items) (sym same))
 
-pub lists_in : (set : ZonedSet) (next : Option LocalAndOffset) (first last : LocalAndOffset) (r : Result Unit RunError) (old new : Option (List ℕ))
-    → IsNextAfter (Occurs set) (instant first -ℤ pos 1) next → WritesLeft (InZone set next last) r old new → ListsSet set first last r old new
-lists_in set next first last r old new is (bytes, left, page) =
-    let (ms, are, e) = left (instant first -ℤ pos 1) is in
-    (ms, are, subst (λ bytes. WritesPage bytes r old new) e page)
+-- nothing is left, or not all is listed
+pub lists : {S X : Type 0} (line : X → List ℕ) (Are : Bool → S → List X → Type 0) (start now : S) (given : List ℕ) (r : Result Unit RunError) (old new : Option (List ℕ))
+    → Are (is_ok r) now [] → Follows line Are start now given → WritesPage given r old new → WritesLines line (λ all. Are all start) r old new
+lists line Are start now given r old new end follows page =
+    let (whole, is, e) = follows (is_ok r) [] end in
+    (whole, is, subst (λ bytes. WritesPage bytes r old new) (sym (e ∙ append-nil given)) page)
 
--- ---- one line more
-pub day_more : (listing : Listing) (count next day : ℕ) → IsWithin listing count day → next ≡ count + listing.step.every → (text : List ℕ) → text ++ 10 ∷ [] ≡ line_of day
-    → (all : Bool) (more : List ℕ) → AreLeft all (Steps listing next) more → AreLeft all (Steps listing count) ((text ++ 10 ∷ []) ++ more)
-day_more listing count next day within e text line all more (days, are, is) = (
-  day ∷ days,
-  (within, subst (λ k. AreDays listing (λ count. IfAll all (IsEnd listing count)) k days) e are),
-  ap (λ l. l ++ more) line ∙ ap (λ l. line_of day ++ l) is,
-)
+if_all : (all : Bool) (P : Type 0) → P → IfAll all P
+if_all true P h = h
+if_all false P h = tt
 
-pub first_more : (line left lines bytes : List ℕ) (all : Bool) → lines ≡ line ++ left → AreFirst all left bytes → AreFirst all lines (line ++ bytes)
-first_more line left lines bytes all e (more, is, whole) = (more, e ∙ ap (λ l. line ++ l) is ∙ sym (append_assoc line bytes more), whole)
+pub no_days : (listing : Listing) (count : ℕ) (all : Bool) → IsEnd listing count → AreListed listing all count []
+no_days listing count all end = if_all all (IsEnd listing count) end
 
-pub moment_more : (set now : ZonedSet) (next next_now : Option LocalAndOffset) (last m : LocalAndOffset) → now ≡ set → next ≡ Some m → instant m ≤ℤ instant last
-    → IsNextAfter (Occurs set) (instant m) next_now → (text : List ℕ) → text ++ 10 ∷ [] ≡ moment_line m
-    → (all : Bool) (more : List ℕ) → AreLeft all (InZone now next_now last) more → AreLeft all (InZone set next last) ((text ++ 10 ∷ []) ++ more)
-moment_more set now next next_now last m same is most after text line all more left x first =
-    let (ms, are, e) = subst (λ s. AreLeft all (InZone s next_now last) more) same left (instant m) after in (
-      m ∷ ms,
-      (record { first = subst (IsNextAfter (Occurs set) x) is first; not_past = most }, are),
-      ap (λ l. l ++ more) line ∙ ap (λ l. moment_line m ++ l) e,
-    )
+pub no_moments : (set : ZonedSet) (last : LocalAndOffset) (x : ℤ) (all : Bool) → IsEndIn set last x → AreListedIn set last all x []
+no_moments set last x all end = if_all all (IsEndIn set last x) end
 
--- ---- the end
-pub no_more : (all : Bool) (lines : List ℕ) → lines ≡ [] → AreFirst all lines []
-no_more true lines none = (lines, refl, none)
-no_more false lines none = (lines, refl, tt)
+-- ---- the next moment, or the end
+pub next_in : (set : ZonedSet) (last : LocalAndOffset) (x : ℤ) (r : Option LocalAndOffset) (m : LocalAndOffset) → IsNextAfter (Occurs set) x r → r ≡ Some m
+    → instant m ≤ℤ instant last → IsNextIn set last x m
+next_in set last x r m next e most = record { first = subst (IsNextAfter (Occurs set) x) e next; not_past = most }
 
-pub no_days : (listing : Listing) (count : ℕ) → IsEnd listing count → (all : Bool) → AreLeft all (Steps listing count) []
-no_days listing count end true = ([], end, refl)
-no_days listing count end false = ([], tt, refl)
-
-pub no_moments : (set : ZonedSet) (next : Option LocalAndOffset) (last : LocalAndOffset) → ((x : ℤ) → IsNextAfter (Occurs set) x next → IsEndIn set last x) → (all : Bool)
-    → AreLeft all (InZone set next last) []
-no_moments set next last end true x first = ([], end x first, refl)
-no_moments set next last end false x first = ([], tt, refl)
-
-pub end_in : (set : ZonedSet) (last : LocalAndOffset) (next : Option LocalAndOffset) → ((m : LocalAndOffset) → next ≡ Some m → instant last <ℤ instant m)
-    → (x : ℤ) → IsNextAfter (Occurs set) x next → IsEndIn set last x
-end_in set last None past x none m next = omega (arith, ints, none next.first.place m next.first.is, next.first.later)
-end_in set last (Some k) past x first m next =
+pub end_in : (set : ZonedSet) (last : LocalAndOffset) (x : ℤ) (r : Option LocalAndOffset) → IsNextAfter (Occurs set) x r
+    → ((m : LocalAndOffset) → r ≡ Some m → instant last <ℤ instant m) → IsEndIn set last x
+end_in set last x None none past m next = omega (arith, ints, none next.first.place m next.first.is, next.first.later)
+end_in set last x (Some k) first past m next =
     omega (arith, ints, (first.first next.first.place m next.first.is next.first.later).0, past k refl, next.not_past)
-
--- none of them are the first of them
-pub none_yet : (rest : Remaining) → AreLeft false rest []
-none_yet (Steps listing count) = ([], tt, refl)
-none_yet (Dates days last) = (_, refl, tt)
-none_yet (Moments readings offset last) = (_, refl, tt)
-none_yet (InZone set next last) x first = ([], tt, refl)
 
 -- ---- a list has one answer
 pub one_after : (unit : StepUnit) (count n a b : ℕ) → IsUnitsAfter unit count n a → IsUnitsAfter unit count n b → a ≡ b

@@ -1,17 +1,16 @@
 -- The dates or moments of a recurrence up to a last one, and the bytes that the writer takes.
-use Rattle.std.specs.Prelude.{◌≡◌, ℕ, ⊤, ◌-◌, nat_le, Bool, ℤ, pos, ◌-ℤ◌, ◌≤ℤ◌, int_le, List, [], ◌∷◌, ◌++◌, filter, length, Option, Some, Result, is_ok}
+use Rattle.std.specs.Prelude.{◌≡◌, ℕ, nat_le, Bool, ℤ, pos, ◌-ℤ◌, ◌≤ℤ◌, int_le, List, [], ◌∷◌, ◌++◌, filter, Option, Some, Result}
 use Rattle.std.specs.List.{flat_map, take_while}
 use Rattle.cal_datetime.specs.OffsetDateTime.{LocalAndOffset, instant}
 use Rattle.cal_recurrence.specs.Days.{days_of}
 use Rattle.cal_recurrence.specs.RecurrenceReadings.{readings_of}
 use Rattle.cal_recurrence.specs.SetMeaning.{last_instant, zone_rule}
-use Rattle.cal_recurrence.specs.Occurrences.{nanoseconds_left}
-use Rattle.cal_recurrence.specs.ZonedSet.{IsFirstAfter, IsNextAfter, Occurs}
+use Rattle.cal_recurrence.specs.ZonedSet.{IsFirstAfter, Occurs}
 use Rattle.cal_recurrence.specs.declared.recurrence.Recurrence.{Recurrence}
 use Rattle.cal_recurrence.specs.declared.zoned_set.ZonedSet.{ZonedSet}
 use Rattle.cal_zone.specs.Timeline.{Timeline}
 use Rattle.caldate_run.specs.ClockWords.{moment_in, rfc3339_or_unix_text}
-use Rattle.caldate_run.specs.Lists.{AreListed, IfAll, IsStep, WritesLines, line_of}
+use Rattle.caldate_run.specs.Lists.{IfAll, WritesLines, line_of}
 use Rattle.caldate_run.specs.Outputs.{WritesPage}
 use Rattle.caldate_run.specs.declared.list.remaining.Remaining.{Remaining}
 use Rattle.caldate_run.specs.declared.list.remaining.Remaining.TheVariants as left
@@ -83,39 +82,7 @@ ListsSpan (InZone zone first last) r outcome old new = (set : ZonedSet) × IsSet
 abbrev pub ListsOccurrences : Occurrences → Result Unit RunError → Option (List ℕ) → Option (List ℕ) → Type 0
 ListsOccurrences asked outcome old new = ListsSpan asked.span asked.recurrence outcome old new
 
--- ---- what is left of a list
--- The days or readings that are left, up to the first that is past the last.
-abbrev pub days_left : List ℕ → ℕ → List ℕ
-days_left days last = take_while (is_day_up_to last) days
-
-abbrev pub readings_left : List ℤ → ℤ → LocalAndOffset → List ℤ
-readings_left readings offset last = take_while (is_moment_up_to offset last) readings
-
--- These are all of the lines, or the first of them.
-abbrev pub AreFirst : Bool → List ℕ → List ℕ → Type 0
-AreFirst all lines bytes = (more : List ℕ) × (lines ≡ bytes ++ more) × IfAll all (more ≡ [])
-
--- These are all lines that are left, or the first of them. The next moment in a zone is the first
--- after some instant.
-abbrev pub AreLeft : Bool → Remaining → List ℕ → Type 0
-AreLeft all (left.Steps listing count) bytes = (days : List ℕ) × AreListed listing all count days × (bytes ≡ flat_map line_of days)
-AreLeft all (left.Dates days last) bytes = AreFirst all (flat_map line_of (days_left days last)) bytes
-AreLeft all (left.Moments readings offset last) bytes = AreFirst all (flat_map (reading_line offset) (readings_left readings offset last)) bytes
-AreLeft all (left.InZone set next last) bytes =
-    (x : ℤ) → IsNextAfter (Occurs set) x next → (ms : List LocalAndOffset) × AreListedIn set last all x ms × (bytes ≡ flat_map moment_line ms)
-
--- A number that each next line makes less.
-abbrev pub most_left : Remaining → ℕ
-most_left (left.Steps listing count) = 60000000000 - count
-most_left (left.Dates days last) = length (days_left days last)
-most_left (left.Moments readings offset last) = length (readings_left readings offset last)
-most_left (left.InZone set next last) = nanoseconds_left next
-
--- The steps of a list have a length in their range.
-abbrev pub HasStep : Remaining → Type 0
-HasStep (left.Steps listing count) = IsStep listing.step
-HasStep other = ⊤
-
--- The writer took all lines that are left, or after a failed write a beginning of the first of them.
-abbrev pub WritesLeft : Remaining → Result Unit RunError → Option (List ℕ) → Option (List ℕ) → Type 0
-WritesLeft rest outcome old new = (bytes : List ℕ) × AreLeft (is_ok outcome) rest bytes × WritesPage bytes outcome old new
+-- The lines of the days or readings that are left, up to the first that is past the last.
+abbrev pub lines_left : Remaining → List ℕ
+lines_left (left.Dates days last) = flat_map line_of (take_while (is_day_up_to last) days)
+lines_left (left.Moments readings offset last) = flat_map (reading_line offset) (take_while (is_moment_up_to offset last) readings)

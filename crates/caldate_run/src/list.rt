@@ -1,19 +1,19 @@
-//! Lists of dates and moments.
+//! Lists of dates in steps of one length.
 ghost use Rattle.std.specs.Prelude.{◌≡◌, ◌<◌, ◌+◌, ℕ, IfSome, MatchOption};
 ghost use Rattle.cal_time.specs.Date.{IsDate};
 ghost use Rattle.caldate_run.specs.Calls.{Writes, write_failure};
 ghost use Rattle.caldate_run.specs.Lists.{IsEnd, IsUnitsAfter, IsStep, IsWithin, Lists};
-ghost use Rattle.caldate_run.specs.Recurring.{HasStep, WritesLeft};
 
+pub(crate) mod in_zone;
 pub mod recurring;
 pub(crate) mod remaining;
 
-use crate::list::remaining::Remaining;
 use crate::output::Output;
 use crate::request::{Listing, StepUnit};
 use crate::run::run_error::RunError;
 use crate::streams::Sink;
 use cal_schedule::checked_add_months;
+use cal_text::date::CalendarText;
 use cal_time::Date;
 
 /// More days, and more months, than there are between any two dates.
@@ -26,27 +26,20 @@ pub fn list<W: Sink>(listing: &Listing, writer: &mut W) -> Result<(), RunError>
     ensures lists { Lists listing.now result (W.contents writer.old) (W.contents writer.new) }
     ensures writes { Writes W.write_gives writer.old (write_failure result) writer.new }
 {
-    write_lines(&mut Remaining::Steps(*listing, 0), writer)
-}
-
-/// Writes the lines that are left.
-pub(crate) fn write_lines<W: Sink>(rest: &mut Remaining<'_>, writer: &mut W) -> Result<(), RunError>
-    requires { HasStep rest.old }
-    ensures lines { WritesLeft rest.old result (W.contents writer.old) (W.contents writer.new) }
-    ensures writes { Writes W.write_gives writer.old (write_failure result) writer.new }
-{
     let mut output = Output::new();
-    while let Some(text) = rest.next_text() {
-        match output.push_line(text.as_bytes(), writer) {
+    let mut count = 0;
+    while let Some(day) = day_within(listing, count) {
+        match output.push_line(CalendarText(day).text().as_bytes(), writer) {
             Ok(()) => {}
             Err(error) => return Err(error),
         }
+        count += listing.step.every;
     }
     output.finish(writer)
 }
 
 /// Returns the day `count` days or months after the first, or `None` past the last.
-pub(crate) fn day_within(listing: &Listing, count: u64) -> Option<Date>
+fn day_within(listing: &Listing, count: u64) -> Option<Date>
     ensures day { MatchOption result (IsEnd listing.now count) (IsWithin listing.now count) }
     ensures near { IfSome result (λ _. count < 1_000_000_000) }
 {

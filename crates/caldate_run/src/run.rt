@@ -1,5 +1,5 @@
 //! Runs: the answers to the lines of an input of any length.
-ghost use Rattle.std.specs.Prelude.{◌≡◌, ◌<◌, ◌≤◌, ◌+◌, ◌-◌, ◌++◌, ℕ, List, [], true, is_some, length, drop, take, None, Ok, OnOk, IfOk, IfErr};
+ghost use Rattle.std.specs.Prelude.{◌≡◌, ◌<◌, ◌≤◌, ◌+◌, ◌-◌, ◌++◌, List, [], false, true, is_some, length, drop, None, Ok, OnOk, IfOk, IfErr};
 ghost use Rattle.caldate_run.specs.Calls.{Reads, Writes, has_read_failure, most_reads, write_failure};
 ghost use Rattle.caldate_run.specs.Lines.{all_lines, ended_lines, unended};
 ghost use Rattle.caldate_run.specs.Replies.{IsReplyTo};

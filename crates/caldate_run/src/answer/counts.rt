@@ -1,17 +1,15 @@
 //! The whole units from one moment to another.
-ghost use Rattle.std.specs.Prelude.{◌≡◌, pos, ◌-ℤ◌};
-ghost use Rattle.cal_date.specs.Arithmetic.{clamped_date};
-ghost use Rattle.cal_datetime.specs.DateTime.{date_at};
-ghost use Rattle.caldate_run.specs.Counts.{AreMonths, AreMonthsTo, AreWorkdays, AreYearsTo, IsCount, duration_between, months_past, reached};
+ghost use Rattle.std.specs.Prelude.{◌≡◌};
+ghost use Rattle.caldate_run.specs.Counts.{AreMonths, AreWorkdays, AreYears, IsCount, duration_between, reached};
 
 use crate::request::TimeUnit;
 use cal_datetime::OffsetDateTime;
-use cal_schedule::{Workdays, months_until};
+use cal_schedule::{Workdays, months_until, years_until};
 use cal_time::{Date, SignedDuration};
 
-/// Returns the number of whole units from one moment to another, truncated toward zero. Years and
-/// months count up to the first date plus the whole days of the duration; workdays do so within the
-/// range.
+/// Returns the number of whole units from one moment to another, truncated toward zero. Years,
+/// months and workdays count up to the first date plus the whole days of the duration, or up to an
+/// end of the range.
 pub fn count_between(
     workdays: &Workdays<'_>,
     unit: TimeUnit,
@@ -21,9 +19,9 @@ pub fn count_between(
     ensures { IsCount workdays.now unit from to result }
 {
     match unit {
-        TimeUnit::Years => years_between(from, to),
-        TimeUnit::Months => months_between(from, to),
-        TimeUnit::Workdays => workdays_to(workdays, from.date(), nearest(from, to)),
+        TimeUnit::Years => years_to(from.date(), reached(from, to)),
+        TimeUnit::Months => months_to(from.date(), reached(from, to)),
+        TimeUnit::Workdays => workdays_to(workdays, from.date(), reached(from, to)),
         TimeUnit::Weeks => between(from, to).whole_weeks(),
         TimeUnit::Days => between(from, to).whole_days(),
         TimeUnit::Hours => between(from, to).whole_hours(),
@@ -32,49 +30,16 @@ pub fn count_between(
     }
 }
 
-fn years_between(from: OffsetDateTime, to: OffsetDateTime) -> i64
-    ensures { AreYearsTo (date_at from.local) (reached from to) result }
+fn years_to(from: Date, to: Date) -> i64
+    ensures { AreYears from to result }
 {
-    months_between(from, to) / 12
+    i64::from(years_until(from, to))
 }
 
-fn months_between(from: OffsetDateTime, to: OffsetDateTime) -> i64
-    ensures { AreMonthsTo (date_at from.local) (reached from to) result }
-{
-    let last = nearest(from, to);
-    let within = months_to(from.date(), last);
-    let past = months_past(from.date().day(), days_past(from, to, last));
-    i64::from(within) + i64::from(past)
-}
-
-fn months_to(from: Date, to: Date) -> i32
+fn months_to(from: Date, to: Date) -> i64
     ensures { AreMonths from to result }
 {
-    months_until(from, to)
-}
-
-/// Returns the days from the nearest day of the range to the one that is reached: 0 within the range.
-fn days_past(from: OffsetDateTime, to: OffsetDateTime, nearest: Date) -> i128
-    ensures { result ≡ reached from to -ℤ pos nearest }
-{
-    let days = i128::from(between(from, to).whole_days());
-    let within = nearest.to_julian_day() - from.date().to_julian_day();
-    days - i128::from(within)
-}
-
-/// Returns the month after or before the range that is whole if its day is among these days past the
-/// range.
-fn months_past(day: u8, past: i128) -> i8
-    ensures { result ≡ months_past day past }
-{
-    let day = i128::from(day);
-    if past < 0 && 32 + past <= day {
-        return -1;
-    }
-    if 0 < past && day <= past {
-        return 1;
-    }
-    0
+    i64::from(months_until(from, to))
 }
 
 /// Returns the working days to a day, without the later of the two days.
@@ -91,8 +56,8 @@ fn between(from: OffsetDateTime, to: OffsetDateTime) -> SignedDuration
 }
 
 /// Adds the whole days of the duration to the local date of the first moment, within the range.
-fn nearest(from: OffsetDateTime, to: OffsetDateTime) -> Date
-    ensures { result ≡ clamped_date (reached from to) }
+fn reached(from: OffsetDateTime, to: OffsetDateTime) -> Date
+    ensures { result ≡ reached from to }
 {
     from.date().saturating_add(between(from, to))
 }

@@ -4,8 +4,8 @@ use Rattle.caldate_run.proofs.output.Output.flush.Goals as goal
 
 pub returns-in-Ok-clause-passes_on : goal.returns-in-Ok-clause-passes_on
 returns-in-Ok-clause-passes_on g c = λ given start outputs.
-    written g.W.Sink.contents g.W.Sink.write_gives given c.as_bytes.result.now c.clear.new.self start _ _ c.args.self.now c.write_all.result (search rules) c.as_bytes.ensures c.clear.ensures
-    c.write_all.ensures.page c.write_all.ensures.sends outputs
+    written g.W.Sink.contents g.W.Sink.write_gives given c.as_bytes.result.now c.clear.new.self start _ _ c.args.self.now c.write_all-self.result (search rules) c.as_bytes.ensures c.clear.ensures
+    c.write_all-self.ensures.page c.write_all-self.ensures.sends outputs
 
 pub returns-in-Err-clause-passes_on : goal.returns-in-Err-clause-passes_on
 returns-in-Err-clause-passes_on g c = λ given start outputs.
