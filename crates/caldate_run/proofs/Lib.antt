@@ -12,7 +12,6 @@ pub mod Takes
 pub mod Texts
 pub mod RecordFields
 pub mod NewFields
-pub mod NextMoments
 pub mod OneList
 pub mod Replied
 pub mod FieldTexts
@@ -20,7 +19,9 @@ pub mod PieceOuts
 pub mod Reported
 pub mod DayLists
 pub mod HolidayLines
+pub mod Outputs
 pub mod Steps
+pub mod Advances
 pub mod OneCount
 pub mod OneAnswer
 pub mod Others

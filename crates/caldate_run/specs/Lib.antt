@@ -15,6 +15,7 @@ pub mod Lines
 pub mod Lists
 pub mod Moves
 pub mod Offsets
+pub mod Outputs
 pub mod Pieces
 pub mod Readers
 pub mod Readings

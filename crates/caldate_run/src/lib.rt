@@ -24,4 +24,5 @@ pub mod run;
 mod scan;
 pub mod several_fields;
 pub mod streams;
+pub mod text;
 pub mod zones;

@@ -73,7 +73,7 @@ returns-in-Ok-numbers_in-clause-ended g c =
     let header : c.header_of-header.result.now ≡ header_of c.args.field front = (cc) in
     let known = subst (λ (h : List ℕ). numbers_in c.args.filter c.args.field h ≡ Ok numbers) header c.in-Ok-numbers_in.ensures in
     let run = subst (λ (own : Filter). IsRunResult own c.answer_input-outcome.result (g.R.Source.remaining c.args.reader.now) (g.R.Source.remaining c.answer_input-outcome.new.reader) (g.W.Sink.contents c.args.writer.now) (g.W.Sink.contents c.answer_input-outcome.new.writer)) c.numbered-own.ensures
-    (c.answer_input-outcome.ensures.ended _ c.in-Ok.ensures.given) in
+    (c.answer_input-outcome.ensures.ended.bytes _ c.in-Ok.ensures.given) in
     record {
       front = front;
       left = g.R.Source.remaining c.read_header.new.reader;
@@ -82,7 +82,7 @@ returns-in-Ok-numbers_in-clause-ended g c =
         c.in-Ok.ensures.header,
         says _ (Ok numbers) _ _ known (no_overlap _ _ _ _ c.numbered-own.ensures (sym c.overlap.ensures ∙ c.if-overlap.false) (
           c.answer_input-outcome.result,
-          (run, c.in-Ok.ensures.reads _ _ c.answer_input-outcome.ensures.reads, c.answer_input-outcome.ensures.writes, c.end-in-Ok-numbers_in.ensures.reports),
+          (run, c.in-Ok.ensures.reads _ _ c.answer_input-outcome.ensures.ended.reads, c.answer_input-outcome.ensures.ended.writes, c.end-in-Ok-numbers_in.ensures.reports),
         )),
       );
     }
@@ -98,4 +98,4 @@ pub returns-in-Err-numbers_in-clause-reads : goal.returns-in-Err-numbers_in-clau
 returns-in-Err-numbers_in-clause-reads g c = (false, c.in-Ok.ensures.reads false _ (no_more _ _))
 
 pub returns-in-Ok-numbers_in-clause-reads : goal.returns-in-Ok-numbers_in-clause-reads
-returns-in-Ok-numbers_in-clause-reads g c = (_, c.in-Ok.ensures.reads _ _ c.answer_input-outcome.ensures.reads)
+returns-in-Ok-numbers_in-clause-reads g c = (_, c.in-Ok.ensures.reads _ _ c.answer_input-outcome.ensures.ended.reads)

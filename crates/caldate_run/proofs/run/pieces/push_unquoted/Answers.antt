@@ -1,4 +1,4 @@
-use Rattle.std.proofs.Common.{◌≡◌, ◌∙◌, ◌++◌, [], Option, List, ℕ, None, Err, ap, refl, subst, sym}
+use Rattle.std.proofs.Common.{◌≡◌, ◌∙◌, ◌++◌, [], Option, List, ℕ, None, Err, ap, false, refl, subst, sym}
 use Rattle.std.specs.Prelude.{is_some, unwrap_or}
 use Rattle.caldate_run.specs.Pieces.{IsAnswerToAsked, replaced}
 use Rattle.caldate_run.specs.declared.run.no_answer.NoAnswer.TheVariants as why
