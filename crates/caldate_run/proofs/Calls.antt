@@ -1,15 +1,11 @@
 -- How the calls of a run follow one another.
 use Rattle.std.proofs.Common.{◌≡◌, ℕ, ◌+◌, ◌<◌, Bool, true, false, List, [], ◌∷◌, length, Option, None, Some, Err, Ok, Result, arith, refl, sym, subst}
-use Rattle.std.specs.Prelude.{IfErr, IsErrAnd}
 use Rattle.std.specs.declared.io.Error.{Error}
 use Rattle.std.specs.declared.io.ErrorKind.{ErrorKind}
-use Rattle.caldate_run.specs.Calls.{Gives, Reads, Sends, Writes, has_read_failure, is_of_read, most_retries}
+use Rattle.caldate_run.specs.Calls.{Gives, Reads, Sends, Writes, most_retries}
 use Rattle.caldate_run.specs.Calls.Reads.{given, ended, failed as fails}
 use Rattle.caldate_run.specs.Calls.Writes.{no_more, sent, failed}
 use Rattle.caldate_run.specs.Calls.Sends.{all}
-use Rattle.caldate_run.specs.Runs.{IsEarly}
-use Rattle.caldate_run.specs.declared.run.run_error.RunError.{RunError}
-use Rattle.caldate_run.specs.declared.run.run_error.RunError.TheVariants.{Read, Write, Stopped, Unanswered}
 
 -- no bytes are left
 pub sends_none : {S : Type 0} (write : S → List ℕ → Result ℕ Error → S → Type 0) (retries : ℕ) (s : S) (bytes : List ℕ) → length bytes ≡ 0
@@ -45,15 +41,3 @@ reads_ended read most n s t end outcome none gives more = ended most s t end out
 pub reads_failed : {S : Type 0} (read : S → Result ℕ Error → S → Type 0) (most left : ℕ) (s end : S) (error : Error) → most ≡ left + 1
     → Gives read most_retries s (Err error) end → Reads read most s true end
 reads_failed read most left s end error e gives = subst (λ most. Reads read most s true end) (sym e) (fails left s end error gives)
-
--- ---- whether a read failed
-pub read_failed : (r : Result Unit RunError) → IsErrAnd r (λ error. error ≡ Read) → has_read_failure r ≡ true
-read_failed (Ok done) is = absurd is
-read_failed (Err error) is = subst (λ error. is_of_read error ≡ true) (sym is) refl
-
-pub no_read_failed : (r : Result Unit RunError) → IfErr r IsEarly → has_read_failure r ≡ false
-no_read_failed (Ok done) early = refl
-no_read_failed (Err Read) early = absurd early
-no_read_failed (Err (Write kind)) early = refl
-no_read_failed (Err (Stopped reported)) early = refl
-no_read_failed (Err (Unanswered tally)) early = refl

@@ -1,19 +1,15 @@
 -- A text is cut at its fields.
-use Rattle.std.proofs.Common.{◌≡◌, ◌⊎◌, inl, inr, get_or, ℕ, zero, suc, ◌+◌, ◌-◌, ◌<◌, ◌≤◌, Bool, true, false, cond, eqb, List, [], ◌∷◌, ◌++◌, length, take, drop, Option, Some, None, refl, sym, ap, ◌∙◌, subst, arith, append_assoc, length-append, length-take, take-append-drop}
-use Rattle.std.specs.Prelude.{not, nat_le, ◌&&◌, MatchOption, position}
-use Rattle.std.specs.List.{join_with_byte, onto_first, slice_split}
+use Rattle.std.proofs.Common.{◌≡◌, ℕ, ◌+◌, ◌-◌, ◌<◌, ◌≤◌, Bool, true, false, cond, eqb, List, [], ◌∷◌, ◌++◌, length, take, drop, Option, Some, None, refl, sym, ap, ◌∙◌, subst, arith, append_assoc, length-append, length-take, take-append-drop}
+use Rattle.std.specs.Prelude.{not, nat_le, ◌&&◌, MatchOption}
+use Rattle.std.specs.List.{join_with_byte, onto_first}
 use Rattle.std.proofs.Math.Seq.{drop-append_seam, take-append_seam, take-append-add}
 use Rattle.std.proofs.lemmas.Bool.{eqb-true}
 use Rattle.std.proofs.lemmas.Bool.Decides.{nat_tests}
 use Rattle.std.proofs.lemmas.List.{append-nil, take_rest}
-use Rattle.std.proofs.lemmas.List.Splits.{join_with_byte-slice_split, length-slice_split}
-use Rattle.caldate_run.specs.Fields.{HasFirst, IsAfter, each_ended, fields_of, has_too_few, in_place_of, is_open, is_quote, joined_fields, part_of, quoting_after, split_outside_quotes, split_record, with_part}
+use Rattle.caldate_run.specs.Fields.{Cut, HasFirst, IsAfter, cut_of, each_begun, each_ended, fields_of, has_too_few, is_open, joined_fields, quotes_of, quoting_after, split_fields, split_outside_quotes}
 use Rattle.caldate_run.specs.declared.run.quoting.Quoting.{Quoting}
-use Rattle.caldate_run.specs.declared.run.quoting.Quoting.TheVariants.{Ready}
 use Rattle.caldate_run.specs.declared.request.Field.{Field}
-use Rattle.caldate_run.proofs.Parts.{no_fields, no_separator, none_before}
-use Rattle.caldate_run.proofs.Quotes.{bare_passes, ends_after, ends_last, onto_some}
-use Rattle.caldate_run.proofs.Parts.{some_fields as one_field}
+use Rattle.caldate_run.proofs.Quotes.{onto_some}
 
 -- ---- fields with their separators
 each_append : (c : ℕ) (xs ys : List (List ℕ)) → each_ended c (xs ++ ys) ≡ each_ended c xs ++ each_ended c ys
@@ -31,18 +27,15 @@ join_each c (x ∷ xs) more h =
     ∙ sym (append_assoc x (c ∷ each_ended c xs) (join_with_byte c more))
 
 -- ---- the fields of a text
-abbrev record_more : ℕ → ℕ → Quoting → ℕ → List ℕ → List (List ℕ)
-record_more e c q x xs = onto_first x (split_outside_quotes e c (quoting_after c q x) xs)
-
 some_either : (b : Bool) (xs ys : List (List ℕ)) → 0 < length xs → 0 < length ys → 0 < length (cond b xs ys)
 some_either true xs ys h k = h
 some_either false xs ys h k = k
 
-pub record_some : (e c : ℕ) (q : Quoting) (text : List ℕ) → 0 < length (split_outside_quotes e c q text)
-record_some e c q [] = omega arith
-record_some e c q (x ∷ xs) =
-    some_either (eqb x e && not (is_open q)) ([] ∷ split_outside_quotes e c Ready xs) (record_more e c q x xs)
-    (omega arith) (onto_some x (split_outside_quotes e c (quoting_after c q x) xs))
+pub record_some : (e c : ℕ) (s q : Quoting) (text : List ℕ) → 0 < length (split_outside_quotes e c s q text)
+record_some e c s q [] = omega arith
+record_some e c s q (x ∷ xs) =
+    let more = split_outside_quotes e c s (quoting_after c q x) xs in
+    some_either (eqb x e && not (is_open q)) ([] ∷ split_outside_quotes e c s s xs) (onto_first x more) (omega arith) (onto_some x more)
 
 join_onto : (c x : ℕ) (parts : List (List ℕ)) → 0 < length parts → join_with_byte c (onto_first x parts) ≡ x ∷ join_with_byte c parts
 join_onto c x [] h = absurd (omega (arith, h))
@@ -58,24 +51,21 @@ join_either : (b : Bool) (c : ℕ) (xs ys : List (List ℕ)) (text : List ℕ) �
 join_either true c xs ys text h k = h refl
 join_either false c xs ys text h k = k
 
-join_record : (e c : ℕ) (q : Quoting) (text : List ℕ) → join_with_byte e (split_outside_quotes e c q text) ≡ text
-join_record e c q [] = refl
-join_record e c q (x ∷ xs) =
-    let after = quoting_after c q x in
-    join_either (eqb x e && not (is_open q)) e ([] ∷ split_outside_quotes e c Ready xs) (record_more e c q x xs) (x ∷ xs)
-    (λ is. join_first e [] (split_outside_quotes e c Ready xs) (record_some e c Ready xs) ∙ ap (λ l. e ∷ l) (join_record e c Ready xs)
+join_record : (e c : ℕ) (s q : Quoting) (text : List ℕ) → join_with_byte e (split_outside_quotes e c s q text) ≡ text
+join_record e c s q [] = refl
+join_record e c s q (x ∷ xs) =
+    let after = split_outside_quotes e c s (quoting_after c q x) xs in
+    let fresh = split_outside_quotes e c s s xs in
+    join_either (eqb x e && not (is_open q)) e ([] ∷ fresh) (onto_first x after) (x ∷ xs)
+    (λ is. join_first e [] fresh (record_some e c s s xs) ∙ ap (λ l. e ∷ l) (join_record e c s s xs)
     ∙ ap (λ b. b ∷ xs) (sym (eqb-true x e (both_true (eqb x e) (not (is_open q)) is))))
-    (join_onto e x (split_outside_quotes e c after xs) (record_some e c after xs) ∙ ap (λ l. x ∷ l) (join_record e c after xs))
+    (join_onto e x after (record_some e c s (quoting_after c q x) xs) ∙ ap (λ l. x ∷ l) (join_record e c s (quoting_after c q x) xs))
 
 pub some_fields : (field : Field) (text : List ℕ) → 0 < length (fields_of field text)
-some_fields field text =
-    some_either field.csv (split_record field.separator text) (slice_split (λ b. eqb b field.separator) text)
-    (record_some field.separator field.separator Ready text) (omega (arith, length-slice_split (λ b. eqb b field.separator) text))
+some_fields field text = record_some field.separator field.separator (quotes_of field) (quotes_of field) text
 
 join_fields : (field : Field) (text : List ℕ) → join_with_byte field.separator (fields_of field text) ≡ text
-join_fields field text =
-    join_either field.csv field.separator (split_record field.separator text) (slice_split (λ b. eqb b field.separator) text) text
-    (λ e. join_record field.separator field.separator Ready text) (join_with_byte-slice_split field.separator text)
+join_fields field text = join_record field.separator field.separator (quotes_of field) (quotes_of field) text
 
 -- ---- one field further on
 pub further : (field : Field) (count : ℕ) (text rest first after : List ℕ) → fields_of field rest ≡ first ∷ fields_of field after
@@ -90,19 +80,22 @@ further field count text rest first after cut whole h = record {
 }
 
 -- ---- the first field
+begun_join : (c : ℕ) (parts : List (List ℕ)) → 0 < length parts → each_begun c parts ≡ c ∷ join_with_byte c parts
+begun_join c [] h = absurd (omega (arith, h))
+begun_join c (part ∷ []) h = ap (λ l. c ∷ l) (append-nil part)
+begun_join c (part ∷ next ∷ parts) h = ap (λ l. c ∷ (part ++ l)) (begun_join c (next ∷ parts) (omega arith))
+
 pub first_of : (field : Field) (text : List ℕ) (n : ℕ)
     → (n < length text) × (fields_of field text ≡ take n text ∷ fields_of field (drop (n + 1) text)) × (text ≡ take n text ++ field.separator ∷ drop (n + 1) text)
     → HasFirst field text n
 first_of field text n (within, cut, whole) =
     let more = fields_of field (drop (n + 1) text) in
     let k : length (take n text) ≡ n = omega (arith, within, length-take n text) in
-    let rest : drop n text ≡ field.separator ∷ drop (n + 1) text =
-    ap (λ j. drop j text) (sym k) ∙ ap (drop (length (take n text))) whole ∙ drop-append_seam (take n text) (field.separator ∷ drop (n + 1) text) in
     record {
       others = more;
       fields = cut;
-      around = λ words. join_first field.separator words more (some_fields field (drop (n + 1) text))
-          ∙ ap (λ l. words ++ field.separator ∷ l) (join_fields field (drop (n + 1) text)) ∙ ap (λ l. words ++ l) (sym rest);
+      after = ap (λ j. drop j text) (sym k) ∙ ap (drop (length (take n text))) whole ∙ drop-append_seam (take n text) (field.separator ∷ drop (n + 1) text)
+          ∙ ap (λ l. field.separator ∷ l) (sym (join_fields field (drop (n + 1) text))) ∙ sym (begun_join field.separator more (some_fields field (drop (n + 1) text)));
     }
 
 -- ---- the fields that are asked for
@@ -110,8 +103,8 @@ first_of field text n (within, cut, whole) =
 pub record Found (field : Field) (text before part after : List ℕ) : Type 0 where
   pub has : has_too_few field text ≡ false
   pub asked : joined_fields field text ≡ part
-  pub around : (words : List ℕ) → join_with_byte field.separator (take (field.first - 1) (fields_of field text) ++ words ∷ drop (field.first - 1 + field.joined + 1) (fields_of field text))
-      ≡ before ++ words ++ after
+  pub front : each_ended field.separator (take (field.first - 1) (fields_of field text)) ≡ before
+  pub rest : each_begun field.separator (drop (field.first - 1 + field.joined + 1) (fields_of field text)) ≡ after
   pub whole : text ≡ before ++ part ++ after
 
 not_le : (n m : ℕ) → m < n → nat_le n m ≡ false
@@ -148,10 +141,8 @@ found field text rest last n a b first =
           (omega (arith, ap length all, a.many, b.many, length-append a.passed (b.passed ++ x ∷ first.others), length-append b.passed (x ∷ first.others)));
       asked = ap (λ l. join_with_byte c (take (field.joined + 1) l)) rest_is ∙ ap (join_with_byte c) (take_one b.passed first.others x field.joined (sym b.many))
           ∙ join_each c b.passed (x ∷ []) (omega arith);
-      around = λ words. ap (λ l. join_with_byte c (take (field.first - 1) parts ++ words ∷ l)) others_are
-          ∙ ap (λ l. join_with_byte c (l ++ words ∷ first.others)) (ap (take (field.first - 1)) all ∙ take_front a.passed (b.passed ++ x ∷ first.others) (field.first - 1) (sym a.many))
-          ∙ join_each c a.passed (words ∷ first.others) (omega arith) ∙ ap (λ l. each_ended c a.passed ++ l) (first.around words)
-          ∙ sym (append_assoc (each_ended c a.passed) words (drop n last));
+      front = ap (λ l. each_ended c l) (ap (take (field.first - 1)) all ∙ take_front a.passed (b.passed ++ x ∷ first.others) (field.first - 1) (sym a.many));
+      rest = ap (λ l. each_begun c l) others_are ∙ sym first.after;
       whole = a.whole ∙ ap (λ l. each_ended c a.passed ++ l)
           (b.whole ∙ ap (λ l. each_ended c b.passed ++ l) (sym (take-append-drop n last)) ∙ sym (append_assoc (each_ended c b.passed) x (drop n last)))
           ∙ sym (append_assoc (each_ended c a.passed) (each_ended c b.passed ++ x) (drop n last));
@@ -184,24 +175,26 @@ places field text rest last n start end a b within e f =
       omega (arith, f, within, ap length a.whole, length-append front rest, ap length b.whole, length-append middle last, length-append middle (take n last), length-take n last),
     )
 
--- ---- the fields that are asked for, and the words that replace them
+-- ---- the cut
 pub record IsCut (field : Field) (text before part after : List ℕ) : Type 0 where
-  pub part_is : part_of field text ≡ Some part
-  pub around : (words : List ℕ) → with_part field text words ≡ before ++ in_place_of field part words ++ after
+  pub cut_is : cut_of field text ≡ Some (record { front = before; part = part; rest = after })
   pub whole : text ≡ before ++ part ++ after
 
-cut : (field : Field) (text before part after : List ℕ) → Found field text before part after → IsCut field text before part after
-cut field text before part after h = record {
-  part_is = ap (λ b. cond b None (Some (joined_fields field text))) h.has ∙ ap Some h.asked;
-  around = λ words. ap (λ b. cond b text (join_with_byte field.separator (take (field.first - 1) (fields_of field text) ++ in_place_of field (joined_fields field text) words ∷ drop (field.first - 1 + field.joined + 1) (fields_of field text)))) h.has
-      ∙ ap (λ p. join_with_byte field.separator (take (field.first - 1) (fields_of field text) ++ in_place_of field p words ∷ drop (field.first - 1 + field.joined + 1) (fields_of field text))) h.asked
-      ∙ h.around (in_place_of field part words);
-  whole = h.whole;
-}
+abbrev made : List ℕ → List ℕ → List ℕ → Cut
+made before part after = record { front = before; part = part; rest = after }
 
-same_cut : (field : Field) (text b p a before part after : List ℕ) → b ≡ before → p ≡ part → a ≡ after → IsCut field text before part after → IsCut field text b p a
-same_cut field text b p a before part after e f g h =
-    subst (λ x. IsCut field text x p a) (sym e) (subst (λ y. IsCut field text before y a) (sym f) (subst (λ z. IsCut field text before part z) (sym g) h))
+cut : (field : Field) (text b p a before part after : List ℕ) → b ≡ before → p ≡ part → a ≡ after → Found field text before part after → IsCut field text b p a
+cut field text b p a before part after e f g h =
+    let parts = fields_of field text in
+    let c = field.separator in
+    let fronts = each_ended c (take (field.first - 1) parts) in
+    let rests = each_begun c (drop (field.first - 1 + field.joined + 1) parts) in
+    record {
+      cut_is = ap (λ (t : Bool). cond t None (Some (made fronts (joined_fields field text) rests))) h.has
+          ∙ ap (λ l. Some (made l (joined_fields field text) rests)) (h.front ∙ sym e) ∙ ap (λ l. Some (made b l rests)) (h.asked ∙ sym f)
+          ∙ ap (λ l. Some (made b p l)) (h.rest ∙ sym g);
+      whole = h.whole ∙ ap (λ l. l ++ part ++ after) (sym e) ∙ ap (λ l. b ++ l ++ after) (sym f) ∙ ap (λ l. b ++ p ++ l) (sym g);
+    }
 
 pub cut_at : (field : Field) (text rest last : List ℕ) (n start end : ℕ) → IsAfter field (field.first - 1) text rest → IsAfter field field.joined rest last
     → HasFirst field last n → n ≤ length last → start ≡ length text - length rest → end ≡ length text - length last + n
@@ -212,54 +205,20 @@ cut_at field text rest last n start end a b first within e f =
     let before = each_ended field.separator a.passed in
     let part = each_ended field.separator b.passed ++ take n last in
     let s = slices text before part (drop n last) start end h.whole at.0 at.1 in
-    same_cut field text _ _ _ before part (drop n last) s.front s.middle (take_rest text end ∙ s.back) (cut field text before part (drop n last) h)
+    cut field text _ _ _ before part (drop n last) s.front s.middle (take_rest text end ∙ s.back) h
 
--- ---- a separator of a field that isn't in quotes
-plain_fields : (field : Field) (text : List ℕ) → field.csv ≡ false → fields_of field text ≡ slice_split (λ b. eqb b field.separator) text
-plain_fields field text e = ap (λ b. cond b (split_record field.separator text) (slice_split (λ b. eqb b field.separator) text)) e
-
-csv_fields : (field : Field) (text : List ℕ) → field.csv ≡ true → fields_of field text ≡ split_record field.separator text
-csv_fields field text e = ap (λ b. cond b (split_record field.separator text) (slice_split (λ b. eqb b field.separator) text)) e
-
-pub quoted_separator : (field : Field) (text : List ℕ) (r : Option ℕ) → field.csv ≡ true
-    → MatchOption r (split_record field.separator text ≡ text ∷ [])
-    (λ at. (at < length text) × ((more : List ℕ) → split_record field.separator (text ++ more) ≡ take at text ∷ split_record field.separator (drop (at + 1) text ++ more))
+-- ---- the separator after the first field
+pub separator_at : (field : Field) (start : Quoting) (text : List ℕ) (r : Option ℕ) → start ≡ quotes_of field
+    → MatchOption r (split_fields field.separator start text ≡ text ∷ [])
+    (λ at. (at < length text) × ((more : List ℕ) → split_fields field.separator start (text ++ more) ≡ take at text ∷ split_fields field.separator start (drop (at + 1) text ++ more))
     × (text ≡ take at text ++ field.separator ∷ drop (at + 1) text))
     → MatchOption r (fields_of field text ≡ text ∷ []) (λ at. (at < length text) × (fields_of field text ≡ take at text ∷ fields_of field (drop (at + 1) text))
     × (text ≡ take at text ++ field.separator ∷ drop (at + 1) text))
-quoted_separator field text None e h = csv_fields field text e ∙ h
-quoted_separator field text (Some k) e h =
-    let after = drop (k + 1) text in (
-      h.0,
-      csv_fields field text e ∙ ap (split_record field.separator) (sym (append-nil text)) ∙ h.1 []
-          ∙ ap (λ t. take k text ∷ split_record field.separator t) (append-nil after) ∙ ap (λ l. take k text ∷ l) (sym (csv_fields field after e)),
-      h.2,
-    )
-
-bare_first : (xs : List ℕ) (k : ℕ) → is_quote (get_or xs 0 0) ≡ false → is_quote (get_or (take k xs) 0 0) ≡ false
-bare_first xs zero e = refl
-bare_first [] (suc k) e = refl
-bare_first (x ∷ xs) (suc k) e = e
-
-pub plain_separator : (field : Field) (text : List ℕ) (r : Option ℕ) → ((field.csv ≡ true) × (is_quote (get_or text 0 0) ≡ false)) ⊎ (field.csv ≡ false)
-    → r ≡ position (λ b. eqb b field.separator) text
-    → MatchOption r (fields_of field text ≡ text ∷ []) (λ at. (at < length text) × (fields_of field text ≡ take at text ∷ fields_of field (drop (at + 1) text))
-    × (text ≡ take at text ++ field.separator ∷ drop (at + 1) text))
-plain_separator field text None (inr e) f = plain_fields field text e ∙ no_fields field.separator text (sym f)
-plain_separator field text (Some k) (inr e) f =
-    let s = one_field field.separator text k (sym f) in
-    (s.0, plain_fields field text e ∙ s.1 ∙ ap (λ l. take k text ∷ l) (sym (plain_fields field (drop (k + 1) text) e)), s.2)
-plain_separator field text None (inl h) f =
-    let c = field.separator in
-    let none = no_separator c text (sym f) in
-    csv_fields field text h.0 ∙ ends_last c c Ready text (bare_passes c c text h.1 none none)
-plain_separator field text (Some k) (inl h) f =
-    let c = field.separator in
-    let after = drop (k + 1) text in
-    let s = one_field c text k (sym f) in
-    let none = none_before c text k (sym f) in (
-      s.0,
-      csv_fields field text h.0 ∙ ap (split_record c) s.2 ∙ ends_after c c Ready (take k text) after (bare_passes c c (take k text) (bare_first text k h.1) none none)
-          ∙ ap (λ l. take k text ∷ l) (sym (csv_fields field after h.0)),
-      s.2,
-    )
+separator_at field start text None e h = ap (λ q. split_fields field.separator q text) (sym e) ∙ h
+separator_at field start text (Some k) e h = (
+  h.0,
+  ap (λ q. split_fields field.separator q text) (sym e) ∙ ap (split_fields field.separator start) (sym (append-nil text)) ∙ h.1 []
+      ∙ ap (λ t. take k text ∷ split_fields field.separator start t) (append-nil (drop (k + 1) text))
+      ∙ ap (λ q. take k text ∷ split_fields field.separator q (drop (k + 1) text)) e,
+  h.2,
+)

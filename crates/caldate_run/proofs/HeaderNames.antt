@@ -3,14 +3,13 @@ use Rattle.std.proofs.Common.{◌≡◌, ◌++◌, ◌∷◌, ◌∙◌, ◌+◌
 use Rattle.std.specs.Prelude.{◌&&◌, nat_le}
 use Rattle.std.proofs.lemmas.Bool.{false≢true}
 use Rattle.std.proofs.lemmas.Bool.Decides.{nat_tests}
-use Rattle.std.proofs.lemmas.List.{append-nil}
-use Rattle.caldate_run.specs.Fields.{is_quote}
-use Rattle.caldate_run.specs.Header.{HasLine, first_part, has_name, header_of, is_pair, name_number, unescaped}
+use Rattle.std.proofs.lemmas.List.{append-nil, length-map}
+use Rattle.caldate_run.specs.Fields.{fields_of}
+use Rattle.caldate_run.specs.Header.{HasLine, first_part, has_name, header_of, name_number}
 use Rattle.caldate_run.specs.Lines.{split_input, text_of}
 use Rattle.caldate_run.specs.RunStates.{FirstEnds, NoEnd}
 use Rattle.caldate_run.specs.declared.request.Field.{Field}
 use Rattle.caldate_run.specs.declared.run.quoting.Quoting.TheVariants.{Ready}
-use Rattle.caldate_run.proofs.Ends.{empty}
 use Rattle.caldate_run.proofs.Splits.{parts_some}
 
 -- ---- the text of the first line
@@ -38,36 +37,3 @@ pub name_passed : (field : Field) (name part : List ℕ) (parts others : List (L
     → name_number n field name parts ≡ all → name_number (n + 1) field name others ≡ all
 name_passed field name part parts others n all cut test inv =
     sym (ap (name_number n field name) cut ∙ ap (λ b. cond b (Some n) (name_number (n + 1) field name others)) test) ∙ inv
-
--- ---- doubled quotes
-second : (b c : Bool) → (b && c) ≡ true → c ≡ true
-second true c e = e
-second false c e = absurd (false≢true e)
-
-not_second : (b c : Bool) → b ≡ true → (b && c) ≡ false → c ≡ false
-not_second true c t e = e
-not_second false c t e = absurd (false≢true t)
-
-at_least : (n m : ℕ) → n ≤ m → nat_le n m ≡ true
-at_least n m h = grind (arith, nat_tests)
-
-pub pair_first : (text : List ℕ) → 2 ≤ length text → is_pair text ≡ true → unescaped text ≡ 34 ∷ unescaped (drop 2 text)
-pair_first [] h e = absurd (omega arith)
-pair_first (x ∷ []) h e = absurd (omega arith)
-pair_first (x ∷ y ∷ xs) h e =
-    ap (λ b. cond b (34 ∷ unescaped xs) (x ∷ unescaped (y ∷ xs))) (second (nat_le 2 (length (x ∷ y ∷ xs))) (is_quote x && is_quote y) e)
-
-pub byte_first : (text : List ℕ) → 0 < length text → is_pair text ≡ false → unescaped text ≡ get_or text 0 0 ∷ unescaped (drop 1 text)
-byte_first [] h e = absurd (omega arith)
-byte_first (x ∷ []) h e = refl
-byte_first (x ∷ y ∷ xs) h e =
-    ap (λ b. cond b (34 ∷ unescaped xs) (x ∷ unescaped (y ∷ xs)))
-    (not_second (nat_le 2 (length (x ∷ y ∷ xs))) (is_quote x && is_quote y) (at_least 2 (length (x ∷ y ∷ xs)) (omega arith)) e)
-
-pub byte_pushed : (own own_now rest others all : List ℕ) (byte : ℕ) → unescaped rest ≡ byte ∷ unescaped others → own_now ≡ own ++ byte ∷ []
-    → own ++ unescaped rest ≡ all → own_now ++ unescaped others ≡ all
-byte_pushed own own_now rest others all byte cut e inv =
-    ap (λ o. o ++ unescaped others) e ∙ append_assoc own (byte ∷ []) (unescaped others) ∙ ap (λ l. own ++ l) (sym cut) ∙ inv
-
-pub all_pushed : (own rest all : List ℕ) → length rest ≡ 0 → own ++ unescaped rest ≡ all → own ≡ all
-all_pushed own rest all none inv = sym (append-nil own) ∙ ap (λ r. own ++ unescaped r) (sym (empty rest none)) ∙ inv

@@ -1,12 +1,14 @@
 -- The bytes of several reads, and of several writes.
-use Rattle.std.proofs.Common.{◌-◌, ◌≡◌, ℕ, ◌+◌, ◌≤◌, List, ◌++◌, length, take, drop, Option, sym, ap, ◌∙◌, append_assoc, take-append-drop, length-take, subst}
+use Rattle.std.proofs.Common.{◌-◌, ◌≡◌, ℕ, ◌+◌, ◌<◌, ◌≤◌, List, ◌++◌, length, take, drop, Option, sym, ap, ◌∙◌, append_assoc, take-append-drop, length-take, subst}
 use borrow.Rule.Slice.PartMut.{put_mid, post_of}
 use Rattle.std.specs.Io.KnownBytes.{Appends, Consumes, Keeps}
 use Rattle.std.proofs.KnownBytes.{Appends-kept, Appends-trans}
 use Rattle.std.proofs.Math.Nat.{min-eq_left}
 use Rattle.std.proofs.Math.Seq.{take-append-add}
-use Rattle.std.proofs.lemmas.List.{take-append-le, take_rest}
+use Rattle.std.proofs.lemmas.List.{append-nil, take-append-le, take_rest}
+use Rattle.caldate_run.specs.Outputs.{AppendsFront}
 use Rattle.caldate_run.specs.Runs.{HasRead}
+use Rattle.caldate_run.proofs.Ends.{empty}
 
 -- a read into the free end of a buffer
 pub given_more : (old new : Option (List ℕ)) (a k n : ℕ) (xs ys : List ℕ) → a ≤ length xs → n ≤ length ys
@@ -20,21 +22,35 @@ given_more old new a k n xs ys h e p =
     )
 
 -- the writer took all of the bytes except the rest
-pub record HasTaken (old new : Option (List ℕ)) (bytes rest : List ℕ) : Type 0 where
+pub record HasSent (old new : Option (List ℕ)) (bytes rest : List ℕ) : Type 0 where
   pub taken : List ℕ
   pub whole : bytes ≡ taken ++ rest
   pub appended : Appends old new taken
 
 -- a write that takes n bytes leaves a slice of the rest
-pub taken_more : (old mid new : Option (List ℕ)) (bytes rest : List ℕ) (n : ℕ) → HasTaken old mid bytes rest
+pub sent_more : (old mid new : Option (List ℕ)) (bytes rest : List ℕ) (n : ℕ) → HasSent old mid bytes rest
     → Appends mid new (take n rest)
-    → HasTaken old new bytes (take (length rest - n) (drop n rest))
-taken_more old mid new bytes rest n p q = record {
+    → HasSent old new bytes (take (length rest - n) (drop n rest))
+sent_more old mid new bytes rest n p q = record {
   taken = p.taken ++ take n rest;
   whole = rw take_rest (p.whole ∙ ap (λ l. p.taken ++ l) (sym (take-append-drop n rest)) ∙ sym (append_assoc p.taken (take n rest) (drop n rest)));
   appended = Appends-trans old mid new _ _ p.appended q;
 }
 
 -- a write that was interrupted
-pub taken_kept : (old mid new : Option (List ℕ)) (bytes rest : List ℕ) → HasTaken old mid bytes rest → Keeps mid new → HasTaken old new bytes rest
-taken_kept old mid new bytes rest p kept = record { taken = p.taken; whole = p.whole; appended = Appends-kept old mid new _ p.appended kept }
+pub sent_kept : (old mid new : Option (List ℕ)) (bytes rest : List ℕ) → HasSent old mid bytes rest → Keeps mid new → HasSent old new bytes rest
+sent_kept old mid new bytes rest p kept = record { taken = p.taken; whole = p.whole; appended = Appends-kept old mid new _ p.appended kept }
+
+-- a write that failed or took nothing, and the end of the writes
+pub sent_front : (old mid new : Option (List ℕ)) (bytes rest : List ℕ) → 0 < length rest → HasSent old mid bytes rest → Keeps mid new → AppendsFront old new bytes
+sent_front old mid new bytes rest some p kept = record {
+  front = p.taken;
+  rest = rest;
+  whole = p.whole;
+  left = some;
+  taken = Appends-kept old mid new _ p.appended kept;
+}
+
+pub sent_whole : (old new : Option (List ℕ)) (bytes rest : List ℕ) → length rest ≡ 0 → HasSent old new bytes rest → Appends old new bytes
+sent_whole old new bytes rest none p =
+    subst (Appends old new) (sym (p.whole ∙ ap (λ l. p.taken ++ l) (empty rest none) ∙ append-nil p.taken)) p.appended

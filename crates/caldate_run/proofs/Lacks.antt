@@ -18,7 +18,7 @@ use Rattle.caldate_run.specs.Answers.{IsAnswer, IsNotRead}
 use Rattle.caldate_run.specs.Clocks.{IsPlaced, placed_as}
 use Rattle.caldate_run.specs.Readers.{IsUnreadIn, first_named}
 use Rattle.caldate_run.specs.Readings.{HasFormIn, IsErrorIn}
-use Rattle.caldate_run.specs.Replies.{reason_of}
+use Rattle.caldate_run.specs.Reasons.{reason_of}
 use Rattle.caldate_run.specs.declared.run.no_answer.NoAnswer.{NoAnswer}
 use Rattle.caldate_run.specs.declared.run.no_answer.NoAnswer.TheVariants as why
 use Rattle.caldate_run.specs.declared.reading.Reading.{Reading}

@@ -12,17 +12,18 @@ pub mod Takes
 pub mod Texts
 pub mod RecordFields
 pub mod NewFields
-pub mod NextMoments
 pub mod OneList
-pub mod Each
 pub mod Replied
+pub mod FieldTexts
+pub mod PieceOuts
 pub mod Reported
 pub mod DayLists
 pub mod HolidayLines
+pub mod Outputs
 pub mod Steps
+pub mod Advances
 pub mod OneCount
 pub mod OneAnswer
-pub mod OneReply
 pub mod Others
 pub mod Leads
 pub mod Listed
@@ -46,4 +47,3 @@ mod TextEnds
 mod TextStarts
 mod DigitStarts
 pub mod Scans
-pub mod OneScan

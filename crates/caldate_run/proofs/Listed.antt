@@ -1,25 +1,24 @@
--- The days of a list, one after the other.
-use Rattle.std.proofs.Common.{◌≡◌, ℕ, suc, ◌+◌, ◌*◌, ◌<◌, ◌∙◌, ap, refl, sym, subst, arith, inl, inr, Option, None, Some, Result, Ok, Err, ℤ, pos, min, List, [], ◌∷◌, ◌++◌, length, get_or, append_assoc, length-append}
-use Rattle.std.specs.Prelude.{IfErr, IfSome, IsErrAnd, IsOk, MatchOption, OnErr, OnOk}
+-- The days and moments of a list, one after another.
+use Rattle.std.proofs.Common.{◌≡◌, ℕ, ◌+◌, ◌<◌, ◌∙◌, ap, refl, sym, subst, arith, Bool, true, false, Option, None, Some, Result, Ok, Err, ℤ, pos, min, List, [], ◌∷◌, ◌++◌, append_assoc}
+use Rattle.std.specs.Prelude.{◌≤ℤ◌, ◌<ℤ◌, IfSome, IsOk, MatchOption, is_ok}
 use Rattle.std.specs.List.{flat_map}
-use Rattle.std.proofs.lemmas.Bool.{cases_lt, false≢true}
+use Rattle.std.proofs.lemmas.Bool.{false≢true}
 use Rattle.std.proofs.lemmas.Int.{ints}
-use Rattle.std.proofs.lemmas.List.{append-nil, ext_get_or, get_or_append_left}
-use Rattle.std.proofs.lemmas.List.Concat.{flat_map-append}
-use Rattle.std.proofs.Math.Nat.{suc-mul}
-use Rattle.std.proofs.Math.Seq.{get_or-append_seam}
-use Rattle.std.specs.Io.KnownBytes.{Appends}
+use Rattle.std.proofs.lemmas.List.{append-nil}
+use Rattle.cal_datetime.specs.OffsetDateTime.{LocalAndOffset, instant}
+use Rattle.cal_recurrence.specs.ZonedSet.{IsNextAfter, Occurs}
+use Rattle.cal_recurrence.specs.declared.zoned_set.ZonedSet.{ZonedSet}
 use Rattle.cal_time.specs.Date.{IsDate}
 use Rattle.cal_schedule.specs.Months.{IsMonthsLater}
 use Rattle.cal_schedule.proofs.MonthMoves.{IsMonthNumber-date, one_later}
-use Rattle.caldate_run.specs.Lists.{AreAll, AreFirst, IsUnitsAfter, IsListed, Lists, WritesLines, line_of}
-use Rattle.caldate_run.specs.Runs.{AppendsFront, IsOfWrite, WritesPage}
+use Rattle.caldate_run.specs.Lists.{AreListed, IfAll, IsEnd, IsUnitsAfter, Lists, WritesLines, line_of}
+use Rattle.caldate_run.specs.Outputs.{WritesPage}
+use Rattle.caldate_run.specs.Recurring.{AreListedIn, IsEndIn, IsNextIn}
 use Rattle.caldate_run.specs.declared.run.run_error.RunError.{RunError}
 use Rattle.caldate_run.specs.declared.request.Listing.{Listing}
 use Rattle.caldate_run.specs.declared.request.StepUnit.{StepUnit}
 use Rattle.caldate_run.specs.declared.request.StepUnit.TheVariants.{Days, Months}
 use Rattle.caldate_run.proofs.OneAnswer.{took-one}
-use Rattle.caldate_run.proofs.Steps.{all_more, front_more}
 
 -- any two days of the range are less than a thousand million months from each other
 few_months : (n m s : ℕ) → IsDate n → IsDate s → IsMonthsLater n (pos m) s → m < 1000000000
@@ -45,99 +44,66 @@ pub near : (n m : ℕ) (z : ℤ) (r : Option ℕ) → IsDate n → z ≡ pos (mi
 near n m z None d e has = tt
 near n m z (Some s) d e has = omega (arith, few_months n (min m 1000000000) s d has.0 (subst (λ y. IsMonthsLater n y s) e has.1))
 
--- ---- one day more
-pub one_more : (listing : Listing) (days : List ℕ) (day : ℕ) → AreFirst listing days → IsListed listing (length days) day
-    → AreFirst listing (days ++ day ∷ [])
-one_more listing days day first next k less =
-    elim (cases_lt k (length days)) as (λ _. IsListed listing k (get_or (days ++ day ∷ []) k 0)) [
-      | inl before ↦ subst (IsListed listing k) (sym (get_or_append_left days (day ∷ []) 0 k before)) (first k before)
-      | inr after ↦
-          let last : length days ≡ k = omega (arith, length-append days (day ∷ []), less, after) in
-          subst (λ j. IsListed listing j (get_or (days ++ day ∷ []) j 0)) last
-          (subst (IsListed listing (length days)) (sym (get_or-append_seam days day [] 0)) next)
-    ]
+-- ---- the lines that were given and those that are left
+-- The items are those before these, of which the lines were given, and these.
+abbrev pub Follows : {S X : Type 0} → (X → List ℕ) → (Bool → S → List X → Type 0) → S → S → List ℕ → Type 0
+Follows {S} {X} line Are start now given =
+    (all : Bool) (items : List X) → Are all now items → (whole : List X) × Are all start whole × (flat_map line whole ≡ given ++ flat_map line items)
 
-pub one_line_more : {X : Type 0} (line : X → List ℕ) (items : List X) (item : X) (written buffered : List ℕ) → flat_map line items ≡ written ++ buffered
-    → flat_map line (items ++ item ∷ []) ≡ written ++ (buffered ++ line item)
-one_line_more line items item written buffered e =
-    flat_map-append line items (item ∷ []) ∙ ap (λ l. l ++ (line item ++ [])) e
-    ∙ ap (λ l. written ++ buffered ++ l) (append-nil (line item)) ∙ append_assoc written buffered (line item)
+pub one_more : {S X : Type 0} (line : X → List ℕ) (Are : Bool → S → List X → Type 0) (start now next : S) (given bytes : List ℕ) (x : X) → bytes ≡ line x
+    → ((all : Bool) (items : List X) → Are all next items → Are all now (x ∷ items)) → Follows line Are start now given → Follows line Are start next (given ++ bytes)
+one_more line Are start now next given bytes x same more follows all items are =
+    let (whole, is, e) = follows all (x ∷ items) (more all items are) in
+    (whole, is, e ∙ sym (append_assoc given (line x) (flat_map line items)) ∙ ap (λ b. (given ++ b) ++ flat_map line items) (sym same))
 
-pub next_count : (days : List ℕ) (day count every : ℕ) → count ≡ length days * every → count + every ≡ length (days ++ day ∷ []) * every
-next_count days day count every e =
-    let longer : length (days ++ day ∷ []) ≡ suc (length days) = omega (arith, length-append days (day ∷ [])) in
-    sym (ap (λ k. k * every) longer ∙ suc-mul (length days) every ∙ ap (λ p. p + every) (sym e))
+-- nothing is left, or not all is listed
+pub lists : {S X : Type 0} (line : X → List ℕ) (Are : Bool → S → List X → Type 0) (start now : S) (given : List ℕ) (r : Result Unit RunError) (old new : Option (List ℕ))
+    → Are (is_ok r) now [] → Follows line Are start now given → WritesPage given r old new → WritesLines line (λ all. Are all start) r old new
+lists line Are start now given r old new end follows page =
+    let (whole, is, e) = follows (is_ok r) [] end in
+    (whole, is, subst (λ bytes. WritesPage bytes r old new) (sym (e ∙ append-nil given)) page)
 
--- ---- what the writer took
-pub lists_failed : {X : Type 0} (line : X → List ℕ) (First All : List X → Type 0) (r : Result Unit RunError) (old new : Option (List ℕ)) (items : List X)
-    → IsErrAnd r IsOfWrite → First items → AppendsFront old new (flat_map line items) → WritesLines line First All r old new
-lists_failed line First All (Ok done) old new items is first front = absurd is
-lists_failed line First All (Err error) old new items is first front = (is, (items, first, front))
+if_all : (all : Bool) (P : Type 0) → P → IfAll all P
+if_all true P h = h
+if_all false P h = tt
 
-pub lists_ended : {X : Type 0} (line : X → List ℕ) (First All : List X → Type 0) (r : Result Unit RunError) (start now new : Option (List ℕ)) (items : List X)
-    (written buffered : List ℕ) → First items → All items → flat_map line items ≡ written ++ buffered → Appends start now written
-    → OnOk r (Appends now new buffered) → OnErr r (AppendsFront now new buffered) → IfErr r IsOfWrite → WritesLines line First All r start new
-lists_ended line First All (Ok done) start now new items written buffered first all whole taken ok front err =
-    (items, all, all_more start now new written buffered _ whole taken ok)
-lists_ended line First All (Err error) start now new items written buffered first all whole taken ok front err =
-    (err, (items, first, front_more start now new written buffered _ whole taken front))
+pub no_days : (listing : Listing) (count : ℕ) (all : Bool) → IsEnd listing count → AreListed listing all count []
+no_days listing count all end = if_all all (IsEnd listing count) end
 
--- ---- lines of which some are left
-pub one_text_more : (all written old room buffered text left : List ℕ) → all ≡ written ++ (old ++ (text ++ 10 ∷ left)) → old ≡ room ++ buffered
-    → all ≡ (written ++ room) ++ (((buffered ++ text) ++ 10 ∷ []) ++ left)
-one_text_more all written old room buffered text left e cut =
-    e ∙ ap (λ l. written ++ (l ++ (text ++ 10 ∷ left))) cut ∙ simp append_assoc refl
+pub no_moments : (set : ZonedSet) (last : LocalAndOffset) (x : ℤ) (all : Bool) → IsEndIn set last x → AreListedIn set last all x []
+no_moments set last x all end = if_all all (IsEndIn set last x) end
 
-pub lines_failed : (r : Result Unit RunError) (start now new : Option (List ℕ)) (all written buffered left : List ℕ) → IsErrAnd r IsOfWrite
-    → all ≡ written ++ (buffered ++ left) → Appends start now written → AppendsFront now new buffered → WritesPage all r start new
-lines_failed (Ok done) start now new all written buffered left is e taken front = absurd is
-lines_failed (Err error) start now new all written buffered left is e taken front =
-    let more : AppendsFront now new (buffered ++ left) = record {
-      front = front.front;
-      rest = front.rest ++ left;
-      whole = ap (λ l. l ++ left) front.whole ∙ append_assoc front.front front.rest left;
-      left = omega (arith, front.left, length-append front.rest left);
-      taken = front.taken;
-    } in
-    (is, front_more start now new written (buffered ++ left) all e taken more)
+-- ---- the next moment, or the end
+pub next_in : (set : ZonedSet) (last : LocalAndOffset) (x : ℤ) (r : Option LocalAndOffset) (m : LocalAndOffset) → IsNextAfter (Occurs set) x r → r ≡ Some m
+    → instant m ≤ℤ instant last → IsNextIn set last x m
+next_in set last x r m next e most = record { first = subst (IsNextAfter (Occurs set) x) e next; not_past = most }
 
-pub lines_ended : (r : Result Unit RunError) (start now new : Option (List ℕ)) (all written buffered left : List ℕ) → left ≡ []
-    → all ≡ written ++ (buffered ++ left) → Appends start now written → OnOk r (Appends now new buffered) → OnErr r (AppendsFront now new buffered)
-    → IfErr r IsOfWrite → WritesPage all r start new
-lines_ended (Ok done) start now new all written buffered left none e taken ok front err =
-    all_more start now new written buffered all (e ∙ ap (λ l. written ++ l) (ap (λ l. buffered ++ l) none ∙ append-nil buffered)) taken ok
-lines_ended (Err error) start now new all written buffered left none e taken ok front err =
-    (err, front_more start now new written buffered all (e ∙ ap (λ l. written ++ l) (ap (λ l. buffered ++ l) none ∙ append-nil buffered)) taken front)
+pub end_in : (set : ZonedSet) (last : LocalAndOffset) (x : ℤ) (r : Option LocalAndOffset) → IsNextAfter (Occurs set) x r
+    → ((m : LocalAndOffset) → r ≡ Some m → instant last <ℤ instant m) → IsEndIn set last x
+end_in set last x None none past m next = omega (arith, ints, none next.first.place m next.first.is, next.first.later)
+end_in set last x (Some k) first past m next =
+    omega (arith, ints, (first.first next.first.place m next.first.is next.first.later).0, past k refl, next.not_past)
 
 -- ---- a list has one answer
 pub one_after : (unit : StepUnit) (count n a b : ℕ) → IsUnitsAfter unit count n a → IsUnitsAfter unit count n b → a ≡ b
 one_after Days count n a b h k = h ∙ sym k
 one_after Months count n a b h k = one_later n a b (pos count) h k
 
--- no list of all the days is shorter than another
-no_shorter : (listing : Listing) (days others : List ℕ) → AreAll listing days → AreFirst listing others → ¬ (length days < length others)
-no_shorter listing days others all first less = all.1 (get_or others (length days) 0) (first (length days) less)
-
-one_list : (listing : Listing) (days others : List ℕ) → AreAll listing days → AreAll listing others → days ≡ others
-one_list listing days others all too =
-    let same : length days ≡ length others =
-    elim (cases_lt (length days) (length others)) as (λ _. length days ≡ length others) [
-      | inl less ↦ absurd (no_shorter listing days others all too.0 less)
-      | inr most ↦ elim (cases_lt (length others) (length days)) as (λ _. length days ≡ length others) [
-        | inl more ↦ absurd (no_shorter listing others days too all.0 more)
-        | inr least ↦ omega arith
-      ]
-    ] in
-    ext_get_or 0 days others same (λ k less.
-    one_after listing.step.unit (k * listing.step.every) listing.first (get_or days k 0) (get_or others k 0)
-    (all.0 k less).after (too.0 k (omega (arith, less, same))).after)
+one_days : (listing : Listing) (count : ℕ) (days others : List ℕ) → AreListed listing true count days → AreListed listing true count others → days ≡ others
+one_days listing count [] [] end stop = refl
+one_days listing count [] (k ∷ ks) end (there, rest) = absurd (end k there)
+one_days listing count (day ∷ days) [] (here, others) end = absurd (end day here)
+one_days listing count (day ∷ days) (k ∷ ks) (here, others) (there, rest) =
+    let same = one_after listing.step.unit count listing.first day k here.after there.after in
+    let more = one_days listing (count + listing.step.every) days ks others rest in
+    λ i. same i ∷ more i
 
 pub lists-one : (listing : Listing) (held : List ℕ) (r s : Result Unit RunError) (w v : Option (List ℕ)) → IsOk r → IsOk s
     → Lists listing r (Some held) w → Lists listing s (Some held) v → w ≡ v
 lists-one listing held (Err e) s w v ok too first second = absurd (false≢true ok)
 lists-one listing held (Ok done) (Err e) w v ok too first second = absurd (false≢true too)
 lists-one listing held (Ok done) (Ok end) w v ok too (days, all, took) (others, every, taken) =
-    took-one held _ _ w v took taken (ap (flat_map line_of) (one_list listing days others all every))
+    took-one held _ _ w v took taken (ap (flat_map line_of) (one_days listing 0 days others all every))
 
 pub pages-one : (page held : List ℕ) (r s : Result Unit RunError) (w v : Option (List ℕ)) → IsOk r → IsOk s
     → WritesPage page r (Some held) w → WritesPage page s (Some held) v → w ≡ v

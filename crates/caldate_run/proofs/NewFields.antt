@@ -1,10 +1,9 @@
 -- Words that become a field.
 use Rattle.std.proofs.Common.{◌≡◌, ℕ, ◌-◌, Bool, true, false, cond, eqb, List, [], ◌∷◌, ◌++◌, length, take, drop, Some, refl, sym, ap, ◌∙◌, append_assoc}
 use Rattle.std.specs.Prelude.{◌&&◌, ◌||◌, nat_le, slice_index}
-use Rattle.std.proofs.Math.Seq.{drop-append_seam, take-append_seam}
 use Rattle.std.proofs.lemmas.Bool.{or_parts}
 use Rattle.std.proofs.lemmas.List.{append-nil}
-use Rattle.caldate_run.specs.Fields.{as_field, doubled, end_of_field, escaped, in_place_of, in_quotes, is_quote, is_quoted, is_special, needs_quotes, text_with, with_last, with_part, within_quotes}
+use Rattle.caldate_run.specs.Fields.{as_field, doubled, end_of_field, escaped, in_place_of, in_quotes, is_quote, is_quoted, is_special, needs_quotes}
 use Rattle.caldate_run.specs.declared.request.Field.{Field}
 
 -- ---- a text that is not a record
@@ -12,19 +11,10 @@ pub plain_quotes : (field : Field) (part : List ℕ) → field.csv ≡ false →
 plain_quotes field part e =
     ap (λ b. b && (nat_le 2 (length part) && (is_quote (slice_index part 0) && is_quote (slice_index part (length part - 1))))) e
 
-pub plain_within : (field : Field) (part : List ℕ) → field.csv ≡ false → within_quotes field part ≡ part
-plain_within field part e = ap (λ b. cond b (take (length part - 2) (drop 1 part)) part) (plain_quotes field part e)
-
 pub plain_words : (field : Field) (part words : List ℕ) → field.csv ≡ false → in_place_of field part words ≡ words
 plain_words field part words e =
     ap (λ b. cond b (in_quotes words) (as_field field words)) (plain_quotes field part e)
     ∙ ap (λ b. cond (b && needs_quotes field.separator words) (in_quotes words) words) e
-
-pub in_place_text : (field : Field) (text words : List ℕ) → field.appends ≡ false → text_with (Some field) text words ≡ with_part field text words
-in_place_text field text words e = ap (λ b. cond b (with_last field text words) (with_part field text words)) e
-
-pub appended_text : (field : Field) (text words : List ℕ) → field.appends ≡ true → text_with (Some field) text words ≡ with_last field text words
-appended_text field text words e = ap (λ b. cond b (with_last field text words) (with_part field text words)) e
 
 -- ---- words that need no quotes
 pub not_special : (separator x : ℕ) → is_special separator x ≡ false → (eqb x separator ≡ false) × (is_quote x ≡ false)
@@ -50,34 +40,3 @@ plain_end field true words e csv =
     let none : needs_quotes field.separator words ≡ false = sym (ap (λ b. b && needs_quotes field.separator words) (csv refl)) ∙ e in
     ap (λ l. l ++ 34 ∷ []) (sym (not_doubled field.separator words none))
 plain_end field false words e csv = append-nil words ∙ sym (ap (λ b. cond b (in_quotes words) words) e)
-
--- ---- the bytes before a field
-
--- ---- a record with words in place of a field
-closed : (field : Field) (quoted : Bool) (words : List ℕ) → cond quoted (34 ∷ []) [] ++ end_of_field field quoted words ≡ cond quoted (in_quotes words) (as_field field words)
-closed field true words = refl
-closed field false words = refl
-
-pub with_words : (field : Field) (quoted : Bool) (part words old front rest opened begun put ended new : List ℕ) (start : ℕ) → quoted ≡ is_quoted field part
-    → opened ≡ old ++ front → begun ≡ opened ++ cond quoted (34 ∷ []) [] → start ≡ length begun → put ≡ begun ++ words
-    → ended ≡ take start put ++ end_of_field field quoted (drop start put) → new ≡ ended ++ rest
-    → new ≡ old ++ (front ++ in_place_of field part words ++ rest)
-with_words field quoted part words old front rest opened begun put ended new start is e f at g h k =
-    let words_end = end_of_field field quoted words in
-    let before : take start put ≡ begun = ap (λ n. take n put) at ∙ ap (take (length begun)) g ∙ take-append_seam begun words in
-    let after : drop start put ≡ words = ap (λ n. drop n put) at ∙ ap (drop (length begun)) g ∙ drop-append_seam begun words in
-    let whole : ended ≡ (old ++ front) ++ in_place_of field part words =
-    h ∙ ap (λ l. l ++ end_of_field field quoted (drop start put)) before ∙ ap (λ l. begun ++ end_of_field field quoted l) after
-    ∙ ap (λ l. l ++ words_end) (f ∙ ap (λ l. l ++ cond quoted (34 ∷ []) []) e) ∙ append_assoc (old ++ front) (cond quoted (34 ∷ []) []) words_end
-    ∙ ap (λ l. (old ++ front) ++ l) (closed field quoted words ∙ ap (λ b. cond b (in_quotes words) (as_field field words)) is) in
-    k ∙ ap (λ l. l ++ rest) (whole ∙ append_assoc old front (in_place_of field part words)) ∙ append_assoc old (front ++ in_place_of field part words) rest
-
--- ---- a text with words as a new field
-pub with_new : (field : Field) (text words old begun put ended : List ℕ) (start : ℕ) → begun ≡ old ++ (text ++ field.separator ∷ []) → start ≡ length begun
-    → put ≡ begun ++ words → ended ≡ take start put ++ end_of_field field false (drop start put) → ended ≡ old ++ with_last field text words
-with_new field text words old begun put ended start e at g h =
-    let before : take start put ≡ begun = ap (λ n. take n put) at ∙ ap (take (length begun)) g ∙ take-append_seam begun words in
-    let after : drop start put ≡ words = ap (λ n. drop n put) at ∙ ap (drop (length begun)) g ∙ drop-append_seam begun words in
-    h ∙ ap (λ l. l ++ as_field field (drop start put)) before ∙ ap (λ l. begun ++ as_field field l) after
-    ∙ ap (λ l. l ++ as_field field words) e ∙ append_assoc old (text ++ field.separator ∷ []) (as_field field words)
-    ∙ ap (λ l. old ++ l) (append_assoc text (field.separator ∷ []) (as_field field words))

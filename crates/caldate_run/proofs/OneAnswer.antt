@@ -1,12 +1,10 @@
 -- A text has one answer.
 use Rattle.std.proofs.Common.{◌≡◌, ◌⊎◌, ℕ, suc, ◌+◌, Bool, true, false, List, [], ◌∷◌, ◌++◌, Option, Some, None, Result, Ok, Err, inl, inr, ap, refl, sym, subst, ◌∙◌, arith}
 use Rattle.std.specs.Option.{option_map_or}
-use Rattle.std.specs.Prelude.{⊤, All, is_some, not}
+use Rattle.std.specs.Prelude.{is_some, not}
 use Rattle.std.specs.Fmt.{signed_decimal}
-use Rattle.std.specs.Io.KnownBytes.{Appends, Consumes, IsAtEnd}
+use Rattle.std.specs.Io.KnownBytes.{Appends}
 use Rattle.std.proofs.lemmas.Bool.{false≢true}
-use Rattle.std.proofs.lemmas.List.{append-nil}
-use Rattle.std.proofs.lemmas.List.Elements.{All-cons, All-nil}
 use Rattle.cal_datetime.specs.OffsetDateTime.{LocalAndOffset}
 use Rattle.cal_text.specs.declared.any.DateOrMoment.{DateOrMoment}
 use Rattle.cal_text.specs.declared.any.MomentForm.TheVariants.{Rfc3339, Unix}
@@ -14,12 +12,6 @@ use Rattle.cal_schedule.specs.Workdays.{WorkWeek}
 use Rattle.caldate_run.specs.Answers.{Answer, HasNone, IsAnswer, IsAnswerTo, IsBetween, IsNotRead, IsReadAs, compares, day_of, floored, form_read, leaves_out, moment_of, on_day}
 use Rattle.caldate_run.specs.Bounds.{lies_in}
 use Rattle.caldate_run.specs.Forms.{IsInForm}
-use Rattle.caldate_run.specs.Lines.{all_lines, split_input, without_empty_last}
-use Rattle.caldate_run.specs.Replies.{IsReplyTo}
-use Rattle.caldate_run.specs.Runs.{AnswersInput, IsRunResult, IsComplete}
-use Rattle.caldate_run.specs.RunStates.{AreReplies, no_lines}
-use Rattle.caldate_run.specs.declared.run.run_error.RunError.{RunError}
-use Rattle.caldate_run.specs.declared.run.run_error.RunError.TheVariants.{Read, Write, Stopped, Unanswered}
 use Rattle.caldate_run.specs.declared.run.no_answer.NoAnswer.{NoAnswer}
 use Rattle.caldate_run.specs.declared.run.no_answer.NoAnswer.TheVariants as why
 use Rattle.caldate_run.specs.declared.request.Filter.{Filter}
@@ -30,7 +22,6 @@ use Rattle.caldate_run.specs.declared.request.Request.{Request}
 use Rattle.caldate_run.specs.declared.request.Request.TheVariants.{To, Print, Add, Move, Floor, Until, Since, At, Keep}
 use Rattle.caldate_run.specs.declared.request.Target.TheVariants as target
 use Rattle.caldate_run.specs.declared.request.TimeUnit.{TimeUnit}
-use Rattle.caldate_run.specs.declared.run.tally.Tally.{Tally}
 use Rattle.caldate_run.proofs.Laters.{one_later}
 use Rattle.caldate_run.proofs.OneCount.{one_count}
 use Rattle.caldate_run.proofs.Leads.{one_lead}
@@ -153,57 +144,8 @@ pub one_answer : (filter : Filter) (text : List ℕ) (r : Result DateOrMoment No
     → ((any : NoAnswer) → IsNotRead filter text any → r ≡ Err any) → IsAnswer filter text a → IsAnswer filter text b → a ≡ b
 one_answer filter text r a b every unread h k = one_told filter text r a b (answer_told filter text r a every unread h) (answer_told filter text r b every unread k)
 
--- ---- the answers to all lines
--- the line has one reply, whatever came before it
-abbrev pub HasOneReply : Filter → List ℕ → Type 0
-HasOneReply filter line =
-    (before : ℕ) (a b : List ℕ) (t u v w : Tally) → IsReplyTo filter before line a t u → IsReplyTo filter before line b v w → a ≡ b
-
-replies-one : (filter : Filter) (before : ℕ) (lines : List (List ℕ)) (a b : List ℕ) (t u v w : Tally) → All (HasOneReply filter) lines
-    → AreReplies (IsReplyTo filter) before lines a t u → AreReplies (IsReplyTo filter) before lines b v w → a ≡ b
-replies-one filter before [] a b t u v w one h k = h.0 ∙ sym k.0
-replies-one filter before (line ∷ lines) a b t u v w one (reply, rest, mid, is, whole, more) (other, left, mid', is', whole', more') =
-    let same = one 0 [] (omega arith) before reply other t mid v mid' is is' in
-    let after = replies-one filter (before + 1) lines rest left mid u mid' w (λ i d h. one (suc i) d (omega (arith, h))) more more' in
-    cc
-
--- the lines are parts of the input
-lines-all : (P : List ℕ → Type 0) (parts : List (List ℕ)) → All P parts → All P (without_empty_last parts)
-lines-all P [] all = all
-lines-all P ([] ∷ []) all = All-nil P
-lines-all P ((x ∷ xs) ∷ []) all = all
-lines-all P ([] ∷ next ∷ parts) all =
-    All-cons P [] (without_empty_last (next ∷ parts)) (all 0 [] (omega arith)) (lines-all P (next ∷ parts) (λ i d h. all (suc i) d (omega (arith, h))))
-lines-all P ((x ∷ xs) ∷ next ∷ parts) all =
-    All-cons P (x ∷ xs) (without_empty_last (next ∷ parts)) (all 0 [] (omega arith)) (lines-all P (next ∷ parts) (λ i d h. all (suc i) d (omega (arith, h))))
-
--- two readers that gave all that they had, and two writers that took the answers
-all_given : (input bytes : List ℕ) (left : Option (List ℕ)) → Consumes (Some input) left bytes → IsAtEnd left → bytes ≡ input
-all_given input bytes None given end = absurd given
-all_given input bytes (Some rest) given end = sym (given ∙ ap (λ more. bytes ++ more) end ∙ append-nil bytes)
-
+-- two writers that took the same bytes
 pub took-one : (held a b : List ℕ) (w v : Option (List ℕ)) → Appends (Some held) w a → Appends (Some held) v b → a ≡ b → w ≡ v
 took-one held a b None v first second same = absurd first
 took-one held a b (Some x) None first second same = absurd second
 took-one held a b (Some x) (Some y) first second same = ap Some (first ∙ ap (λ more. held ++ more) same ∙ sym second)
-
-complete : (filter : Filter) (r : Result Unit RunError) (r0 r1 w0 w1 : Option (List ℕ)) → IsComplete r → IsRunResult filter r r0 r1 w0 w1
-    → AnswersInput filter (λ tally. ⊤) r0 r1 w0 w1
-complete filter (Ok done) r0 r1 w0 w1 c (end, (input, given, (tally, has, all))) = (end, (input, given, (tally, tt, all)))
-complete filter (Err (Unanswered reported)) r0 r1 w0 w1 c (end, (input, given, (tally, has, all))) = (end, (input, given, (tally, tt, all)))
-complete filter (Err Read) r0 r1 w0 w1 c h = absurd c
-complete filter (Err (Write kind)) r0 r1 w0 w1 c h = absurd c
-complete filter (Err (Stopped reported)) r0 r1 w0 w1 c h = absurd c
-
-inputs-one : (filter : Filter) (input held : List ℕ) (left rest w v : Option (List ℕ)) → All (HasOneReply filter) (split_input filter.field input)
-    → AnswersInput filter (λ tally. ⊤) (Some input) left (Some held) w → AnswersInput filter (λ tally. ⊤) (Some input) rest (Some held) v → w ≡ v
-inputs-one filter input held left rest w v one (end_left, (bytes, given, (t, has, answers))) (end_rest, (others, taken, (u, too, replies))) =
-    let here = subst (λ l. AreReplies (IsReplyTo filter) 0 (all_lines filter.field l) answers.out no_lines t) (all_given input bytes left given end_left) answers.replies in
-    let there = subst (λ l. AreReplies (IsReplyTo filter) 0 (all_lines filter.field l) replies.out no_lines u) (all_given input others rest taken end_rest) replies.replies in
-    let same = replies-one filter 0 (all_lines filter.field input) answers.out replies.out no_lines t no_lines u (lines-all (HasOneReply filter) (split_input filter.field input) one) here there in
-    took-one held answers.out replies.out w v answers.taken replies.taken same
-
-pub ended-one : (filter : Filter) (input held : List ℕ) (r s : Result Unit RunError) (left rest w v : Option (List ℕ)) → All (HasOneReply filter) (split_input filter.field input)
-    → IsComplete r → IsComplete s → IsRunResult filter r (Some input) left (Some held) w → IsRunResult filter s (Some input) rest (Some held) v → w ≡ v
-ended-one filter input held r s left rest w v one c d first second =
-    inputs-one filter input held left rest w v one (complete filter r (Some input) left (Some held) w c first) (complete filter s (Some input) rest (Some held) v d second)

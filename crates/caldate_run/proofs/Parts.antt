@@ -11,14 +11,6 @@ use Rattle.std.proofs.lemmas.Bool.Decides.{nat_tests}
 use Rattle.caldate_run.specs.Lines.{is_end}
 use Rattle.caldate_run.specs.RunStates.{HasNoFeed}
 
--- the first part ends at the position
-split_at_some : (p : ℕ → Bool) (xs : List ℕ) (k : ℕ) → position p xs ≡ Some k
-    → (k < length xs) × (slice_split p xs ≡ take k xs ∷ slice_split p (drop (k + 1) xs))
-split_at_some p xs k e =
-    let c = cond_some _ _ _ e in
-    let within : position_or_len p xs < length xs = grind (arith, nat_tests) in
-    (omega arith, subst (λ n. slice_split p xs ≡ take n xs ∷ slice_split p (drop (n + 1) xs)) c.1 (slice_split_first p xs 0 within))
-
 -- without such a position, each element fails
 none_passes : (p : ℕ → Bool) (xs : List ℕ) → position p xs ≡ None → length xs ≤ position_or_len p xs
 none_passes p xs e = grind (arith, nat_tests)
@@ -50,18 +42,15 @@ before : (p : ℕ → Bool) (xs : List ℕ) (j d : ℕ) → j < length (take (po
     → p (get_or (take (position_or_len p xs) xs) j d) ≡ false
 before p xs j d m = let k = fails_before_first p xs j d (grind (arith, common_steps)) in grind (arith, common_steps)
 
--- the first field ends at a separator, and the bytes after it have the other fields
-pub some_fields : (c : ℕ) (xs : List ℕ) (k : ℕ) → position (λ b. eqb b c) xs ≡ Some k
-    → (k < length xs) × (slice_split (λ b. eqb b c) xs ≡ take k xs ∷ slice_split (λ b. eqb b c) (drop (k + 1) xs))
-    × (xs ≡ take k xs ++ c ∷ drop (k + 1) xs)
-some_fields c xs k e =
+-- the bytes around the position
+pub cut_there : (c : ℕ) (xs : List ℕ) (k : ℕ) → position (λ b. eqb b c) xs ≡ Some k → (k < length xs) × (xs ≡ take k xs ++ c ∷ drop (k + 1) xs)
+cut_there c xs k e =
     let p : ℕ → Bool = λ b. eqb b c in
     let found = cond_some _ _ _ e in
     let within : position_or_len p xs < length xs = grind (arith, nat_tests) in
     let byte = eqb-true _ c (passes_at_first p xs 0 within) in
     let whole = split_at_first p xs 0 within ∙ ap (λ b. take (position_or_len p xs) xs ++ b ∷ drop (position_or_len p xs + 1) xs) byte in
-    let cut = split_at_some p xs k e in
-    (cut.0, cut.1, subst (λ n. xs ≡ take n xs ++ c ∷ drop (n + 1) xs) found.1 whole)
+    (omega arith, subst (λ n. xs ≡ take n xs ++ c ∷ drop (n + 1) xs) found.1 whole)
 
 -- no separator comes before it
 pub none_before : (c : ℕ) (xs : List ℕ) (k : ℕ) → position (λ b. eqb b c) xs ≡ Some k → All (λ b. eqb b c ≡ false) (take k xs)
@@ -73,19 +62,12 @@ none_before c xs k e =
 pub no_separator : (c : ℕ) (xs : List ℕ) → position (λ b. eqb b c) xs ≡ None → All (λ b. eqb b c ≡ false) xs
 no_separator c xs e = all_fail (λ b. eqb b c) xs e
 
-pub no_fields : (c : ℕ) (xs : List ℕ) → position (λ b. eqb b c) xs ≡ None → slice_split (λ b. eqb b c) xs ≡ xs ∷ []
-no_fields c xs e = slice_split_none (λ b. eqb b c) xs (all_fail (λ b. eqb b c) xs e)
-
 -- a line that ends
 pub first_ends : (xs : List ℕ) (k : ℕ) → position (λ b. eqb b 10) xs ≡ Some k
     → (k < length xs) × HasNoFeed (take k xs) × (xs ≡ take k xs ++ 10 ∷ drop (k + 1) xs)
 first_ends xs k e =
-    let c = cond_some _ _ _ e in
-    let within : position_or_len is_end xs < length xs = grind (arith, nat_tests) in
-    let byte = eqb-true _ 10 (passes_at_first is_end xs 0 within) in
-    let front : HasNoFeed (take (position_or_len is_end xs) xs) = λ j d m. before is_end xs j d m in
-    let whole = split_at_first is_end xs 0 within ∙ ap (λ b. take (position_or_len is_end xs) xs ++ b ∷ drop (position_or_len is_end xs + 1) xs) byte in
-    (omega arith, subst (λ n. HasNoFeed (take n xs)) c.1 front, subst (λ n. xs ≡ take n xs ++ 10 ∷ drop (n + 1) xs) c.1 whole)
+    let cut = cut_there 10 xs k e in
+    (cut.0, none_before 10 xs k e, cut.1)
 
 pub none_ends : (xs : List ℕ) → position (λ b. eqb b 10) xs ≡ None → HasNoFeed xs
 none_ends xs e = all_fail (λ b. eqb b 10) xs e

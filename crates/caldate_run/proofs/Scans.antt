@@ -5,7 +5,7 @@ use Rattle.std.proofs.lemmas.Bool.{cases_lt, false≢true, le-ltb, lt-ltb}
 use Rattle.std.proofs.lemmas.List.{take_rest}
 use Rattle.cal_text.specs.declared.any.DateOrMoment.{DateOrMoment}
 use Rattle.caldate_run.specs.Answers.{IsNotRead, IsReadAs}
-use Rattle.caldate_run.specs.Scans.{IsFirstText, IsReadWith, IsText, IsTextAt, NoneFrom, byte_before, fitted, has_form, is_of_word, part_at, with_words}
+use Rattle.caldate_run.specs.Scans.{IsFirstText, IsReadWith, IsText, IsTextAt, NoneFrom, fitted, has_form, is_of_word, may_begin, part_at, with_words}
 use Rattle.caldate_run.specs.declared.request.Filter.{Filter}
 use Rattle.caldate_run.specs.declared.run.no_answer.NoAnswer.{NoAnswer}
 use Rattle.caldate_run.specs.declared.run.no_answer.NoAnswer.TheVariants as why
@@ -32,7 +32,7 @@ read_so filter bytes (Err any) is not = not
 
 -- whether bytes of the line are a text, by what their reading gives
 pub read_there : (filter : Filter) (line : List ℕ) (k n : ℕ) (bytes : List ℕ) (r : Option (Result DateOrMoment NoAnswer)) → k + n ≤ length line
-    → is_of_word (byte_before line k) ≡ false → is_of_word (slice_index line (k + n)) ≡ false → bytes ≡ part_at line k n
+    → may_begin line k ≡ true → is_of_word (slice_index line (k + n)) ≡ false → bytes ≡ part_at line k n
     → MatchOption r (¬ IsText filter bytes) (λ read. IsText filter bytes × IsReadWith filter bytes read)
     → MatchOption r (¬ IsTextAt filter line k n) (λ read. IsTextAt filter line k n × IsReadWith filter (part_at line k n) read)
 read_there filter line k n bytes None within before after e none = λ h. none (subst (IsText filter) (sym e) h.is)
@@ -57,8 +57,8 @@ none_less filter line k bound none past n less h =
       | inr most ↦ none (subst (IsTextAt filter line k) (omega (arith, most, less, some_bytes filter line k n h)) h)
     ]
 
-pub none_in_word : (filter : Filter) (line : List ℕ) (k n : ℕ) → is_of_word (byte_before line k) ≡ true → IsTextAt filter line k n → ⊥
-none_in_word filter line k n e h = false≢true (sym h.before ∙ e)
+pub none_begins : (filter : Filter) (line : List ℕ) (k n : ℕ) → may_begin line k ≡ false → IsTextAt filter line k n → ⊥
+none_begins filter line k n e h = false≢true (sym e ∙ h.before)
 
 -- ---- the first text
 pub none_more : (filter : Filter) (line : List ℕ) (i k : ℕ) → ((n : ℕ) → 0 < n → IsTextAt filter line k n → ⊥) → NoneFrom filter line i k → NoneFrom filter line i (k + 1)

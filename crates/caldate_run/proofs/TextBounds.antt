@@ -1,6 +1,6 @@
 -- How long a text at the front of some bytes can be.
-use Rattle.std.proofs.Common.{◌≡◌, inl, inr, ℕ, ◌+◌, ◌-◌, ◌<◌, ◌≤◌, Bool, true, false, List, [], ◌∷◌, ◌++◌, append-nil, append_assoc, length, length-append, length-drop, take, take-append-drop, drop, Option, Some, None, refl, sym, ap, subst, ◌∙◌, arith}
-use Rattle.std.specs.Prelude.{ℤ, IsSomeAnd, MatchOption, codes, nat_lt, slice_index, unsigned_abs, if◌then◌else◌, ◌^◌, ◌==◌}
+use Rattle.std.proofs.Common.{◌≡◌, inl, inr, ℕ, zero, suc, ◌+◌, ◌-◌, ◌<◌, ◌≤◌, Bool, true, false, List, [], ◌∷◌, ◌++◌, append-nil, append_assoc, length, length-append, length-drop, take, take-append-drop, drop, Option, Some, None, refl, sym, ap, subst, ◌∙◌, arith}
+use Rattle.std.specs.Prelude.{ℤ, IsSomeAnd, MatchOption, codes, min, nat_lt, slice_index, unsigned_abs, if◌then◌else◌, ◌^◌, ◌==◌}
 use Rattle.std.proofs.lemmas.Bool.{cases_lt, false≢true, le-ltb, lt-ltb}
 use Rattle.std.proofs.lemmas.Bool.Decides.{nat_tests}
 use Rattle.std.proofs.lemmas.Int.{ints}
@@ -27,7 +27,7 @@ use Rattle.cal_text.proofs.Positions.{begins_less}
 use Rattle.caldate_run.specs.Readers.{IsDateText, IsDateTimeText, IsFoundBy, IsMomentText, IsUnread, IsUnreadIn, named}
 use Rattle.caldate_run.specs.Readings.{HasFormIn, IsErrorIn, IsTextIn}
 use Rattle.caldate_run.specs.Scans.{Bounds, IsText, has_form}
-use Rattle.caldate_run.specs.Spellings.{full_by, is_sign, iso_text, unix_text, with_colon, with_point}
+use Rattle.caldate_run.specs.Spellings.{begins_with_at, full_by, is_sign, iso_text, unix_text, with_colon, with_point}
 use Rattle.caldate_run.specs.declared.reading.Reading.{Reading}
 use Rattle.caldate_run.specs.declared.reading.Reading.TheVariants as reading
 use Rattle.caldate_run.specs.declared.reading.reader.Assumptions.{Assumptions}
@@ -235,6 +235,33 @@ iso_within_colon bytes bound b comma n found fits h =
           omega (arith, front, some)
           )
     ]
+
+-- ---- seconds: an @ may come before the text
+at_front : (n m : ℕ) (bytes : List ℕ) → 0 < n → n ≤ m → begins_with_at (take n bytes) ≡ begins_with_at (take m bytes)
+at_front zero m bytes some few = absurd (omega (arith, some))
+at_front (suc n) zero bytes some few = absurd (omega (arith, few))
+at_front (suc n) (suc m) [] some few = refl
+at_front (suc n) (suc m) (x ∷ xs) some few = refl
+
+seconds_at : (b : Bool) (front : List ℕ) (bound n : ℕ) → Bounds (HasFormIn reading.Any) (if b then front else codes "@" ++ front) bound → n ≤ length front
+    → HasAnyForm (if b then take n front else codes "@" ++ take n front) → n ≤ bound - (length (if b then front else codes "@" ++ front) - length front)
+seconds_at true front bound n b fits form = let within = form_within (HasFormIn reading.Any) front bound n b fits form in omega (arith, within)
+seconds_at false front bound n b fits form =
+    let within = form_within (HasFormIn reading.Any) (codes "@" ++ front) bound (suc n) b (omega (arith, fits)) form in
+    omega (arith, within)
+
+pub seconds_within : (bytes : List ℕ) (m bound : ℕ) → m ≡ min (length bytes) 60 → Bounds (HasFormIn reading.Any) (unix_text (take m bytes)) bound
+    → (n : ℕ) (found : DateOrMoment) → n ≤ length bytes → IsSomeAnd (full_by Seconds (take n bytes)) (λ full. IsTextOf full found)
+    → n ≤ bound - (length (unix_text (take m bytes)) - length (take m bytes))
+seconds_within bytes m bound is b zero found fits h = omega arith
+seconds_within bytes m bound is b (suc n) found fits h =
+    let short = spelled_short Seconds (take (suc n) bytes) found h in
+    let few : suc n ≤ m = omega (arith, is, fits, short, length-take-le (suc n) bytes fits) in
+    let form = any_form (unix_text (take (suc n) bytes)) found (some_full (nat_lt 60 (length (take (suc n) bytes))) (unix_text (take (suc n) bytes)) (λ full. IsTextOf full found) h) in
+    let front = take-take (suc n) m bytes few in
+    let same = ap (λ l. if begins_with_at (take (suc n) bytes) then l else codes "@" ++ l) (sym front)
+    ∙ ap (λ t. if t then take (suc n) (take m bytes) else codes "@" ++ take (suc n) (take m bytes)) (at_front (suc n) m bytes (omega arith) few) in
+    seconds_at (begins_with_at (take m bytes)) (take m bytes) bound (suc n) b (omega (arith, few, is, length-take-le m bytes (omega (arith, is)))) (subst HasAnyForm same form)
 
 -- ---- all forms
 -- a text that is out of range has the first form

@@ -1,9 +1,9 @@
 -- The header, the first line of an input, and fields by their names in it.
-use Rattle.std.specs.Prelude.{◌⊎◌, ℕ, ◌+◌, ◌<◌, ◌&&◌, nat_le, nat_lt, Bool, true, false, unwrap_or, drop, get_or, List, [], ◌∷◌, bytes_eq, length, MatchResult, Option, Some, None, Result, Ok, Err, slice_index, if◌then◌else◌}
+use Rattle.std.specs.Prelude.{◌⊎◌, ℕ, ◌+◌, ◌<◌, ◌&&◌, nat_le, nat_lt, Bool, true, false, unwrap_or, drop, get_or, List, [], ◌∷◌, bytes_eq, length, MatchResult, Option, Some, None, Result, Ok, Err, slice_index, if◌then◌else◌, ◌++◌, codes, MatchBool}
 use Rattle.std.specs.Option.{option_map_or}
 use Rattle.std.specs.Io.KnownBytes.{Consumes, IsAtEnd}
 use Rattle.caldate_run.specs.Ending.{Says}
-use Rattle.caldate_run.specs.Fields.{fields_of, is_quote, is_quoted, no_names, with_firsts, within_quotes}
+use Rattle.caldate_run.specs.Fields.{field_text, fields_of, no_names, overlap, renumbered}
 use Rattle.caldate_run.specs.Lines.{split_input, text_of}
 use Rattle.caldate_run.specs.Room.{longest_text}
 use Rattle.caldate_run.specs.RunStates.{NoEnd}
@@ -33,22 +33,8 @@ abbrev pub HasHeader : Field → Option (List ℕ) → List ℕ → Type 0
 HasHeader field left bytes = HasLine field bytes ⊎ (IsAtEnd left ⊎ (longest_text + 1 < length bytes))
 
 -- ---- names
--- The text begins with a doubled quote.
-abbrev pub is_pair : List ℕ → Bool
-is_pair text = nat_le 2 (length text) && (is_quote (slice_index text 0) && is_quote (slice_index text 1))
-
--- The text between the quotes of a field: each doubled quote is one (RFC 4180).
-abbrev pub unescaped : List ℕ → List ℕ
-unescaped [] = []
-unescaped (byte ∷ []) = byte ∷ []
-unescaped (byte ∷ next ∷ bytes) = if is_quote byte && is_quote next then 34 ∷ unescaped bytes else byte ∷ unescaped (next ∷ bytes)
-
--- The name of a field is its text, or in a CSV record what its quotes enclose.
-abbrev pub field_name : Field → List ℕ → List ℕ
-field_name field part = if is_quoted field part then unescaped (within_quotes field part) else part
-
 abbrev pub has_name : Field → List ℕ → List ℕ → Bool
-has_name field name part = bytes_eq (field_name field part) name
+has_name field name part = bytes_eq (field_text field.csv part) name
 
 -- The number of the first of these fields that has the name, counted from n.
 abbrev pub name_number : ℕ → Field → List ℕ → List (List ℕ) → Option ℕ
@@ -89,19 +75,20 @@ with_number (Some n) request = with_target (Fields (record { first = n; joined =
 abbrev pub numbered : Filter → Field → (List (Option ℕ) × Option ℕ) → Filter
 numbered filter field numbers = record filter {
   field = Some (record field { first = unwrap_or (get_or numbers.0 0 None) field.first });
-  more = with_firsts filter.more (drop 1 numbers.0);
+  several = renumbered numbers.0 filter.several;
   names = no_names;
   request = with_number numbers.1 filter.request;
 }
 
 -- The reader gave `front` first. If a read failed before the header ended, the run stops. Otherwise
 -- the filter runs over the whole input with the numbers that the header gives its names. If the
--- header lacks a name, the run stops with the error of the header.
+-- header lacks a name, or two fields overlap, the run stops with the error of the header.
 pub record EndsNamed (filter : Filter) (field : Field) (old : Option (List ℕ)) (Runs : Filter → Result Unit RunError → Type 0) (Stops : Bool → List ℕ → Type 0) : Type 0 where
   pub front : List ℕ
   pub left : Option (List ℕ)
   pub given : Consumes old left front
   pub ends : (NoEnd (Some field) Ready front × ((words : List ℕ) × Says 2 words × Stops true words))
       ⊎ (HasHeader field left front × MatchResult (numbers_in filter field (header_of field front))
-      (λ numbers. (outcome : Result Unit RunError) × Runs (numbered filter field numbers) outcome)
+      (λ numbers. MatchBool (overlap (numbered filter field numbers).several) ((words : List ℕ) × Says 2 words × Stops false words)
+      ((outcome : Result Unit RunError) × Runs (numbered filter field numbers) outcome))
       (λ name. (words : List ℕ) × Says 2 words × Stops false words))

@@ -15,8 +15,11 @@ pub mod Lines
 pub mod Lists
 pub mod Moves
 pub mod Offsets
+pub mod Outputs
+pub mod Pieces
 pub mod Readers
 pub mod Readings
+pub mod Reasons
 pub mod Records
 pub mod Recurring
 pub mod Replies

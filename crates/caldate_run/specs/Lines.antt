@@ -3,7 +3,7 @@ use Rattle.std.specs.Prelude.{ℕ, ◌-◌, Bool, List, [], ◌∷◌, ◌==◌,
 use Rattle.std.specs.List.{slice_split}
 use Rattle.caldate_run.specs.Fields.{split_outside_quotes}
 use Rattle.caldate_run.specs.declared.run.quoting.Quoting.{Quoting}
-use Rattle.caldate_run.specs.declared.run.quoting.Quoting.TheVariants.{Ready}
+use Rattle.caldate_run.specs.declared.run.quoting.Quoting.TheVariants.{Off, Ready}
 use Rattle.caldate_run.specs.declared.request.Field.{Field}
 
 -- A line feed, byte 10, ends a line.
@@ -22,10 +22,16 @@ lines_of input = without_empty_last (slice_split is_end input)
 
 -- ---- the lines that a run answers
 -- Between line feeds, or with --csv between line feeds outside of quotes.
+abbrev pub separator_of : Option Field → ℕ
+separator_of None = 10
+separator_of (Some field) = field.separator
+
+abbrev pub quotes_in : Option Field → Quoting → Quoting
+quotes_in None quoting = Off
+quotes_in (Some field) quoting = if field.csv then quoting else Off
+
 abbrev pub split_from : Option Field → Quoting → List ℕ → List (List ℕ)
-split_from None quoting bytes = slice_split is_end bytes
-split_from (Some field) quoting bytes =
-    if field.csv then split_outside_quotes 10 field.separator quoting bytes else slice_split is_end bytes
+split_from field quoting bytes = split_outside_quotes 10 (separator_of field) (quotes_in field Ready) (quotes_in field quoting) bytes
 
 abbrev pub split_input : Option Field → List ℕ → List (List ℕ)
 split_input field input = split_from field Ready input

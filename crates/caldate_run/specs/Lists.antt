@@ -1,12 +1,11 @@
 -- The dates of a list in steps of one length, and the bytes that the writer takes.
-use Rattle.std.specs.Prelude.{◌≡◌, ℕ, ⊤, ◌+◌, ◌*◌, ◌<◌, ◌≤◌, pos, List, [], ◌∷◌, ◌++◌, length, slice_index, Option, Result, Ok, Err}
-use Rattle.std.specs.Io.KnownBytes.{Appends}
+use Rattle.std.specs.Prelude.{◌≡◌, ℕ, ⊤, ◌+◌, ◌≤◌, Bool, true, false, pos, List, [], ◌∷◌, ◌++◌, Option, Result, is_ok}
 use Rattle.std.specs.List.{flat_map}
 use Rattle.cal_schedule.specs.Months.{IsMonthsLater}
 use Rattle.cal_text.specs.AnyForm.{date_text}
 use Rattle.cal_text.specs.declared.any.DateForm.TheVariants.{Calendar}
 use Rattle.cal_time.specs.Date.{IsDate}
-use Rattle.caldate_run.specs.Runs.{AppendsFront, IsOfWrite}
+use Rattle.caldate_run.specs.Outputs.{WritesPage}
 use Rattle.caldate_run.specs.declared.run.run_error.RunError.{RunError}
 use Rattle.caldate_run.specs.declared.request.Command.{Command}
 use Rattle.caldate_run.specs.declared.request.Command.TheVariants.{Dates}
@@ -35,17 +34,24 @@ pub record IsWithin (listing : Listing) (count : ℕ) (day : ℕ) : Type 0 where
   pub after : IsUnitsAfter listing.step.unit count listing.first day
   pub not_past : day ≤ listing.last
 
--- The k-th day of the list, counted from 0, is k steps after the first day.
-abbrev pub IsListed : Listing → ℕ → ℕ → Type 0
-IsListed listing k day = IsWithin listing (k * listing.step.every) day
+-- If all is listed, this holds at the end.
+abbrev pub IfAll : Bool → Type 0 → Type 0
+IfAll true P = P
+IfAll false P = ⊤
 
--- The first days of the list, in order.
-abbrev pub AreFirst : Listing → List ℕ → Type 0
-AreFirst listing days = (k : ℕ) → k < length days → IsListed listing k (slice_index days k)
+-- These are the days of the list from `count` days or months after the first day on, each a step
+-- after the one before it, and `Ends` holds of the count after them.
+abbrev pub AreDays : Listing → (ℕ → Type 0) → ℕ → List ℕ → Type 0
+AreDays listing Ends count [] = Ends count
+AreDays listing Ends count (day ∷ days) = IsWithin listing count day × AreDays listing Ends (count + listing.step.every) days
 
--- All days of the list: no other day comes next.
-abbrev pub AreAll : Listing → List ℕ → Type 0
-AreAll listing days = AreFirst listing days × ((day : ℕ) → ¬ IsListed listing (length days) day)
+-- No day of the list has this count.
+abbrev pub IsEnd : Listing → ℕ → Type 0
+IsEnd listing count = (day : ℕ) → ¬ IsWithin listing count day
+
+-- These are all days of the list from a count on, or the first of them.
+abbrev pub AreListed : Listing → Bool → ℕ → List ℕ → Type 0
+AreListed listing all count days = AreDays listing (λ count. IfAll all (IsEnd listing count)) count days
 
 -- The line of a day is its calendar date with a line feed.
 abbrev pub line_of : ℕ → List ℕ
@@ -53,10 +59,9 @@ line_of day = date_text Calendar day ++ 10 ∷ []
 
 -- The writer took the lines of all items. After a failed write it took a beginning of the lines of
 -- the first items, and never all of them.
-abbrev pub WritesLines : {X : Type 0} → (X → List ℕ) → (List X → Type 0) → (List X → Type 0) → Result Unit RunError → Option (List ℕ) → Option (List ℕ) → Type 0
-WritesLines {X} line First All (Ok done) old new = (items : List X) × All items × Appends old new (flat_map line items)
-WritesLines {X} line First All (Err error) old new = IsOfWrite error × ((items : List X) × First items × AppendsFront old new (flat_map line items))
+abbrev pub WritesLines : {X : Type 0} → (X → List ℕ) → (Bool → List X → Type 0) → Result Unit RunError → Option (List ℕ) → Option (List ℕ) → Type 0
+WritesLines {X} line Are outcome old new = (items : List X) × Are (is_ok outcome) items × WritesPage (flat_map line items) outcome old new
 
 -- The writer took the lines of the days of a list.
 abbrev pub Lists : Listing → Result Unit RunError → Option (List ℕ) → Option (List ℕ) → Type 0
-Lists listing outcome old new = WritesLines line_of (AreFirst listing) (AreAll listing) outcome old new
+Lists listing outcome old new = WritesLines line_of (λ all. AreListed listing all 0) outcome old new

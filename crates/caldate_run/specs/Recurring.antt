@@ -1,5 +1,5 @@
 -- The dates or moments of a recurrence up to a last one, and the bytes that the writer takes.
-use Rattle.std.specs.Prelude.{◌≡◌, ℕ, ⊤, nat_le, Bool, ℤ, pos, ◌-ℤ◌, ◌≤ℤ◌, int_le, List, [], ◌∷◌, ◌++◌, filter, Option, Some, Result}
+use Rattle.std.specs.Prelude.{◌≡◌, ℕ, nat_le, Bool, ℤ, pos, ◌-ℤ◌, ◌≤ℤ◌, int_le, List, [], ◌∷◌, ◌++◌, filter, Option, Some, Result}
 use Rattle.std.specs.List.{flat_map, take_while}
 use Rattle.cal_datetime.specs.OffsetDateTime.{LocalAndOffset, instant}
 use Rattle.cal_recurrence.specs.Days.{days_of}
@@ -10,8 +10,8 @@ use Rattle.cal_recurrence.specs.declared.recurrence.Recurrence.{Recurrence}
 use Rattle.cal_recurrence.specs.declared.zoned_set.ZonedSet.{ZonedSet}
 use Rattle.cal_zone.specs.Timeline.{Timeline}
 use Rattle.caldate_run.specs.ClockWords.{moment_in, rfc3339_or_unix_text}
-use Rattle.caldate_run.specs.Lists.{WritesLines, line_of}
-use Rattle.caldate_run.specs.Runs.{WritesPage}
+use Rattle.caldate_run.specs.Lists.{IfAll, WritesLines, line_of}
+use Rattle.caldate_run.specs.Outputs.{WritesPage}
 use Rattle.caldate_run.specs.declared.list.remaining.Remaining.{Remaining}
 use Rattle.caldate_run.specs.declared.list.remaining.Remaining.TheVariants as left
 use Rattle.caldate_run.specs.declared.request.Occurrences.{Occurrences}
@@ -61,11 +61,14 @@ abbrev pub AreNextIn : ZonedSet → LocalAndOffset → (ℤ → Type 0) → ℤ 
 AreNextIn set last Ends x [] = Ends x
 AreNextIn set last Ends x (m ∷ ms) = IsNextIn set last x m × AreNextIn set last Ends (instant m) ms
 
+-- These are all moments of the set after the instant x and up to the last moment, or the first of
+-- them.
+abbrev pub AreListedIn : ZonedSet → LocalAndOffset → Bool → ℤ → List LocalAndOffset → Type 0
+AreListedIn set last all x ms = AreNextIn set last (λ y. IfAll all (IsEndIn set last y)) x ms
+
 -- The writer took the lines of the moments of the set from the first moment to the last.
 abbrev pub ListsSet : ZonedSet → LocalAndOffset → LocalAndOffset → Result Unit RunError → Option (List ℕ) → Option (List ℕ) → Type 0
-ListsSet set first last outcome old new =
-    let before = instant first -ℤ pos 1 in
-    WritesLines moment_line (AreNextIn set last (λ x. ⊤) before) (AreNextIn set last (IsEndIn set last) before) outcome old new
+ListsSet set first last outcome old new = WritesLines moment_line (λ all. AreListedIn set last all (instant first -ℤ pos 1)) outcome old new
 
 -- ---- the lines
 -- The writer took the lines of the days of a recurrence from the first day to the last, of its

@@ -19,13 +19,13 @@ longest_answer = 1000
 abbrev pub longest_field : ℕ
 longest_field = 2003
 
--- The maximum length of what several fields leave of a text: a text with an answer as a new field,
--- and a separator for each later field without an answer.
-abbrev pub longest_left : ℕ
-longest_left = 6102
+-- The maximum length of what goes out for a line: its text, a separator, and four answers as fields.
+-- While it is written, a text may come before its answer.
+abbrev pub longest_out : ℕ
+longest_out = 12109
 
 abbrev pub longest_reply : ℕ
-longest_reply = 9200
+longest_reply = 18300
 
 -- There is room for n more bytes.
 abbrev pub HasRoom : ℕ → List ℕ → Type 0

@@ -1,9 +1,8 @@
 -- The state of a run.
 use Rattle.std.specs.Prelude.{◌≡◌, ℕ, ◌+◌, ◌-◌, ◌^◌, ◌<◌, min, Bool, true, false, List, [], ◌∷◌, ◌++◌, length, take, All, Option, Some, None, if◌then◌else◌}
 use Rattle.std.specs.List.{onto_first}
-use Rattle.std.specs.Io.KnownBytes.{Appends}
 use Rattle.caldate_run.specs.Fields.{quoting_past}
-use Rattle.caldate_run.specs.Lines.{is_end, split_from, split_input}
+use Rattle.caldate_run.specs.Lines.{is_end, separator_of, split_from, split_input}
 use Rattle.caldate_run.specs.Room.{longest_text}
 use Rattle.caldate_run.specs.declared.run.quoting.Quoting.{Quoting}
 use Rattle.caldate_run.specs.declared.run.quoting.Quoting.TheVariants.{Ready}
@@ -46,10 +45,9 @@ abbrev pub IsDroppedFront : Bool → List ℕ → List ℕ → Type 0
 IsDroppedFront false kept pending = kept ≡ []
 IsDroppedFront true kept pending = (longest_text < length kept) × (0 < length pending)
 
--- The quotes after these bytes, if there are any.
+-- The quotes after these bytes.
 abbrev pub quoting_in : Option Field → Quoting → List ℕ → Quoting
-quoting_in None quoting bytes = quoting
-quoting_in (Some field) quoting bytes = quoting_past field.separator quoting bytes
+quoting_in field quoting bytes = quoting_past (separator_of field) quoting bytes
 
 -- The quotes after the dropped front.
 abbrev pub quoting_of : Progress → Quoting
@@ -79,24 +77,20 @@ AtLine progress line Holds =
     (kept : List ℕ) (before : ℕ) → IsDroppedFront progress.is_long kept line
     → progress.tally.lines ≡ counted before → Holds before (kept ++ line)
 
--- Some lines of the input are answered. The writer has their replies and the front that was passed
--- on, except for the buffered bytes. The bytes after the lines are pending, except for the dropped
--- front of a long line.
-pub record RunState (IsReply : Replies) (mode : OnInvalid) (field : Option Field) (input : List ℕ) (start now : Option (List ℕ)) (buffered pending : List ℕ) (progress : Progress) : Type 0 where
+-- Some lines of the input are answered. The output was given their replies and the front that was
+-- passed on. The bytes after the lines are pending, except for the dropped front of a long line.
+pub record RunState (IsReply : Replies) (mode : OnInvalid) (field : Option Field) (input given pending : List ℕ) (progress : Progress) : Type 0 where
   pub lines : List (List ℕ)
   pub kept : List ℕ
   pub out : List ℕ
-  pub written : List ℕ
   pub cut : (more : List ℕ) → split_input field (input ++ more) ≡ lines ++ onto kept (split_from field (quoting_of progress) (pending ++ more))
   pub replies : AreReplies IsReply 0 lines out no_lines progress.tally
-  pub whole : out ++ passed mode kept ≡ written ++ buffered
-  pub taken : Appends start now written
+  pub whole : given ≡ out ++ passed mode kept
   pub held : IsDroppedFront progress.is_long kept pending
   pub goes_on : GoesOn field progress pending
   pub number : progress.tally.lines ≡ counted (length lines)
 
--- The run advances for any input, and for any bytes that the writer held at the start.
-abbrev pub Advances : Replies → OnInvalid → Option Field → Option (List ℕ) → Option (List ℕ) → List ℕ → List ℕ → List ℕ → List ℕ → Progress → Progress → Type 0
-Advances IsReply mode field old new buffered buffered_now pending pending_now progress progress_now =
-    (input : List ℕ) (start : Option (List ℕ)) → RunState IsReply mode field input start old buffered pending progress
-    → RunState IsReply mode field input start new buffered_now pending_now progress_now
+-- The run is at the same line, of which the output was given these bytes more.
+abbrev pub DropsFront : Replies → OnInvalid → Option Field → List ℕ → List ℕ → Progress → Progress → List ℕ → Type 0
+DropsFront IsReply mode field pending pending_now progress progress_now words =
+    (input given : List ℕ) → RunState IsReply mode field input given pending progress → RunState IsReply mode field input (given ++ words) pending_now progress_now

@@ -1,11 +1,16 @@
 -- The effect of a run on the bytes of its reader and its writer, if they are known.
 use Rattle.std.specs.Prelude.{◌≡◌, ◌⊎◌, ℕ, ⊤, ◌<◌, Bool, true, false, List, [], ◌∷◌, ◌++◌, length, is_some, unwrap_or, Option, Some, None, Result, Ok, Err}
 use Rattle.std.specs.Io.KnownBytes.{Appends, Consumes, IsAtEnd}
+use Rattle.std.specs.declared.io.Error.{Error}
 use Rattle.caldate_run.specs.Answers.{Answer}
-use Rattle.caldate_run.specs.Lines.{all_lines, ended_lines, unended}
-use Rattle.caldate_run.specs.Replies.{EndsAt, IsReplyTo}
+use Rattle.caldate_run.specs.Calls.{Reads, Writes, has_read_failure, kind_of, write_failure}
+use Rattle.caldate_run.specs.Lines.{all_lines, ended_lines, text_of, unended}
+use Rattle.caldate_run.specs.Outputs.{Outputs}
+pub use Rattle.caldate_run.specs.Outputs.{AppendsFront, IsOfWrite, WritesPage}
+use Rattle.caldate_run.specs.Replies.{EndsAt, IsOutcome, IsReplyTo, stops}
 use Rattle.caldate_run.specs.Room.{longest_text}
-use Rattle.caldate_run.specs.RunStates.{AreReplies, IsDroppedFront, Replies, RunState, counted, no_lines, passed}
+use Rattle.caldate_run.specs.RunStates.{AreReplies, AtLine, IsDroppedFront, Replies, RunState, counted, no_lines, passed}
+use Rattle.caldate_run.specs.declared.output.Output.{Output}
 use Rattle.caldate_run.specs.declared.run.run_error.RunError.{RunError}
 use Rattle.caldate_run.specs.declared.run.run_error.RunError.TheVariants.{Read, Write, Stopped, Unanswered}
 use Rattle.caldate_run.specs.declared.run.no_answer.NoAnswer.{NoAnswer}
@@ -38,28 +43,21 @@ AppendsReply IsReply mode progress tally line old new =
     → progress.tally.lines ≡ counted before
     → AppendsSome (λ words. IsReply before (kept ++ line) (passed mode kept ++ words) progress.tally tally) old new
 
--- The error is a failed write.
-abbrev pub IsOfWrite : RunError → Type 0
-IsOfWrite (Write kind) = ⊤
-IsOfWrite other = ⊥
+-- This goes out for the line that the run is at, without the front that was passed on.
+abbrev pub Leaves : Filter → Progress → List ℕ → Option NoAnswer → Bool → List ℕ → List ℕ → Type 0
+Leaves filter progress line why goes old new =
+    (kept : List ℕ) (before : ℕ) → IsDroppedFront progress.is_long kept line → progress.tally.lines ≡ counted before
+    → (out : Option (List ℕ)) × (words : List ℕ) × (new ≡ old ++ words) × (passed filter.on_invalid kept ++ words ≡ unwrap_or out [])
+    × (goes ≡ is_some out) × IsOutcome filter before (text_of (kept ++ line)) why out
 
--- The run ended before the end of its input, but no read failed.
-abbrev pub IsEarly : RunError → Type 0
-IsEarly (Write kind) = ⊤
-IsEarly (Stopped reported) = ⊤
-IsEarly other = ⊥
+-- The run ends at the line that it is at, which has no answer for this reason.
+abbrev pub EndsUnanswered : Filter → Progress → List ℕ → NoAnswer → Type 0
+EndsUnanswered filter progress line any =
+    AtLine progress line (λ before whole. (stops filter.on_invalid ≡ true) × ((out : Option (List ℕ)) × IsOutcome filter before (text_of whole) (Some any) out))
 
 -- The reader gave some bytes, which come after the old ones.
 abbrev pub HasRead : Option (List ℕ) → Option (List ℕ) → List ℕ → List ℕ → Type 0
 HasRead before after old new = (given : List ℕ) × Consumes before after given × (new ≡ old ++ given)
-
--- The writer took a beginning of the bytes, perhaps an empty one, but never all.
-pub record AppendsFront (old new : Option (List ℕ)) (bytes : List ℕ) : Type 0 where
-  pub front : List ℕ
-  pub rest : List ℕ
-  pub whole : bytes ≡ front ++ rest
-  pub left : 0 < length rest
-  pub taken : Appends old new front
 
 -- The writer took exactly the replies to these lines, which have this tally.
 pub record AnswersAll (filter : Filter) (all : List (List ℕ)) (tally : Tally) (old new : Option (List ℕ)) : Type 0 where
@@ -133,32 +131,38 @@ IsRunResult filter (Err (Write kind)) r0 r w0 w = ReadsLines filter r0 r (λ lin
 IsRunResult filter (Err Read) r0 r w0 w = Gives r0 r (λ input. AnswersEnded filter input w0 w)
 IsRunResult filter (Err (Stopped reported)) r0 r w0 w = ReadsLines filter r0 r (λ lines rest. StopsAt filter reported lines w0 w)
 
--- With this outcome, all lines of the input got their replies.
-abbrev pub IsComplete : Result Unit RunError → Type 0
-IsComplete (Ok done) = ⊤
-IsComplete (Err (Unanswered reported)) = ⊤
-IsComplete (Err other) = ⊥
+-- A run with this outcome made these reads and writes. These bytes were read before it.
+pub record HasEnded {R S : Type 0} (remaining : R → Option (List ℕ)) (read : R → Result ℕ Error → R → Type 0) (contents : S → Option (List ℕ)) (write : S → List ℕ → Result ℕ Error → S → Type 0) (filter : Filter) (most : ℕ) (before : List ℕ) (outcome : Result Unit RunError) (r0 r : R) (w0 w : S) : Type 0 where
+  pub bytes : (known : Option (List ℕ)) → Consumes known (remaining r0) before → IsRunResult filter outcome known (remaining r) (contents w0) (contents w)
+  pub reads : Reads read most r0 (has_read_failure outcome) r
+  pub writes : Writes write w0 (write_failure outcome) w
 
--- The writer took these bytes of a page with this outcome.
-abbrev pub WritesPage : List ℕ → Result Unit RunError → Option (List ℕ) → Option (List ℕ) → Type 0
-WritesPage page (Ok done) old new = Appends old new page
-WritesPage page (Err error) old new = IsOfWrite error × AppendsFront old new page
+-- ---- from the state of a run
+-- A run that ends early with this error answered lines of its input.
+abbrev pub EndsEarly : Filter → RunError → List (List ℕ) → List ℕ → Option (List ℕ) → Option (List ℕ) → Type 0
+EndsEarly filter (Write kind) lines rest old new = AnswersFront filter lines rest old new
+EndsEarly filter (Stopped reported) lines rest old new = StopsAt filter reported lines old new
+EndsEarly filter other lines rest old new = ⊥
 
--- ---- from the state of a run, over these lines of its input, and the bytes after them
--- The run ends as after a failed write.
-abbrev pub FailsFrom : Filter → (List ℕ → List (List ℕ)) → (List ℕ → List ℕ) → Option (List ℕ) → Option (List ℕ) → List ℕ → List ℕ → Progress → Type 0
-FailsFrom filter lines_in rest_in old new buffered pending progress =
-    (input : List ℕ) (start : Option (List ℕ)) → RunState (IsReplyTo filter) filter.on_invalid filter.field input start old buffered pending progress
-    → AnswersFront filter (lines_in input) (rest_in input) start new
+module _ {S : Type 0} (contents : S → Option (List ℕ)) (write : S → List ℕ → Result ℕ Error → S → Type 0) (filter : Filter) where
+  -- Some lines of the input are answered, and the output was given their replies.
+  abbrev pub HasRun : List ℕ → S → Output → S → List ℕ → Progress → Type 0
+  HasRun input start output now pending progress =
+      (given : List ℕ) × Outputs contents write given start output now × RunState (IsReplyTo filter) filter.on_invalid filter.field input given pending progress
 
--- The run ends at this line, which has no answer.
-abbrev pub StopsFrom : Filter → UnansweredLine → (List ℕ → List (List ℕ)) → Option (List ℕ) → Option (List ℕ) → List ℕ → List ℕ → Progress → Type 0
-StopsFrom filter reported lines_in old new buffered pending progress =
-    (input : List ℕ) (start : Option (List ℕ)) → RunState (IsReplyTo filter) filter.on_invalid filter.field input start old buffered pending progress
-    → StopsAt filter reported (lines_in input) start new
+  -- The run advances, for any input and any first state of the writer.
+  abbrev pub Advances : Output → Output → S → S → List ℕ → List ℕ → Progress → Progress → Type 0
+  Advances output output_now s t pending pending_now progress progress_now =
+      (input : List ℕ) (start : S) → HasRun input start output s pending progress → HasRun input start output_now t pending_now progress_now
 
--- The run ends with all lines answered.
-abbrev pub EndsFrom : Filter → Tally → Option (List ℕ) → Option (List ℕ) → List ℕ → List ℕ → Progress → Type 0
-EndsFrom filter tally old new buffered pending progress =
-    (input : List ℕ) (start : Option (List ℕ)) → RunState (IsReplyTo filter) filter.on_invalid filter.field input start old buffered pending progress
-    → AnswersAll filter (all_lines filter.field input) tally start new
+  -- The run ends early, over these lines of its input and the bytes after them.
+  abbrev pub EndsFrom : RunError → (List ℕ → List (List ℕ)) → (List ℕ → List ℕ) → Output → S → S → List ℕ → Progress → Type 0
+  EndsFrom error lines_in rest_in output s t pending progress =
+      (input : List ℕ) (start : S) → HasRun input start output s pending progress
+      → EndsEarly filter error (lines_in input) (rest_in input) (contents start) (contents t) × Writes write start (kind_of error) t
+
+  -- The run ends with all lines answered.
+  abbrev pub CompletesFrom : Tally → Output → S → S → List ℕ → Progress → Type 0
+  CompletesFrom tally output s t pending progress =
+      (input : List ℕ) (start : S) → HasRun input start output s pending progress
+      → AnswersAll filter (all_lines filter.field input) tally (contents start) (contents t) × Writes write start None t

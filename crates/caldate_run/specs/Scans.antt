@@ -1,5 +1,5 @@
 -- The answer to a line with --scan: its texts in a form that the run reads are answered in place.
-use Rattle.std.specs.Prelude.{◌≡◌, ◌⊎◌, ℕ, suc, ◌+◌, ◌-◌, ◌==◌, ◌&&◌, ◌||◌, ◌<◌, ◌≤◌, nat_lt, Bool, true, false, MatchBool, List, [], ◌∷◌, ◌++◌, length, take, drop, slice_index, Some, None, Result, Ok, Err, if◌then◌else◌}
+use Rattle.std.specs.Prelude.{◌≡◌, ◌⊎◌, ℕ, suc, ◌+◌, ◌-◌, ◌==◌, ◌&&◌, ◌||◌, not, ◌<◌, ◌≤◌, nat_lt, Bool, true, false, MatchBool, List, [], ◌∷◌, ◌++◌, length, take, drop, slice_index, Some, None, Result, Ok, Err, if◌then◌else◌}
 use Rattle.cal_text.specs.Position.{Begins}
 use Rattle.cal_text.specs.declared.any.DateOrMoment.{DateOrMoment}
 use Rattle.caldate_run.specs.Answers.{Answer, IsAnswer, IsNotRead, IsReadAs, keeps}
@@ -41,11 +41,24 @@ is_of_word byte = is_letter byte || is_digit byte
 abbrev pub byte_before : List ℕ → ℕ → ℕ
 byte_before line k = if k == 0 then 0 else slice_index line (k - 1)
 
+-- The four bytes from place k on are digits.
+abbrev pub are_digits : List ℕ → ℕ → Bool
+are_digits bytes k =
+    is_digit (slice_index bytes k) && (is_digit (slice_index bytes (k + 1)) && (is_digit (slice_index bytes (k + 2)) && is_digit (slice_index bytes (k + 3))))
+
+-- A sign before a year of four digits isn't part of a date.
+abbrev pub has_short_year : List ℕ → Bool
+has_short_year bytes = is_sign (slice_index bytes 0) && (slice_index bytes 5 == 45 && are_digits bytes 1)
+
+-- A text may begin at place k, which is not after a letter or a digit.
+abbrev pub may_begin : List ℕ → ℕ → Bool
+may_begin line k = not (is_of_word (byte_before line k) || has_short_year (drop k line))
+
 -- These n bytes are a text, and no letter or digit is beside them.
 pub record IsTextAt (filter : Filter) (line : List ℕ) (k n : ℕ) : Type 0 where
   pub within : k + n ≤ length line
   pub is : IsText filter (part_at line k n)
-  pub before : is_of_word (byte_before line k) ≡ false
+  pub before : may_begin line k ≡ true
   pub after : is_of_word (slice_index line (k + n)) ≡ false
 
 -- The text at place k is the longest there, and is read so.
@@ -77,11 +90,6 @@ pub record Bounds (IsText : List ℕ → Type 0) (bytes : List ℕ) (most : ℕ)
 
 abbrev pub is_digit_or_hyphen : ℕ → Bool
 is_digit_or_hyphen byte = is_digit byte || byte == 45
-
--- The four bytes from place k on are digits.
-abbrev pub are_digits : List ℕ → ℕ → Bool
-are_digits bytes k =
-    is_digit (slice_index bytes k) && (is_digit (slice_index bytes (k + 1)) && (is_digit (slice_index bytes (k + 2)) && is_digit (slice_index bytes (k + 3))))
 
 -- A text in one of the six forms starts with four digits and a hyphen, with a sign, four digits, and
 -- a digit or a hyphen, or with an @ or a J, and a digit or a hyphen.

@@ -47,7 +47,7 @@ IsReadOther filter (Err any) asked = (any ≡ UnreadOtherField) × ((why : NoAns
 
 -- The same for the text of a line, which may lack these fields.
 abbrev pub IsOther : Filter → Field → List ℕ → Result DateOrMoment NoAnswer → Type 0
-IsOther filter other text found = MatchOption (selected_text (Some other) text) (found ≡ Err NoOtherField) (IsReadOther filter found)
+IsOther filter other text found = MatchOption (selected_text other text) (found ≡ Err NoOtherField) (IsReadOther filter found)
 
 -- The filter for a line whose other fields have this date or moment.
 abbrev pub with_text : Filter → DateOrMoment → Filter

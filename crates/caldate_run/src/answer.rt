@@ -7,7 +7,7 @@ ghost use Rattle.caldate_run.specs.Bounds.{lies_in};
 ghost use Rattle.caldate_run.specs.Forms.{IsInForm, format_text};
 ghost use Rattle.caldate_run.specs.Readers.{IsUnreadIn};
 ghost use Rattle.caldate_run.specs.Readings.{IsTextIn};
-ghost use Rattle.caldate_run.specs.Replies.{reason, refused_text};
+ghost use Rattle.caldate_run.specs.Reasons.{reason, refused_text};
 ghost use Rattle.caldate_run.specs.Room.{HasRoom, longest_answer};
 ghost use Rattle.caldate_run.specs.Runs.{AppendsSome, AppendsAnswer};
 ghost use Rattle.caldate_run.specs.Scans.{IsReadWith};

@@ -36,10 +36,14 @@ use crate::args::usage_error::{Expected, UsageError, usage_error_at};
 use crate::args::words::{cut, ended, ends_at, only_at, word_as, word_at};
 use crate::data_files::DataFiles;
 use crate::field_name::FieldName;
+use crate::field_names::MAX_FIELDS;
 use crate::on_invalid::OnInvalid;
-use crate::request::{Clock, Command, DayMove, Field, Filter, Place, Policy, Request, TimeUnit};
+use crate::request::{
+    Clock, Command, DayMove, Field, FieldNumbers, Filter, Place, Policy, Request, TimeUnit,
+};
 use crate::run::lines::next_line;
 use crate::run::quoting::Quoting;
+use crate::several_fields::{RankedField, SeveralFields};
 use crate::zones::is_zone_like;
 use cal_datetime::{OffsetDateTime, PlainDateTime};
 use cal_schedule::Workdays;
@@ -176,7 +180,11 @@ fn filter_with<'a>(
     if let Some(expected) = conflict_with_request(&options, &request) {
         return Err(usage_error_at(at, expected));
     }
-    Ok(filter_of(options, request))
+    let filter = filter_of(options, request);
+    if !filter.names.any() && filter.several.overlap() {
+        return Err(usage_error_at(at, Expected::Overlap));
+    }
+    Ok(filter)
 }
 
 /// Returns the requirement of the request that the options don't meet, if there is one.
@@ -207,11 +215,23 @@ fn filter_of<'a>(options: Options<'a>, request: Request<'a>) -> Filter<'a> {
         assumptions: assumptions_in(&options),
         workdays: options.workdays.unwrap_or(moves::workdays()),
         names: options.names,
-        more: options.more,
+        several: several_of(options.fields, options.more),
         column: column_of(options.header, options.append),
         readers: readers_in(options.readers),
         clock: clock_of(options.zone, options.policy),
     }
+}
+
+/// Returns all fields from the left, if there are several.
+fn several_of(first: Option<FieldNumbers>, more: SeveralFields) -> SeveralFields {
+    let mut several = more;
+    let count = several.as_slice().len();
+    if let Some(numbers) = first {
+        if count > 0 && count < MAX_FIELDS {
+            several.insert(RankedField { numbers, rank: 0 });
+        }
+    }
+    several
 }
 
 /// Returns the name of a new field in the header, if there is one.

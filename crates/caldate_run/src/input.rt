@@ -7,6 +7,7 @@ ghost use Rattle.caldate_run.specs.Calls.{Gives, most_retries};
 ghost use Rattle.caldate_run.specs.Room.{capacity};
 ghost use Rattle.caldate_run.specs.Runs.{HasRead};
 
+pub(crate) mod field_text;
 pub(crate) mod fields;
 
 use crate::retries::Retries;

@@ -1,18 +1,15 @@
 //! Lists of dates in steps of one length.
-ghost use Rattle.std.specs.Prelude.{◌≡◌, ◌<◌, ◌≤◌, ◌+◌, ◌++◌, ℕ, length, IfSome, MatchOption};
+ghost use Rattle.std.specs.Prelude.{◌≡◌, ◌<◌, ◌+◌, ℕ, IfSome, MatchOption};
 ghost use Rattle.cal_time.specs.Date.{IsDate};
 ghost use Rattle.caldate_run.specs.Calls.{Writes, write_failure};
-ghost use Rattle.caldate_run.specs.Lists.{IsUnitsAfter, IsStep, IsWithin, Lists, line_of};
-ghost use Rattle.caldate_run.specs.Room.{HasRoom, longest_reply};
+ghost use Rattle.caldate_run.specs.Lists.{IsEnd, IsUnitsAfter, IsStep, IsWithin, Lists};
 
 pub(crate) mod in_zone;
 pub mod recurring;
 pub(crate) mod remaining;
 
-use crate::output::buffer::Buffer;
-use crate::output::write_all;
+use crate::output::Output;
 use crate::request::{Listing, StepUnit};
-use crate::run::make_room;
 use crate::run::run_error::RunError;
 use crate::streams::Sink;
 use cal_schedule::checked_add_months;
@@ -24,26 +21,26 @@ const FAR: u64 = 1_000_000_000;
 
 /// Writes the dates of the list in order, each in the calendar form with a line feed. After a
 /// `RunError::Write`, only a part of the lines was written.
-#[tactic(auto, using(crate::proofs::Calls::sent_all, crate::proofs::Calls::writes_then))]
 pub fn list<W: Sink>(listing: &Listing, writer: &mut W) -> Result<(), RunError>
     requires { IsStep listing.now.step }
     ensures lists { Lists listing.now result (W.contents writer.old) (W.contents writer.new) }
     ensures writes { Writes W.write_gives writer.old (write_failure result) writer.new }
 {
-    let mut buffer = Buffer::new();
+    let mut output = Output::new();
     let mut count = 0;
     while let Some(day) = day_within(listing, count) {
-        make_room(&mut buffer, 0, writer)?;
-        push_day(&mut buffer, day);
+        match output.push_line(CalendarText(day).text().as_bytes(), writer) {
+            Ok(()) => {}
+            Err(error) => return Err(error),
+        }
         count += listing.step.every;
     }
-    write_all(writer, buffer.as_bytes())
+    output.finish(writer)
 }
 
 /// Returns the day `count` days or months after the first, or `None` past the last.
 fn day_within(listing: &Listing, count: u64) -> Option<Date>
-    ensures day { MatchOption result ((day : ℕ) → ¬ IsWithin listing.now count day)
-        (IsWithin listing.now count) }
+    ensures day { MatchOption result (IsEnd listing.now count) (IsWithin listing.now count) }
     ensures near { IfSome result (λ _. count < 1_000_000_000) }
 {
     let day = day_after(listing.step.unit, listing.first, count)?;
@@ -83,13 +80,4 @@ fn months_after(date: Date, months: u64) -> Option<Date>
     ensures near { IfSome result (λ _. months < 1_000_000_000) }
 {
     checked_add_months(date, months.min(FAR) as i32)
-}
-
-/// Appends the line of a day.
-fn push_day(buffer: &mut Buffer, day: Date)
-    requires { HasRoom longest_reply buffer.old }
-    ensures { buffer.new ≡ buffer.old ++ line_of day }
-{
-    buffer.push(CalendarText(day).text().as_bytes());
-    buffer.push(b"\n");
 }

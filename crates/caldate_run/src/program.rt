@@ -29,8 +29,8 @@ use crate::run::ending::{Ending, end};
 use crate::run::named::run_named;
 use crate::run::run;
 use crate::run::run_error::RunError;
-use crate::streams::text::Text;
 use crate::streams::{Sink, Source};
+use crate::text::Text;
 use cal_datetime::PlainDateTime;
 use cal_time::ShortText;
 use std::env::Env;
@@ -155,7 +155,16 @@ pub fn perform_on_files<S: Env + Files, I: Read + Drop, F: Sink + Drop, W: Sink,
         × ((filter : Filter) → asked.entry ≡ Ok (Command.Lines filter) → (outcome : Result Unit RunError)
         × IsRunResult filter outcome None None (W.contents writer.old) (W.contents writer.new)
         × Writes W.write_gives writer.old (write_failure outcome) writer.new
-        × ReportsOutcome outcome own (E.contents errors.old) (E.contents errors.new)) }
+        × ReportsOutcome outcome own (E.contents errors.old) (E.contents errors.new))
+        × ((filter : Filter) (field : Field) → asked.entry ≡ Ok (Command.Named filter field) → EndsNamed filter field None
+        (λ numbered outcome. IsRunResult numbered outcome None None (W.contents writer.old) (W.contents writer.new)
+        × Writes W.write_gives writer.old (write_failure outcome) writer.new
+        × ReportsOutcome outcome own (E.contents errors.old) (E.contents errors.new))
+        (λ failed words. (writer.new ≡ writer.old) × (own.status ≡ 2)
+        × WritesPage words own.reported (E.contents errors.old) (E.contents errors.new)))
+        × IfErr asked.entry (λ error. (files.new ≡ files.old) × (writer.new ≡ writer.old) × (own.status ≡ 2)
+        × ((words : List ℕ) × (0 < length words)
+        × WritesPage words own.reported (E.contents errors.old) (E.contents errors.new))) }
     ensures reported { Writes E.write_gives errors.old (write_failure result.reported) errors.new }
 {
     let ending = perform(asked, arguments, now, files, writer, errors);

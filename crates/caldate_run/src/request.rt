@@ -6,10 +6,10 @@ ghost use Rattle.caldate_run.specs.Targets.{target_fields, target_name};
 
 use crate::field_name::FieldName;
 use crate::field_names::FieldNames;
-use crate::more_fields::MoreFields;
 use crate::on_invalid::OnInvalid;
 use crate::reading::Readers;
 use crate::reading::reader::Assumptions;
+use crate::several_fields::SeveralFields;
 use cal_datetime::OffsetDateTime;
 use cal_format::Format;
 use cal_recurrence::Recurrence;
@@ -286,8 +286,8 @@ pub struct Filter<'a> {
     pub on_invalid: OnInvalid,
     /// The field to answer, or `None` for the whole line.
     pub field: Option<Field>,
-    /// The fields to answer after it, which have its separator.
-    pub more: MoreFields,
+    /// All fields to answer, which have its separator, if there are several.
+    pub several: SeveralFields,
     /// `true` if each text in the line that has a form is answered, and not the whole line.
     pub scans: bool,
     /// The names of the fields to answer whose numbers aren't known yet.

@@ -1,7 +1,7 @@
 //! The texts in a line that have a form.
 ghost use Rattle.std.specs.Prelude.{◌≡◌, ℕ, ◌+◌, ◌<◌, ◌≤◌, IfSome, MatchOption, false, length, slice_index, take, true};
 ghost use Rattle.caldate_run.specs.Offsets.{is_digit};
-ghost use Rattle.caldate_run.specs.Scans.{HasNoText, IsFirstText, IsLongestText, IsReadWith, IsText, IsTextAt, NoneFrom, AreUsual, StartWithDigits, byte_before, has_form, is_of_word, part_at};
+ghost use Rattle.caldate_run.specs.Scans.{HasNoText, IsFirstText, IsLongestText, IsReadWith, IsText, IsTextAt, NoneFrom, AreUsual, StartWithDigits, byte_before, has_form, is_of_word, may_begin, part_at};
 
 pub(crate) mod bound;
 pub(crate) mod digit_bound;
@@ -17,7 +17,7 @@ use crate::scan::bound::bound_of;
 use crate::scan::digit_bound::digit_bound;
 use crate::scan::digit_start::{digits_place, start_with_digits};
 use crate::scan::found_text::FoundText;
-use crate::scan::start::{all_usual, is_usual_end, usual_place};
+use crate::scan::start::{all_usual, has_short_year, is_usual_end, usual_place};
 use crate::zones::is_letter;
 use cal_text::DateOrMoment;
 
@@ -35,7 +35,7 @@ pub fn first_text(filter: &Filter<'_>, line: &[u8], from: usize) -> Option<Found
     let digits = start_with_digits(filter);
     let mut place = first_start(filter, usual, digits, line, from);
     while place < line.len() {
-        if !is_of_word(byte_before(line, place)) {
+        if may_begin(line, place) {
             if let Some(text) = longest_text(filter, usual, line, place) {
                 return Some(text);
             }
@@ -69,7 +69,7 @@ fn first_start(filter: &Filter<'_>, usual: bool, digits: bool, line: &[u8], from
 fn longest_text(filter: &Filter<'_>, usual: bool, line: &[u8], place: usize) -> Option<FoundText>
     requires place { place ≤ length line.now }
     requires usual { usual ≡ true → AreUsual filter.now }
-    requires before { is_of_word (byte_before line.now place) ≡ false }
+    requires before { may_begin line.now place ≡ true }
     ensures { MatchOption result ((n : ℕ) → ¬ IsTextAt filter.now line.now place n)
         (IsLongestText filter.now line.now place) }
 {
@@ -109,7 +109,7 @@ fn read_at(
 ) -> Option<Result<DateOrMoment, NoAnswer>>
     requires some { 0 < count }
     requires within { place + count ≤ length line.now }
-    requires before { is_of_word (byte_before line.now place) ≡ false }
+    requires before { may_begin line.now place ≡ true }
     ensures { MatchOption result (¬ IsTextAt filter.now line.now place count)
         (λ read. IsTextAt filter.now line.now place count
         × IsReadWith filter.now (part_at line.now place count) read) }
@@ -149,6 +149,16 @@ fn has_form(why: NoAnswer) -> bool
         NoAnswer::NoForm | NoAnswer::Unreadable(_) => false,
         _ => true,
     }
+}
+
+/// Returns whether a text may begin at a place: not after a letter or a digit, and not with a sign
+/// before a year of four digits.
+#[inline(always)]
+fn may_begin(line: &[u8], place: usize) -> bool
+    requires { place ≤ length line.now }
+    ensures { result ≡ may_begin line.now place }
+{
+    !(is_of_word(byte_before(line, place)) || has_short_year(&line[place..]))
 }
 
 /// Returns the byte before a place, or 0 at the start of the line.

@@ -4,8 +4,6 @@ ghost use Rattle.std.specs.Io.{ReadsAtMost, WritesAtMost};
 ghost use Rattle.std.specs.Io.KnownBytes.{ReadConsumes, WriteAppends};
 ghost use Rattle.std.specs.declared.io.Error.{Error};
 
-pub mod text;
-
 use std::io::{self, Read, Write};
 
 /// A reader. Every `Read` is one, but std doesn't say why its reads fail.

@@ -5,10 +5,10 @@ ghost use Rattle.std.specs.IoError.{error_kind};
 use std::io::{self, ErrorKind};
 use std::marker::Model;
 
-/// The number of retried reads of a run, and of retried writes. The next one fails.
+/// The number of retries. The next interruption is a failure.
 const INTERRUPTIONS: u16 = 4096;
 
-/// The number of retries left.
+/// A count of the retries that are left.
 #[derive(Drop)]
 pub struct Retries {
     left: u16,
@@ -23,7 +23,7 @@ impl Model for Retries {
 }
 
 impl Retries {
-    /// Creates the retries of a run that was not interrupted yet.
+    /// Creates a count of 4096 retries.
     pub fn new() -> Self
         ensures { result ≡ 4096 }
     {
@@ -32,11 +32,11 @@ impl Retries {
         }
     }
 
-    /// Returns `true` if the error is an interruption and a retry is left, which is then used.
+    /// Counts a retry and returns `true` if the call was interrupted and a retry is left.
     pub fn allows(&mut self, error: &io::Error) -> bool
-        ensures value { IsTrue result
+        ensures allowed { IsTrue result
             ↔ (error_kind error.now ≡ ErrorKind.Interrupted) × (0 < self.old) }
-        ensures remaining { self.old ≡ (if result then self.new + 1 else self.new) }
+        ensures left { self.old ≡ (if result then self.new + 1 else self.new) }
     {
         if error.kind() != ErrorKind::Interrupted || self.left == 0 {
             return false;

@@ -6,17 +6,18 @@ ghost use Rattle.std.specs.declared.io.Error.{Error};
 
 use std::io::{self, Read, Write};
 
-/// A reader. Each `Read` is a `Source`, but std doesn't say why its reads fail.
+/// A reader. Every `Read` is one, but std doesn't say why its reads fail.
 pub trait Source {
-    // The bytes that are still to be read, if they are known.
+    // The bytes that later reads give, if they are known.
     ghost remaining: { Self → Option (List ℕ) };
 
-    // A read in the first state may return this result and leave the second state.
+    // A read may return this result and leave this reader.
     ghost read_gives: { Self → Result ℕ Error → Self → Type 0 };
 
-    /// Reads into the front of the buffer, and returns the number of bytes: 0 at the end.
+    /// Reads bytes into the front of the buffer, and returns their number: 0 at the end of the
+    /// input.
     fn read(&mut self, buffer: &mut [u8]) -> io::Result<usize>
-        ensures max { ReadsAtMost result buffer.new }
+        ensures bound { ReadsAtMost result buffer.new }
         ensures bytes { ReadConsumes (remaining self.old) (remaining self.new) result buffer.new }
         ensures gives { read_gives self.old result self.new };
 }
@@ -31,17 +32,17 @@ impl<R: Read> Source for R {
     }
 }
 
-/// A writer. Each `Write` is a `Sink`, but std doesn't say why its writes fail.
+/// A writer. Every `Write` is one, but std doesn't say why its writes fail.
 pub trait Sink {
-    // The bytes that were written, if they are known.
+    // The bytes that the writer holds, if they are known.
     ghost contents: { Self → Option (List ℕ) };
 
-    // A write of these bytes in the first state may return this result and leave the second state.
+    // A write of these bytes may return this result and leave this writer.
     ghost write_gives: { Self → List ℕ → Result ℕ Error → Self → Type 0 };
 
-    /// Writes a prefix of the bytes, and returns its length.
+    /// Writes a beginning of the bytes, and returns its length.
     fn write(&mut self, bytes: &[u8]) -> io::Result<usize>
-        ensures max { WritesAtMost result bytes.now }
+        ensures bound { WritesAtMost result bytes.now }
         ensures bytes { WriteAppends (contents self.old) (contents self.new) result bytes.now }
         ensures gives { write_gives self.old bytes.now result self.new };
 }

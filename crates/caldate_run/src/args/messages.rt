@@ -48,6 +48,7 @@ pub fn message_for(expected: Expected) -> Message
         CsvField: "--csv requires --field";
         AppendField: "--append requires --field";
         AppendFields: "--append requires a single --field";
+        Overlap: "fields of --field can't overlap";
         AppendKeep: "--append can't be used with keep";
         OtherField: "another field requires --field";
         CsvSeparator: "--csv can't use a quote as the separator";

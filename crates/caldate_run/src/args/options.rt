@@ -10,8 +10,7 @@ use crate::args::usage_error::{Expected, UsageError, usage_error_at};
 use crate::args::words::cut;
 use crate::data_files::DataFiles;
 use crate::field_name::FieldName;
-use crate::field_names::FieldNames;
-use crate::more_fields::{MAX_MORE, MoreFields};
+use crate::field_names::{FieldNames, MAX_FIELDS};
 use crate::on_invalid::OnInvalid;
 use crate::reading::reader::{Assumptions, Reader};
 use crate::reading::spelling::Spelling;
@@ -19,6 +18,7 @@ use crate::reading::value_format::ValueFormat;
 use crate::reading::{Readers, Reading};
 use crate::request::{Field, FieldNumbers, Policy};
 use crate::run::lines::index_of;
+use crate::several_fields::{RankedField, SeveralFields};
 use cal_schedule::Workdays;
 use cal_time::UtcOffset;
 use cal_zone::Zone;
@@ -31,7 +31,7 @@ pub struct Options<'a> {
     /// The numbers of the first `--field N` or `--field N-M`, or the number 1 for `--field NAME`.
     pub fields: Option<FieldNumbers>,
     /// The same for each other `--field`.
-    pub more: MoreFields,
+    pub more: SeveralFields,
     /// The names of `--field NAME`.
     pub names: FieldNames<'a>,
     /// The name of `--append NAME`.
@@ -65,7 +65,7 @@ fn no_options() -> Options<'static> {
     Options {
         on_invalid: None,
         fields: None,
-        more: MoreFields::new(),
+        more: SeveralFields::new(),
         names: FieldNames::new(),
         append: None,
         header: false,
@@ -190,7 +190,7 @@ fn option_of(word: &[u8]) -> Option<OptionName> {
 fn has_room_for(options: &Options<'_>, option: OptionName) -> bool {
     match option {
         OptionName::Invalid => options.on_invalid.is_none(),
-        OptionName::Field => options.fields.is_none() || options.more.as_slice().len() < MAX_MORE,
+        OptionName::Field => options.fields.is_none() || options.more.as_slice().len() + 1 < MAX_FIELDS,
         OptionName::Append => options.append.is_none(),
         OptionName::Csv => !options.csv,
         OptionName::Header => !options.header,
@@ -306,9 +306,13 @@ fn with_named<'a>(options: Options<'a>, value: &'a [u8]) -> Option<Options<'a>> 
         return Some(more);
     }
     let index = more.more.as_slice().len() + 1;
-    if !more.more.try_push(field) {
+    if index >= MAX_FIELDS {
         return None;
     }
+    more.more.insert(RankedField {
+        numbers: field,
+        rank: index as u8,
+    });
     more.names.set(index, name);
     Some(more)
 }

@@ -29,6 +29,8 @@ pub enum Expected {
     AppendField,
     /// A single `--field`, which `--append` requires.
     AppendFields,
+    /// Fields that overlap.
+    Overlap,
     /// A request that isn't `keep`, which `--append` requires.
     AppendKeep,
     /// `--field`, which `field N` after `until` or `since` requires.

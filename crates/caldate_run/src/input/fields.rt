@@ -1,34 +1,18 @@
 //! The fields of a line.
-ghost use Rattle.std.specs.Prelude.{◌≡◌, ◌+◌, ◌<◌, ◌≤◌, ◌++◌, ◌∷◌, [], ℕ, List, Some, None, IfSome, IsTrue, MatchOption, drop, false, length, slice_index, take};
-ghost use Rattle.caldate_run.specs.Fields.{HasFirst, IsAfter, fields_of, in_place_of, is_quote, is_quoted, part_of, selected_text, split_outside_quotes, with_part, within_quotes};
-ghost use Rattle.caldate_run.specs.declared.run.quoting.Quoting.TheVariants.{Ready};
+ghost use Rattle.std.specs.Prelude.{◌≡◌, ◌+◌, ◌<◌, ◌≤◌, ◌++◌, ◌∷◌, [], Some, None, IfSome, IsTrue, MatchOption, drop, length, take};
+ghost use Rattle.caldate_run.specs.Fields.{HasFirst, IsAfter, cut_of, fields_of, is_quoted, quotes_of};
 
 use crate::request::Field;
-use crate::run::lines::index_of;
+use crate::run::lines::part_end;
 use crate::run::quoting::Quoting;
-
-/// Returns the fields of the text within their quotes, if the text has them. Without fields,
-/// returns the whole text.
-pub fn selected_text(field: Option<Field>, text: &[u8]) -> Option<&[u8]>
-    ensures asked { MatchOption result (selected_text field text.now ≡ None)
-        (λ asked. selected_text field text.now ≡ Some asked.now) }
-    ensures fits { IfSome result (λ asked. length asked.now ≤ length text.now) }
-{
-    match field {
-        Some(field) => Some(within_quotes(field, cut_field(field, text)?.1)),
-        None => Some(text),
-    }
-}
 
 /// Returns the bytes before the fields, the fields and the bytes after them, if the text has them.
 /// Field 2 of `a,2024-02-29,c`, split at commas, has `a,` before it and `,c` after it.
 #[inline(always)]
 pub fn cut_field(field: Field, text: &[u8]) -> Option<(&[u8], &[u8], &[u8])>
-    ensures part { MatchOption result (part_of field text.now ≡ None)
-        (λ parts. part_of field text.now ≡ Some parts.1.now) }
-    ensures around { MatchOption result (length text.now ≡ length text.now)
-        (λ parts. (words : List ℕ) → with_part field text.now words
-        ≡ parts.0.now ++ in_place_of field parts.1.now words ++ parts.2.now) }
+    ensures cut { MatchOption result (cut_of field text.now ≡ None)
+        (λ parts. cut_of field text.now
+        ≡ Some (record { front = parts.0.now; part = parts.1.now; rest = parts.2.now })) }
     ensures whole { MatchOption result (length text.now ≡ length text.now)
         (λ parts. text.now ≡ parts.0.now ++ parts.1.now ++ parts.2.now) }
     ensures short { MatchOption result (length text.now ≡ length text.now)
@@ -40,18 +24,6 @@ pub fn cut_field(field: Field, text: &[u8]) -> Option<(&[u8], &[u8], &[u8])>
     let start = text.len() - rest.len();
     let end = text.len() - last.len() + first_length(field, last);
     Some((&text[..start], &text[start..end], &text[end..]))
-}
-
-/// Returns the text between the quotes of a field of a CSV record, or the field if it has none.
-pub fn within_quotes(field: Field, part: &[u8]) -> &[u8]
-    ensures text { result.now ≡ within_quotes field part.now }
-    ensures fits { length result.now ≤ length part.now }
-{
-    if is_quoted(field, part) {
-        &part[1..part.len() - 1]
-    } else {
-        part
-    }
 }
 
 /// Returns whether the field of a CSV record is in quotes.
@@ -107,39 +79,18 @@ fn separator_index(field: Field, bytes: &[u8]) -> Option<usize>
         ≡ take at bytes.now ∷ fields_of field (drop (at + 1) bytes.now))
         × (bytes.now ≡ take at bytes.now ++ field.separator ∷ drop (at + 1) bytes.now)) }
 {
-    if field.csv && has_first_quote(bytes) {
-        index_outside_quotes(field.separator, field.separator, Quoting::Ready, bytes)
+    let start = quotes_of(field);
+    part_end(field.separator, field.separator, start, start, bytes)
+}
+
+/// Returns the state of the quotes at the start of a field.
+#[inline(always)]
+fn quotes_of(field: Field) -> Quoting
+    ensures { result ≡ quotes_of field }
+{
+    if field.csv {
+        Quoting::Ready
     } else {
-        index_of(field.separator, bytes)
+        Quoting::Off
     }
-}
-
-/// Returns whether the first byte is a quote.
-fn has_first_quote(bytes: &[u8]) -> bool
-    ensures { result ≡ is_quote (slice_index bytes.now 0) }
-{
-    match bytes {
-        [b'"', ..] => true,
-        _ => false,
-    }
-}
-
-/// Returns the index of the first byte `end` outside of quotes, from a state of the quotes on.
-#[inline(never)]
-pub fn index_outside_quotes(end: u8, separator: u8, quoting: Quoting, bytes: &[u8]) -> Option<usize>
-    ensures { MatchOption result
-        (split_outside_quotes end separator quoting bytes.now ≡ bytes.now ∷ [])
-        (λ at. (at < length bytes.now) × ((more : List ℕ)
-        → split_outside_quotes end separator quoting (bytes.now ++ more)
-        ≡ take at bytes.now ∷ split_outside_quotes end separator Ready (drop (at + 1) bytes.now ++ more))
-        × (bytes.now ≡ take at bytes.now ++ end ∷ drop (at + 1) bytes.now)) }
-{
-    let mut state = quoting;
-    for (i, byte) in bytes.iter().enumerate() {
-        if *byte == end && !state.is_open() {
-            return Some(i);
-        }
-        state = state.after(separator, *byte);
-    }
-    None
 }

@@ -1,15 +1,12 @@
 //! Lists of the moments of a recurrence in a zone.
-ghost use Rattle.std.specs.Prelude.{◌≡◌, ◌++◌, ◌≤ℤ◌, ◌<ℤ◌, MatchOption, Some};
+ghost use Rattle.std.specs.Prelude.{◌≡◌, ◌≤ℤ◌, ◌<ℤ◌, MatchOption, Some};
 ghost use Rattle.cal_datetime.specs.OffsetDateTime.{LocalAndOffset, instant};
 ghost use Rattle.cal_recurrence.specs.declared.zoned_set.ZonedSet.{ZonedSet};
 ghost use Rattle.caldate_run.specs.Calls.{Writes, write_failure};
-ghost use Rattle.caldate_run.specs.Recurring.{IsSetIn, ListsSet, moment_line};
-ghost use Rattle.caldate_run.specs.Room.{HasRoom, longest_reply};
+ghost use Rattle.caldate_run.specs.Recurring.{IsSetIn, ListsSet};
 
 use crate::args::clock_words::{moment_in, rfc3339_or_unix_text};
-use crate::output::buffer::Buffer;
-use crate::output::write_all;
-use crate::run::make_room;
+use crate::output::Output;
 use crate::run::run_error::RunError;
 use crate::streams::Sink;
 use cal_datetime::OffsetDateTime;
@@ -47,7 +44,6 @@ fn set_in<'a>(
 }
 
 /// Writes the lines of the moments of the set.
-#[tactic(auto, using(crate::proofs::Calls::sent_all, crate::proofs::Calls::writes_then))]
 fn write_moments<W: Sink>(
     set: &mut CountedZonedSet<'_>,
     first: OffsetDateTime,
@@ -57,15 +53,17 @@ fn write_moments<W: Sink>(
     ensures lists { ListsSet set.old first last result (W.contents writer.old) (W.contents writer.new) }
     ensures writes { Writes W.write_gives writer.old (write_failure result) writer.new }
 {
-    let mut buffer = Buffer::new();
+    let mut output = Output::new();
     // The reading of the start may mean an earlier moment, if clocks show it twice.
     let mut next = set.first_from(first);
     while let Some(moment) = up_to(next, last) {
-        make_room(&mut buffer, 0, writer)?;
-        push_moment(&mut buffer, moment);
+        match output.push_line(rfc3339_or_unix_text(moment).as_bytes(), writer) {
+            Ok(()) => {}
+            Err(error) => return Err(error),
+        }
         next = set.next_after(moment);
     }
-    write_all(writer, buffer.as_bytes())
+    output.finish(writer)
 }
 
 /// Returns the moment if it isn't past the last one.
@@ -77,13 +75,4 @@ fn up_to(moment: Option<OffsetDateTime>, last: OffsetDateTime) -> Option<OffsetD
         Some(one) if one <= last => Some(one),
         _ => None,
     }
-}
-
-/// Appends the line of a moment.
-fn push_moment(buffer: &mut Buffer, moment: OffsetDateTime)
-    requires { HasRoom longest_reply buffer.old }
-    ensures { buffer.new ≡ buffer.old ++ moment_line moment }
-{
-    buffer.push(rfc3339_or_unix_text(moment).as_bytes());
-    buffer.push(b"\n");
 }

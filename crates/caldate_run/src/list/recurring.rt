@@ -5,10 +5,8 @@ ghost use Rattle.caldate_run.specs.Runs.{WritesPage};
 
 use crate::list::in_zone::list_in_zone;
 use crate::list::remaining::Remaining;
-use crate::output::buffer::Buffer;
-use crate::output::write_all;
+use crate::output::Output;
 use crate::request::{Occurrences, Span};
-use crate::run::make_room;
 use crate::run::run_error::RunError;
 use crate::streams::Sink;
 
@@ -32,16 +30,16 @@ pub fn list_occurrences<W: Sink>(asked: Occurrences<'_>, writer: &mut W) -> Resu
 }
 
 /// Writes the lines of the dates or readings that are left.
-#[tactic(auto, using(crate::proofs::Calls::sent_all, crate::proofs::Calls::writes_then))]
 fn write_lines<W: Sink>(mut rest: Remaining, writer: &mut W) -> Result<(), RunError>
     ensures lines { WritesPage (lines_left rest) result (W.contents writer.old) (W.contents writer.new) }
     ensures writes { Writes W.write_gives writer.old (write_failure result) writer.new }
 {
-    let mut buffer = Buffer::new();
+    let mut output = Output::new();
     while let Some(text) = rest.next_text() {
-        make_room(&mut buffer, 0, writer)?;
-        buffer.push(text.as_bytes());
-        buffer.push(b"\n");
+        match output.push_line(text.as_bytes(), writer) {
+            Ok(()) => {}
+            Err(error) => return Err(error),
+        }
     }
-    write_all(writer, buffer.as_bytes())
+    output.finish(writer)
 }

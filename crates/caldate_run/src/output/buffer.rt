@@ -7,8 +7,8 @@ use std::marker::Model;
 
 const CAPACITY: usize = 65_537;
 
-/// The room for one reply, in bytes: while it is written, a line, its field and an answer.
-const LONGEST_REPLY: usize = 9200;
+/// The room for one reply, in bytes: while it is written, a line, its answers and a text.
+const LONGEST_REPLY: usize = 18_300;
 
 /// A buffer of replies for one write, of at most 65537 bytes.
 #[derive(Drop)]

@@ -3,7 +3,7 @@ ghost use Rattle.std.specs.Prelude.{◌≡◌, ◌↔◌, ◌<◌, ◌≤◌, �
 ghost use Rattle.cal_text.specs.declared.any.DateOrMoment.{DateOrMoment};
 ghost use Rattle.caldate_run.specs.Readers.{IsFoundBy, IsTextBy, IsUnread, IsUnreadIn};
 ghost use Rattle.caldate_run.specs.Readings.{IsTextIn};
-ghost use Rattle.caldate_run.specs.Replies.{reason_of};
+ghost use Rattle.caldate_run.specs.Reasons.{reason_of};
 ghost use Rattle.caldate_run.specs.declared.run.no_answer.NoAnswer.{NoAnswer};
 
 use crate::reading::reader::{Assumptions, Reader};

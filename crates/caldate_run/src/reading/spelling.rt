@@ -103,7 +103,7 @@ fn is_sign(byte: u8) -> bool
 }
 
 /// Returns the seconds with an `@`.
-fn unix_text(text: &[u8]) -> FullText
+pub fn unix_text(text: &[u8]) -> FullText
     requires { length text.now ≤ 60 }
     ensures { result ≡ unix_text text.now }
 {

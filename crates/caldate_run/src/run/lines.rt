@@ -1,11 +1,9 @@
 //! The lines of the input.
 ghost use Rattle.std.specs.Prelude.{◌≡◌, ◌∷◌, ◌+◌, ◌++◌, ◌<◌, ◌≤◌, ◌==◌, [], ℕ, List, None, drop, false, length, position, take, MatchOption, if◌then◌else◌};
-ghost use Rattle.caldate_run.specs.Lines.{has_return, text_of};
+ghost use Rattle.caldate_run.specs.Lines.{has_return, quotes_in, separator_of, text_of};
 ghost use Rattle.caldate_run.specs.Fields.{is_quote, quoting_past, split_outside_quotes};
 ghost use Rattle.caldate_run.specs.RunStates.{FirstEnds, HasNoFeed, NoEnd, quoting_in};
-ghost use Rattle.caldate_run.specs.declared.run.quoting.Quoting.TheVariants.{Ready};
 
-use crate::input::fields::index_outside_quotes;
 use crate::request::Field;
 use crate::run::quoting::Quoting;
 
@@ -32,48 +30,91 @@ pub fn next_line(field: Option<Field>, quoting: Quoting, bytes: &[u8]) -> Option
     ensures shorter { MatchOption result (length bytes.now ≡ length bytes.now)
         (λ parts. length parts.1.now < length bytes.now) }
 {
-    match field {
-        Some(field) if field.csv => first_record(field.separator, quoting, bytes),
-        _ => first_line(bytes),
-    }
-}
-
-/// Returns the first complete record, without its line feed, and the bytes after it.
-fn first_record(separator: u8, quoting: Quoting, bytes: &[u8]) -> Option<(&[u8], &[u8])>
-    ensures parts { MatchOption result
-        (split_outside_quotes 10 separator quoting bytes.now ≡ bytes.now ∷ [])
-        (λ parts. (more : List ℕ) → split_outside_quotes 10 separator quoting (bytes.now ++ more)
-        ≡ parts.0.now ∷ split_outside_quotes 10 separator Ready (parts.1.now ++ more)) }
-    ensures whole { MatchOption result (length bytes.now ≡ length bytes.now)
-        (λ parts. bytes.now ≡ parts.0.now ++ 10 ∷ parts.1.now) }
-    ensures shorter { MatchOption result (length bytes.now ≡ length bytes.now)
-        (λ parts. length parts.1.now < length bytes.now) }
-{
-    let at = record_end(separator, quoting, bytes)?;
+    let start = quotes_in(field, Quoting::Ready);
+    let quoting = quotes_in(field, quoting);
+    let at = part_end(b'\n', separator_of(field), start, quoting, bytes)?;
     Some((&bytes[..at], &bytes[at + 1..]))
 }
 
-/// Returns the index of the first line feed outside of quotes.
-// Most records have no quotes, and a search for one byte is faster.
-fn record_end(separator: u8, quoting: Quoting, bytes: &[u8]) -> Option<usize>
+/// Returns the index of the first byte `end` outside of quotes, from a state of the quotes on.
+// Most parts have no quotes, and a search for one byte is faster.
+#[inline(always)]
+pub fn part_end(
+    end: u8,
+    separator: u8,
+    start: Quoting,
+    quoting: Quoting,
+    bytes: &[u8],
+) -> Option<usize>
     ensures { MatchOption result
-        (split_outside_quotes 10 separator quoting bytes.now ≡ bytes.now ∷ [])
+        (split_outside_quotes end separator start quoting bytes.now ≡ bytes.now ∷ [])
         (λ at. (at < length bytes.now) × ((more : List ℕ)
-        → split_outside_quotes 10 separator quoting (bytes.now ++ more)
-        ≡ take at bytes.now ∷ split_outside_quotes 10 separator Ready (drop (at + 1) bytes.now ++ more))
-        × (bytes.now ≡ take at bytes.now ++ 10 ∷ drop (at + 1) bytes.now)) }
+        → split_outside_quotes end separator start quoting (bytes.now ++ more)
+        ≡ take at bytes.now ∷ split_outside_quotes end separator start start (drop (at + 1) bytes.now ++ more))
+        × (bytes.now ≡ take at bytes.now ++ end ∷ drop (at + 1) bytes.now)) }
 {
-    let Some(at) = index_of(b'\n', bytes) else {
+    let Some(at) = index_of(end, bytes) else {
         return None;
     };
+    if let Quoting::Off = quoting {
+        return Some(at);
+    }
     if !quoting.is_open() && !has_quote(&bytes[..at]) {
         return Some(at);
     }
-    index_outside_quotes(b'\n', separator, quoting, bytes)
+    index_outside_quotes(end, separator, start, quoting, bytes)
+}
+
+/// Returns the same index by the state at each byte.
+#[inline(never)]
+fn index_outside_quotes(
+    end: u8,
+    separator: u8,
+    start: Quoting,
+    quoting: Quoting,
+    bytes: &[u8],
+) -> Option<usize>
+    ensures { MatchOption result
+        (split_outside_quotes end separator start quoting bytes.now ≡ bytes.now ∷ [])
+        (λ at. (at < length bytes.now) × ((more : List ℕ)
+        → split_outside_quotes end separator start quoting (bytes.now ++ more)
+        ≡ take at bytes.now ∷ split_outside_quotes end separator start start (drop (at + 1) bytes.now ++ more))
+        × (bytes.now ≡ take at bytes.now ++ end ∷ drop (at + 1) bytes.now)) }
+{
+    let mut state = quoting;
+    for (i, byte) in bytes.iter().enumerate() {
+        if *byte == end && !state.is_open() {
+            return Some(i);
+        }
+        state = state.after(separator, *byte);
+    }
+    None
+}
+
+/// Returns the state of the quotes of a line, which has none if it isn't a record.
+#[inline(always)]
+fn quotes_in(field: Option<Field>, quoting: Quoting) -> Quoting
+    ensures { result ≡ quotes_in field quoting }
+{
+    match field {
+        Some(field) if field.csv => quoting,
+        _ => Quoting::Off,
+    }
+}
+
+/// Returns the byte between two fields, or a line feed if the line has none.
+#[inline(always)]
+fn separator_of(field: Option<Field>) -> u8
+    ensures { result ≡ separator_of field }
+{
+    match field {
+        Some(field) => field.separator,
+        None => b'\n',
+    }
 }
 
 /// Returns whether a quote is among the bytes.
-fn has_quote(bytes: &[u8]) -> bool
+pub fn has_quote(bytes: &[u8]) -> bool
     ensures { result ≡ false → position is_quote bytes.now ≡ None }
 {
     index_of(b'"', bytes).is_some()
@@ -83,10 +124,7 @@ fn has_quote(bytes: &[u8]) -> bool
 pub fn quoting_in(field: Option<Field>, quoting: Quoting, bytes: &[u8]) -> Quoting
     ensures { result ≡ quoting_in field quoting bytes.now }
 {
-    match field {
-        Some(field) => quoting_past(field.separator, quoting, bytes),
-        None => quoting,
-    }
+    quoting_past(separator_of(field), quoting, bytes)
 }
 
 /// Returns the state of the quotes after bytes of a record.

@@ -11,7 +11,7 @@ ghost use Rattle.caldate_run.specs.declared.run.quoting.Quoting.TheVariants.{Rea
 ghost use Rattle.caldate_run.specs.Targets.{target_name, with_target};
 
 use crate::field_names::{FieldNames, MAX_FIELDS};
-use crate::header::{header_of, number_in, report_header_error};
+use crate::header::{header_of, number_in, report_header_error, report_overlap};
 use crate::input::Input;
 use crate::request::{Field, FieldNumbers, Filter, Request, Target};
 use crate::run::ending::{Ending, end};
@@ -25,7 +25,7 @@ use crate::streams::{Sink, Source};
 const INVALID_HEADER: u8 = 2;
 
 /// Answers the lines of an input whose header gives the numbers of fields, and writes why the run
-/// failed. If the header lacks a name, writes only its error.
+/// failed. If the header lacks a name, or fields overlap, writes only the error.
 // Not inlined, so that a run without a name takes no more stack.
 #[inline(never)]
 pub fn run_named<R: Source, W: Sink, E: Sink>(
@@ -56,6 +56,12 @@ pub fn run_named<R: Source, W: Sink, E: Sink>(
     match numbers_in(&filter, field, header) {
         Ok(numbers) => {
             let own = numbered(filter, field, numbers);
+            if own.several.overlap() {
+                return Ending {
+                    status: INVALID_HEADER,
+                    reported: report_overlap(errors),
+                };
+            }
             let outcome = answer_input(&own, &mut input, reads, reader, writer);
             end(outcome, errors)
         }
@@ -158,7 +164,7 @@ fn numbered<'a>(
             first: firsts[0].unwrap_or(field.first),
             ..field
         }),
-        more: filter.more.with_firsts(&firsts[1..]),
+        several: filter.several.renumbered(&firsts),
         names: FieldNames::new(),
         ..filter
     }

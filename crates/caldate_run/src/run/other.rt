@@ -1,15 +1,15 @@
 //! Answers by TEXT in other fields of the line.
-ghost use Rattle.std.specs.Prelude.{◌≡◌, ◌+◌, ◌≤◌, List, Result, Some, ℕ, false, is_some, length, true};
-ghost use Rattle.cal_text.specs.declared.any.DateOrMoment.{DateOrMoment};
+ghost use Rattle.std.specs.Prelude.{◌≡◌, ◌+◌, ◌≤◌, List, Some, ℕ, false, is_some, length, true};
 ghost use Rattle.caldate_run.specs.Answers.{IsAnswerTo, keeps};
-ghost use Rattle.caldate_run.specs.Room.{HasRoom, longest_answer};
+ghost use Rattle.caldate_run.specs.Fields.{field_text};
+ghost use Rattle.caldate_run.specs.Room.{HasRoom, longest_answer, longest_text};
 ghost use Rattle.caldate_run.specs.Runs.{AppendsAnswer, AppendsSome};
 ghost use Rattle.caldate_run.specs.Targets.{IsAnswerAt, IsOther, IsReadOther, other_field, target_fields, with_target};
 ghost use Rattle.caldate_run.specs.declared.request.Target.TheVariants.{Text};
-ghost use Rattle.caldate_run.specs.declared.run.no_answer.NoAnswer.{NoAnswer};
 
 use crate::answer::{push_answer, push_between, read_with};
-use crate::input::fields::selected_text;
+use crate::input::field_text::{FieldText, plain_text};
+use crate::input::fields::cut_field;
 use crate::output::buffer::Buffer;
 use crate::request::{Field, Filter, Request};
 use crate::run::no_answer::NoAnswer;
@@ -31,21 +31,29 @@ pub fn other_field(filter: &Filter<'_>) -> Option<Field>
 /// For field 2 of `a,2024-02-29` in CSV, this returns 2024-02-29. Returns `NoOtherField` if the line
 /// has too few fields, and `UnreadOtherField` if the text of the other fields is in none of the forms.
 pub fn read_other(filter: &Filter<'_>, other: Field, text: &[u8]) -> Result<DateOrMoment, NoAnswer>
-    ensures value { IsOther filter.now other text.now result }
-    ensures one { (found : Result DateOrMoment NoAnswer) → IsOther filter.now other text.now found
-        → result ≡ found }
+    requires { length text.now ≤ longest_text }
+    ensures { IsOther filter.now other text.now result }
 {
-    match selected_text(Some(other), text) {
-        Some(asked) => read_asked(filter, asked),
+    match cut_field(other, text) {
+        Some((_front, part, _rest)) => read_part(filter, other.csv, part),
         None => Err(NoAnswer::NoOtherField),
+    }
+}
+
+/// Parses the other fields.
+fn read_part(filter: &Filter<'_>, csv: bool, part: &[u8]) -> Result<DateOrMoment, NoAnswer>
+    requires { length part.now ≤ longest_text }
+    ensures { IsReadOther filter.now result (field_text csv part.now) }
+{
+    match plain_text(csv, part) {
+        Some(asked) => read_asked(filter, asked),
+        None => read_asked(filter, FieldText::new(csv, part).as_bytes()),
     }
 }
 
 /// Parses the text of the other fields.
 fn read_asked(filter: &Filter<'_>, asked: &[u8]) -> Result<DateOrMoment, NoAnswer>
-    ensures value { IsReadOther filter.now result asked.now }
-    ensures one { (found : Result DateOrMoment NoAnswer) → IsReadOther filter.now found asked.now
-        → result ≡ found }
+    ensures { IsReadOther filter.now result asked.now }
 {
     match read_with(filter, asked) {
         Ok(found) => Ok(found),
@@ -61,7 +69,8 @@ pub fn push_answer_at(
     text: &[u8],
     asked: &[u8],
 ) -> Result<bool, NoAnswer>
-    requires { HasRoom (length asked.now + longest_answer) buffer.old }
+    requires fits { length text.now ≤ longest_text }
+    requires room { HasRoom (length asked.now + longest_answer) buffer.old }
     ensures answered { AppendsAnswer (IsAnswerAt filter.now text.now asked.now) result buffer.old buffer.new }
     ensures short { length buffer.new ≤ length buffer.old + length asked.now + longest_answer }
     ensures few { keeps filter.now.request ≡ false
@@ -82,6 +91,7 @@ fn push_beside(
     text: &[u8],
     asked: &[u8],
 ) -> Result<bool, NoAnswer>
+    requires fits { length text.now ≤ longest_text }
     requires room { HasRoom longest_answer buffer.old }
     requires other { other_field filter.now ≡ Some other }
     ensures answered { AppendsAnswer (IsAnswerAt filter.now text.now asked.now) result buffer.old buffer.new }

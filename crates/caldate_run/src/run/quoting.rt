@@ -1,10 +1,12 @@
-//! The quotes of a CSV record.
+//! The quotes of a line.
 ghost use Rattle.std.specs.Prelude.{◌≡◌};
 ghost use Rattle.caldate_run.specs.Fields.{is_open, quoting_after};
 
-/// A state of the quotes between two bytes of a CSV record.
+/// A state of the quotes between two bytes of a line.
 #[derive(Clone, Copy, Debug, PartialEq, Eq)]
 pub enum Quoting {
+    /// The line isn't a record: a quote is an ordinary byte.
+    Off,
     /// At the start of a field, or just after a closing quote: a quote opens quotes.
     Ready,
     /// Within quotes.
@@ -21,6 +23,7 @@ impl Quoting {
         ensures { result ≡ quoting_after separator self byte }
     {
         match self {
+            Quoting::Off => Quoting::Off,
             Quoting::Open if byte == b'"' => Quoting::Ready,
             Quoting::Open => Quoting::Open,
             Quoting::Ready if byte == b'"' => Quoting::Open,
@@ -36,7 +39,7 @@ impl Quoting {
     {
         match self {
             Quoting::Open => true,
-            Quoting::Ready | Quoting::Bare => false,
+            Quoting::Off | Quoting::Ready | Quoting::Bare => false,
         }
     }
 }

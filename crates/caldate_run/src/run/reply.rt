@@ -1,31 +1,34 @@
 //! The reply to a line.
-ghost use Rattle.std.specs.Prelude.{◌≡◌, ◌⊎◌, ◌+◌, ◌<◌, ◌≤◌, ◌++◌, ◌∷◌, [], ℕ, List, None, Some, Err, false, true, is_some, length, max, nat_lt, unwrap_or, IfErr, IfSome, OnErr, OnOk, if◌then◌else◌};
-ghost use Rattle.caldate_run.specs.Fields.{several, text_with, text_without};
+ghost use Rattle.std.specs.Prelude.{◌≡◌, ◌+◌, ◌<◌, ◌≤◌, ◌++◌, ◌∷◌, [], ℕ, List, None, Some, false, true, is_some, length, max, unwrap_or, IfErr, IfOk, IfSome, MatchOption, MatchResult, OnErr, OnOk, if◌then◌else◌};
+ghost use Rattle.caldate_run.specs.Answers.{Answer};
+ghost use Rattle.caldate_run.specs.Fields.{text_without};
 ghost use Rattle.caldate_run.specs.Lines.{has_return, text_of};
-ghost use Rattle.caldate_run.specs.Replies.{Describes, IsAnswerOf, IsAnswerToText, IsInPlace, IsReplyTo, header_with, in_place, more, reason, skipped, stops, with_name, with_reason};
-ghost use Rattle.caldate_run.specs.Room.{HasRoom, longest_field, longest_left, longest_reply, longest_text};
-ghost use Rattle.caldate_run.specs.Runs.{AppendsOut, AppendsSome, AppendsAnswer, AppendsReply};
-ghost use Rattle.caldate_run.specs.RunStates.{AtLine, counted};
+ghost use Rattle.caldate_run.specs.Pieces.{IsAnswered, instead, pieces_of};
+ghost use Rattle.caldate_run.specs.Reasons.{reason};
+ghost use Rattle.caldate_run.specs.Replies.{Describes, IsCounted, IsLine, IsReplyTo, more, own_field, skipped, stops, with_name};
+ghost use Rattle.caldate_run.specs.Room.{HasRoom, longest_field, longest_out, longest_reply, longest_text};
+ghost use Rattle.caldate_run.specs.Runs.{AppendsOut, AppendsReply, EndsUnanswered, Leaves};
+ghost use Rattle.caldate_run.specs.RunStates.{counted};
+ghost use Rattle.caldate_run.specs.Scans.{IsScanned};
 ghost use Rattle.caldate_run.specs.Targets.{other_field};
 
-use crate::answer::{LONGEST_TEXT, push_answer, push_by_forms, push_reason};
-use crate::field_name::FieldName;
-use crate::input::fields::{cut_field, is_quoted};
+use crate::answer::{LONGEST_TEXT, push_answer, push_reason};
+use crate::input::fields::cut_field;
 use crate::on_invalid::OnInvalid;
 use crate::output::buffer::Buffer;
 use crate::request::{Field, Filter};
-use crate::run::each::{push_each, push_several};
 use crate::run::lines::cut_return;
 use crate::run::no_answer::NoAnswer;
 use crate::run::other::other_field;
+use crate::run::pieces::push_pieces;
 use crate::run::progress::Progress;
-use crate::run::record::{LONGEST_ANSWER, end_field, push_in_record, push_quote, push_separated};
+use crate::run::record::{LONGEST_ANSWER, end_field, push_separated};
 use crate::run::unanswered::UnansweredLine;
 use crate::scan::push::push_scanned;
 
 /// Appends the reply to a line, whose front may have been dropped because it is too long, and
 /// counts the line. Fails with the reason, and changes nothing, if the run ends at the line.
-// What each line takes is inlined, because a call passes texts and results through memory.
+// What most lines take is inlined, because a call passes texts and results through memory.
 #[inline(always)]
 pub fn push_reply(
     buffer: &mut Buffer,
@@ -39,100 +42,78 @@ pub fn push_reply(
         progress.new.tally line.now buffer.old buffer.new) }
     ensures counted { OnOk result (progress.new.tally.lines ≡ more progress.old.tally.lines) }
     ensures short { OnOk result (progress.new.is_long ≡ false) }
-    ensures ends { IfErr result (λ why. AtLine progress.old line.now (λ before whole.
-        (stops filter.now.on_invalid ≡ true) × IsAnswerOf filter.now before (text_of whole) (Err why))) }
+    ensures ends { IfErr result (EndsUnanswered filter.now progress.old line.now) }
     ensures same { OnErr result (buffer.new ≡ buffer.old) }
     ensures still { OnErr result (progress.new ≡ progress.old) }
 {
     let (text, has_return) = cut_return(line);
-    match push_line(buffer, filter, progress, text) {
-        Ok(goes_out) => {
-            push_end(buffer, goes_out, has_return);
-            progress.tally.count();
-            progress.is_long = false;
-            Ok(())
-        }
-        Err(why) => {
-            if stops(filter.on_invalid) {
-                return Err(why);
-            }
-            push_unanswered(buffer, filter, progress, text, has_return, why);
-            Ok(())
-        }
+    if let Some(goes_out) = push_simple(buffer, filter, progress, text) {
+        push_end(buffer, goes_out, has_return);
+        progress.tally.count();
+        return Ok(());
+    }
+    match push_otherwise(buffer, filter, progress, text, has_return) {
+        Ok(()) => Ok(()),
+        Err(why) => Err(why),
     }
 }
 
-/// Appends the answer to the text of a line, and returns whether the line goes out.
-#[inline(always)]
-fn push_line(
-    buffer: &mut Buffer,
-    filter: &Filter<'_>,
-    progress: &Progress,
-    text: &[u8],
-) -> Result<bool, NoAnswer>
-    requires { HasRoom longest_reply buffer.old }
-    ensures answered { (line : List ℕ) → text.now ≡ text_of line → AtLine progress.now line
-        (λ before whole. AppendsAnswer (IsAnswerOf filter.now before (text_of whole)) result buffer.old
-        buffer.new) }
-    ensures same { OnErr result (buffer.new ≡ buffer.old) }
-    ensures whole { OnOk result (progress.now.is_long ≡ false) }
-    ensures fits { IfErr result (λ why.
-        progress.now.is_long ≡ true ⊎ longest_text < length text.now → why ≡ NoAnswer.TooLong) }
-    ensures short { length buffer.new ≤ length buffer.old + longest_left }
-{
-    if progress.is_long || text.len() > LONGEST_TEXT {
-        return Err(NoAnswer::TooLong);
-    }
-    push_text(buffer, filter, progress.tally.lines, text)
-}
-
-/// Appends the reply to a line that has no answer and doesn't end the run, and counts the line. The
-/// line is given by its text and whether it has a carriage return.
-#[cold]
+/// Appends the reply to any line, given by its text and whether it has a carriage return.
 #[inline(never)]
-fn push_unanswered(
+fn push_otherwise(
     buffer: &mut Buffer,
     filter: &Filter<'_>,
     progress: &mut Progress,
     text: &[u8],
     with_return: bool,
-    why: NoAnswer,
-)
-    requires goes_on { stops filter.now.on_invalid ≡ false }
+) -> Result<(), NoAnswer>
     requires room { HasRoom longest_reply buffer.old }
     requires line { HasRoom (length text.now + (if with_return then 3 else 2)) buffer.old }
-    requires fits { progress.old.is_long ≡ true ⊎ longest_text < length text.now
-        → why ≡ NoAnswer.TooLong }
-    ensures replied { (line : List ℕ) → text.now ≡ text_of line → with_return ≡ has_return line
-        → AtLine progress.old line (λ before whole. IsAnswerOf filter.now before (text_of whole) (Err why))
+    ensures replied { OnOk result ((line : List ℕ) → text.now ≡ text_of line → with_return ≡ has_return line
         → AppendsReply (IsReplyTo filter.now) filter.now.on_invalid progress.old progress.new.tally
-        line buffer.old buffer.new }
-    ensures counted { progress.new.tally.lines ≡ more progress.old.tally.lines }
-    ensures short { progress.new.is_long ≡ false }
+        line buffer.old buffer.new) }
+    ensures counted { OnOk result (progress.new.tally.lines ≡ more progress.old.tally.lines) }
+    ensures short { OnOk result (progress.new.is_long ≡ false) }
+    ensures ends { IfErr result (λ why. (line : List ℕ) → text.now ≡ text_of line
+        → EndsUnanswered filter.now progress.old line why) }
+    ensures same { OnErr result (buffer.new ≡ buffer.old) }
+    ensures still { OnErr result (progress.new ≡ progress.old) }
 {
-    let reported = describe(progress, text, why);
-    let goes_out = push_instead(buffer, filter, progress.is_long, text, why);
+    let start = buffer.len();
+    let (goes_out, why) = push_line(buffer, filter, progress, text);
+    if let Some(why) = why {
+        if stops(filter.on_invalid) {
+            buffer.truncate(start);
+            return Err(why);
+        }
+    }
     push_end(buffer, goes_out, with_return);
-    progress.tally.count_unanswered(reported);
-    progress.is_long = false;
+    count(progress, text, why);
+    Ok(())
 }
 
-/// Appends the end of a line that goes out.
-fn push_end(buffer: &mut Buffer, goes_out: bool, with_return: bool)
-    requires { HasRoom (if goes_out then (if with_return then 2 else 1) else 0) buffer.old }
-    ensures { buffer.new ≡ buffer.old ++ (if goes_out
-        then (if with_return then 13 ∷ 10 ∷ [] else 10 ∷ []) else []) }
+/// Counts a line. The first one without an answer is kept.
+fn count(progress: &mut Progress, text: &[u8], why: Option<NoAnswer>)
+    ensures counted { (before : ℕ) → progress.old.tally.lines ≡ counted before
+        → IsCounted before why progress.old.tally progress.new.tally }
+    ensures lines { progress.new.tally.lines ≡ more progress.old.tally.lines }
+    ensures short { progress.new.is_long ≡ false }
 {
-    if goes_out {
-        buffer.push_end(with_return);
+    match why {
+        Some(why) => {
+            let reported = describe(progress, text, why);
+            progress.tally.count_unanswered(reported);
+        }
+        None => progress.tally.count(),
     }
+    progress.is_long = false;
 }
 
 /// Describes a line without an answer at which the run ends.
 #[cold]
 #[inline(never)]
 pub fn describe_line(progress: &Progress, line: &[u8], why: NoAnswer) -> UnansweredLine
-    ensures { AtLine progress.now line.now (λ before whole. Describes before whole why result) }
+    ensures { (before : ℕ) → progress.now.tally.lines ≡ counted before → Describes before why result }
 {
     let (text, _has_return) = cut_return(line);
     describe(progress, text, why)
@@ -140,8 +121,7 @@ pub fn describe_line(progress: &Progress, line: &[u8], why: NoAnswer) -> Unanswe
 
 /// Describes a line without an answer by its text.
 fn describe(progress: &Progress, text: &[u8], why: NoAnswer) -> UnansweredLine
-    ensures { (line : List ℕ) → text.now ≡ text_of line → AtLine progress.now line
-        (λ before whole. Describes before whole why result) }
+    ensures { (before : ℕ) → progress.now.tally.lines ≡ counted before → Describes before why result }
 {
     UnansweredLine {
         number: progress.tally.lines.saturating_add(1),
@@ -157,43 +137,153 @@ fn stops(on_invalid: OnInvalid) -> bool
     on_invalid == OnInvalid::Stop
 }
 
-/// Appends what goes out in place of the answer to the text of a line, and returns whether the line
-/// goes out. If the line is long, its front was dropped.
-fn push_instead(
-    buffer: &mut Buffer,
-    filter: &Filter<'_>,
-    is_long: bool,
-    text: &[u8],
-    why: NoAnswer,
-) -> bool
-    requires room { HasRoom longest_reply buffer.old }
-    requires line { HasRoom (length text.now + 1) buffer.old }
-    requires fits { is_long ≡ true ⊎ longest_text < length text.now → why ≡ NoAnswer.TooLong }
-    ensures whole { is_long ≡ false
-        → AppendsOut (IsInPlace filter.now text.now why) result buffer.old buffer.new }
-    ensures long { is_long ≡ true
-        → AppendsOut (λ out. out ≡ in_place filter.now.on_invalid filter.now.field text.now why) result
-        buffer.old buffer.new }
-    ensures short { length buffer.new
-        ≤ length buffer.old + max (length text.now + 1) longest_left }
+/// Appends the end of a line that goes out.
+fn push_end(buffer: &mut Buffer, goes_out: bool, with_return: bool)
+    requires { HasRoom (if goes_out then (if with_return then 2 else 1) else 0) buffer.old }
+    ensures { buffer.new ≡ buffer.old ++ (if goes_out
+        then (if with_return then 13 ∷ 10 ∷ [] else 10 ∷ []) else []) }
 {
-    match filter.field {
-        Some(field) if !is_long && text.len() <= LONGEST_TEXT && has_more(filter) => {
-            push_each(buffer, filter, field, filter.more.as_slice(), text).0
-        }
-        field => push_in_place(buffer, filter.on_invalid, field, text, why),
+    if goes_out {
+        buffer.push_end(with_return);
     }
 }
 
-/// Returns whether more than one field is answered.
-fn has_more(filter: &Filter<'_>) -> bool
-    ensures { result ≡ nat_lt 0 (length filter.now.more) }
+/// Appends the answer to the text of a line that is a text or has one in a field, without more, and
+/// returns whether the line goes out. Appends nothing if it has no answer, or otherwise.
+#[inline(always)]
+fn push_simple(
+    buffer: &mut Buffer,
+    filter: &Filter<'_>,
+    progress: &Progress,
+    text: &[u8],
+) -> Option<bool>
+    requires { HasRoom longest_reply buffer.old }
+    ensures out { MatchOption result (buffer.new ≡ buffer.old) (λ goes_out.
+        AppendsOut (IsAnswered filter.now text.now (pieces_of filter.now text.now) None) goes_out buffer.old buffer.new) }
+    ensures simple { IfSome result (λ goes_out. (progress.now.is_long ≡ false) × (length text.now ≤ longest_text)
+        × (filter.now.skip ≤ progress.now.tally.lines) × (filter.now.scans ≡ false)) }
+    ensures short { length buffer.new ≤ length buffer.old + longest_out }
 {
-    filter.more.as_slice().len() > 0
+    if progress.is_long || text.len() > LONGEST_TEXT || progress.tally.lines < filter.skip {
+        return None;
+    }
+    if !is_simple(filter) {
+        return None;
+    }
+    match filter.field {
+        Some(field) => push_field(buffer, filter, field, text),
+        None => match push_answer(buffer, filter, text) {
+            Ok(goes_out) => Some(goes_out),
+            Err(_) => None,
+        },
+    }
 }
 
-/// Appends what goes out in place of the answer to a field, and returns whether the line goes out.
-pub fn push_in_place(
+/// Returns whether the whole line or one field of it is answered in place, by itself. The field is
+/// not one of a CSV record.
+fn is_simple(filter: &Filter<'_>) -> bool
+    ensures scans { result ≡ true → filter.now.scans ≡ false }
+    ensures field { result ≡ true
+        → IfSome filter.now.field (λ field. (field.csv ≡ false) × (field.appends ≡ false)) }
+    ensures single { result ≡ true → IfSome filter.now.field (λ field. filter.now.several ≡ []) }
+    ensures other { result ≡ true → other_field filter.now ≡ None }
+{
+    if filter.scans {
+        return false;
+    }
+    let Some(field) = filter.field else {
+        return true;
+    };
+    if field.csv || field.appends || !filter.several.as_slice().is_empty() {
+        return false;
+    }
+    other_field(filter).is_none()
+}
+
+/// Appends the text, which isn't a CSV record, with the answer in place of the field, and returns
+/// whether the line goes out. Appends nothing if there is no answer.
+#[inline(always)]
+fn push_field(
+    buffer: &mut Buffer,
+    filter: &Filter<'_>,
+    field: Field,
+    text: &[u8],
+) -> Option<bool>
+    requires room { HasRoom longest_reply buffer.old }
+    requires fits { length text.now ≤ longest_text }
+    requires own { filter.now.field ≡ Some field }
+    requires single { filter.now.several ≡ [] }
+    requires plain { field.csv ≡ false }
+    requires in_place { field.appends ≡ false }
+    requires other { other_field filter.now ≡ None }
+    ensures out { MatchOption result (buffer.new ≡ buffer.old) (λ goes_out.
+        AppendsOut (IsAnswered filter.now text.now (pieces_of filter.now text.now) None) goes_out buffer.old buffer.new) }
+    ensures short { length buffer.new ≤ length buffer.old + longest_out }
+{
+    let (front, part, rest) = cut_field(field, text)?;
+    let start = buffer.len();
+    buffer.push(front);
+    match push_answer(buffer, filter, part) {
+        Ok(true) => {
+            buffer.push(rest);
+            Some(true)
+        }
+        Ok(false) => {
+            buffer.truncate(start);
+            Some(false)
+        }
+        Err(_) => {
+            buffer.truncate(start);
+            None
+        }
+    }
+}
+
+/// Appends what goes out for the text of a line, and returns whether anything does, and why the line
+/// has no answer. If the line is long, its front was dropped.
+fn push_line(
+    buffer: &mut Buffer,
+    filter: &Filter<'_>,
+    progress: &Progress,
+    text: &[u8],
+) -> (bool, Option<NoAnswer>)
+    requires room { HasRoom longest_reply buffer.old }
+    requires line { HasRoom (length text.now + 1) buffer.old }
+    ensures left { (line : List ℕ) → text.now ≡ text_of line
+        → Leaves filter.now progress.now line result.1 result.0 buffer.old buffer.new }
+    ensures short { length buffer.new ≤ length buffer.old + max (length text.now + 1) longest_out }
+{
+    let number = progress.tally.lines;
+    if progress.is_long || text.len() > LONGEST_TEXT {
+        let why = NoAnswer::TooLong;
+        let field = own_field(filter, number);
+        return (
+            push_in_place(buffer, filter.on_invalid, field, text, why),
+            Some(why),
+        );
+    }
+    if number < filter.skip {
+        return push_skipped(buffer, filter, number, text);
+    }
+    if filter.scans {
+        return push_texts(buffer, filter, text);
+    }
+    push_pieces(buffer, filter, text)
+}
+
+/// Returns the field that a line gets as a new one after `number` other lines. Of the skipped lines
+/// only the header gets one.
+fn own_field(filter: &Filter<'_>, number: u64) -> Option<Field>
+    ensures { (before : ℕ) → number ≡ counted before → result ≡ own_field filter.now before }
+{
+    if number < filter.skip && !(number == 0 && filter.column.is_some()) {
+        return None;
+    }
+    filter.field
+}
+
+/// Appends what goes out in place of a whole line, and returns whether anything does.
+fn push_in_place(
     buffer: &mut Buffer,
     mode: OnInvalid,
     field: Option<Field>,
@@ -202,12 +292,10 @@ pub fn push_in_place(
 ) -> bool
     requires room { HasRoom longest_reply buffer.old }
     requires line { HasRoom (length text.now + 1) buffer.old }
-    requires fits { longest_text < length text.now → why ≡ NoAnswer.TooLong }
     ensures text { buffer.new ≡ buffer.old
-        ++ unwrap_or (in_place mode field text.now why) [] }
-    ensures goes_out { result ≡ is_some (in_place mode field text.now why) }
-    ensures short { length buffer.new
-        ≤ length buffer.old + max (length text.now + 1) (longest_text + longest_field) }
+        ++ unwrap_or (instead mode (text_without field text.now) (reason why)) [] }
+    ensures goes_out { result ≡ is_some (instead mode (text_without field text.now) (reason why)) }
+    ensures short { length buffer.new ≤ length buffer.old + max (length text.now + 1) longest_text }
 {
     match mode {
         OnInvalid::Keep => {
@@ -215,7 +303,7 @@ pub fn push_in_place(
             true
         }
         OnInvalid::Answer => {
-            push_with_reason(buffer, field, text, why);
+            push_reason(buffer, why);
             true
         }
         OnInvalid::Drop | OnInvalid::Stop => false,
@@ -234,126 +322,24 @@ fn push_without(buffer: &mut Buffer, field: Option<Field>, text: &[u8])
     }
 }
 
-/// Appends the text with the reason in place of the answer, or the reason alone if the line is too
-/// long.
-fn push_with_reason(buffer: &mut Buffer, field: Option<Field>, text: &[u8], why: NoAnswer)
-    requires room { HasRoom longest_reply buffer.old }
-    requires fits { longest_text < length text.now → why ≡ NoAnswer.TooLong }
-    ensures text { buffer.new ≡ buffer.old ++ with_reason field text.now why }
-    ensures short { length buffer.new ≤ length buffer.old + longest_text + longest_field }
-{
-    match why {
-        NoAnswer::TooLong => push_reason(buffer, why),
-        _ => push_in_field(buffer, field, text, why),
-    }
-}
-
-/// Appends the text with the reason as a new field or in place of the field. A text that lacks the
-/// field stays as it is.
-fn push_in_field(buffer: &mut Buffer, field: Option<Field>, text: &[u8], why: NoAnswer)
-    requires room { HasRoom longest_reply buffer.old }
-    requires fits { length text.now ≤ longest_text }
-    ensures text { buffer.new ≡ buffer.old ++ text_with field text.now (reason why) }
-    ensures short { length buffer.new ≤ length buffer.old + longest_text + longest_field }
-{
-    match field {
-        Some(field) if field.appends => {
-            push_separated(buffer, field, text);
-            let start = buffer.len();
-            push_reason(buffer, why);
-            end_field(buffer, start, field, false);
-        }
-        Some(field) => match cut_field(field, text) {
-            Some((front, part, rest)) => {
-                let quoted = is_quoted(field, part);
-                buffer.push(front);
-                push_quote(buffer, quoted);
-                let start = buffer.len();
-                push_reason(buffer, why);
-                end_field(buffer, start, field, quoted);
-                buffer.push(rest);
-            }
-            None => buffer.push(text),
-        },
-        None => push_reason(buffer, why),
-    }
-}
-
-/// Appends the text of a line after `number` other lines, with its answer, and returns whether the
-/// line goes out.
-#[inline(always)]
-fn push_text(
+/// Appends what goes out for a line whose texts are answered.
+fn push_texts(
     buffer: &mut Buffer,
     filter: &Filter<'_>,
-    number: u64,
     text: &[u8],
-) -> Result<bool, NoAnswer>
+) -> (bool, Option<NoAnswer>)
     requires room { HasRoom longest_reply buffer.old }
     requires fits { length text.now ≤ longest_text }
-    ensures answered { (before : ℕ) → number ≡ counted before
-        → AppendsAnswer (IsAnswerOf filter.now before text.now) result buffer.old buffer.new }
-    ensures same { OnErr result (buffer.new ≡ buffer.old) }
-    ensures short { length buffer.new ≤ length buffer.old + longest_left }
+    ensures left { AppendsOut (λ out. (answer : Answer) × IsScanned filter.now text.now answer
+        × IsLine filter.now.on_invalid text.now answer result.1 out) result.0 buffer.old buffer.new }
+    ensures short { length buffer.new ≤ length buffer.old + longest_out }
 {
-    if number >= filter.skip && is_simple(filter) {
-        match filter.field {
-            Some(field) => return push_field(buffer, filter, field, text),
-            None => return push_answer(buffer, filter, text),
-        }
-    }
-    match push_otherwise(buffer, filter, number, text) {
-        Ok(goes_out) => Ok(goes_out),
-        Err(why) => Err(why),
-    }
-}
-
-/// Returns whether the whole line or one field of it is answered in place, by itself. The field is
-/// not one of a CSV record.
-fn is_simple(filter: &Filter<'_>) -> bool
-    ensures scans { result ≡ true → filter.now.scans ≡ false }
-    ensures field { result ≡ true
-        → IfSome filter.now.field (λ field. (field.csv ≡ false) × (field.appends ≡ false)) }
-    ensures single { result ≡ true → several filter.now.field filter.now.more ≡ [] }
-    ensures other { result ≡ true → other_field filter.now ≡ None }
-{
-    if filter.scans {
-        return false;
-    }
-    let Some(field) = filter.field else {
-        return true;
-    };
-    if field.csv || field.appends || has_more(filter) {
-        return false;
-    }
-    other_field(filter).is_none()
-}
-
-/// Appends the text of a line after `number` other lines, with its answer, whatever the options are.
-/// Returns whether the line goes out.
-#[inline(never)]
-fn push_otherwise(
-    buffer: &mut Buffer,
-    filter: &Filter<'_>,
-    number: u64,
-    text: &[u8],
-) -> Result<bool, NoAnswer>
-    requires room { HasRoom longest_reply buffer.old }
-    requires fits { length text.now ≤ longest_text }
-    ensures answered { (before : ℕ) → number ≡ counted before
-        → AppendsAnswer (IsAnswerOf filter.now before text.now) result buffer.old buffer.new }
-    ensures same { OnErr result (buffer.new ≡ buffer.old) }
-    ensures short { length buffer.new ≤ length buffer.old + longest_left }
-{
-    if number < filter.skip {
-        return push_skipped(buffer, filter, number, text);
-    }
-    if filter.scans {
-        return push_scanned(buffer, filter, text);
-    }
-    match filter.field {
-        Some(field) if has_more(filter) => push_several(buffer, filter, field, text),
-        Some(field) => push_in_record(buffer, filter, field, text),
-        None => push_by_forms(buffer, filter, text),
+    match push_scanned(buffer, filter, text) {
+        Ok(goes_out) => (goes_out, None),
+        Err(why) => (
+            push_in_place(buffer, filter.on_invalid, None, text, why),
+            Some(why),
+        ),
     }
 }
 
@@ -364,102 +350,50 @@ fn push_skipped(
     filter: &Filter<'_>,
     number: u64,
     text: &[u8],
-) -> Result<bool, NoAnswer>
+) -> (bool, Option<NoAnswer>)
     requires room { HasRoom longest_reply buffer.old }
     requires fits { length text.now ≤ longest_text }
-    ensures answered { (before : ℕ) → number ≡ counted before
-        → AppendsAnswer (λ answer. answer ≡ skipped filter.now before text.now) result buffer.old buffer.new }
-    ensures same { OnErr result (buffer.new ≡ buffer.old) }
-    ensures short { length buffer.new ≤ length buffer.old + longest_text + longest_field }
+    requires skipped { number < filter.now.skip }
+    ensures left { (before : ℕ) → number ≡ counted before → AppendsOut (IsLine filter.now.on_invalid
+        (text_without (own_field filter.now before) text.now) (skipped filter.now before text.now) result.1)
+        result.0 buffer.old buffer.new }
+    ensures short { length buffer.new ≤ length buffer.old + longest_out }
 {
-    if number == 0 {
-        push_header(buffer, filter.field, &filter.column, text)
-    } else {
-        buffer.push(text);
-        Ok(true)
-    }
-}
-
-/// Appends the text of the header, with the name of a new field if there is one.
-fn push_header(
-    buffer: &mut Buffer,
-    field: Option<Field>,
-    name: &Option<FieldName<'_>>,
-    text: &[u8],
-) -> Result<bool, NoAnswer>
-    requires room { HasRoom longest_reply buffer.old }
-    requires fits { length text.now ≤ longest_text }
-    ensures answered { AppendsAnswer (λ answer. answer ≡ header_with field name.now text.now) result buffer.old buffer.new }
-    ensures same { OnErr result (buffer.new ≡ buffer.old) }
-    ensures short { length buffer.new ≤ length buffer.old + longest_text + longest_field }
-{
-    match (field, name) {
-        (Some(field), Some(name)) => push_column(buffer, field, name.as_bytes(), text),
+    match (filter.field, &filter.column) {
+        (Some(field), Some(name)) if number == 0 => {
+            push_header(buffer, filter.on_invalid, field, name.as_bytes(), text)
+        }
         _ => {
             buffer.push(text);
-            Ok(true)
+            (true, None)
         }
     }
 }
 
 /// Appends the text of the header with the name of a new field.
-fn push_column(
+fn push_header(
     buffer: &mut Buffer,
+    mode: OnInvalid,
     field: Field,
     name: &[u8],
     text: &[u8],
-) -> Result<bool, NoAnswer>
+) -> (bool, Option<NoAnswer>)
     requires room { HasRoom longest_reply buffer.old }
     requires fits { length text.now ≤ longest_text }
-    ensures answered { AppendsAnswer (λ answer. answer ≡ with_name field text.now name.now) result buffer.old buffer.new }
-    ensures same { OnErr result (buffer.new ≡ buffer.old) }
-    ensures short { length buffer.new ≤ length buffer.old + longest_text + longest_field }
+    ensures left { AppendsOut (IsLine mode (text_without (Some field) text.now) (with_name field text.now name.now) result.1)
+        result.0 buffer.old buffer.new }
+    ensures short { length buffer.new ≤ length buffer.old + longest_out }
 {
     if name.len() > LONGEST_ANSWER {
-        return Err(NoAnswer::TooLong);
+        let why = NoAnswer::TooLong;
+        return (
+            push_in_place(buffer, mode, Some(field), text, why),
+            Some(why),
+        );
     }
     push_separated(buffer, field, text);
     let start = buffer.len();
     buffer.push(name);
     end_field(buffer, start, field, false);
-    Ok(true)
-}
-
-/// Appends the text, which isn't a CSV record, with the answer in place of the field, and returns
-/// whether the line goes out.
-#[inline(always)]
-fn push_field(
-    buffer: &mut Buffer,
-    filter: &Filter<'_>,
-    field: Field,
-    text: &[u8],
-) -> Result<bool, NoAnswer>
-    requires room { HasRoom longest_reply buffer.old }
-    requires fits { length text.now ≤ longest_text }
-    requires plain { field.csv ≡ false }
-    requires in_place { field.appends ≡ false }
-    requires other { other_field filter.now ≡ None }
-    ensures answered { AppendsAnswer (IsAnswerToText filter.now (Some field) text.now) result
-        buffer.old buffer.new }
-    ensures short { length buffer.new ≤ length buffer.old + longest_text + longest_field }
-{
-    let Some((front, part, rest)) = cut_field(field, text) else {
-        return Err(NoAnswer::NoField);
-    };
-    let start = buffer.len();
-    buffer.push(front);
-    match push_answer(buffer, filter, part) {
-        Ok(true) => {
-            buffer.push(rest);
-            Ok(true)
-        }
-        Ok(false) => {
-            buffer.truncate(start);
-            Ok(false)
-        }
-        Err(why) => {
-            buffer.truncate(start);
-            Err(why)
-        }
-    }
+    (true, None)
 }

@@ -13,7 +13,7 @@ ghost use Rattle.caldate_run.specs.declared.run.no_answer.NoAnswer.{NoAnswer};
 
 use crate::reading::full_text::LONGEST;
 use crate::reading::reader::{Assumptions, Reader};
-use crate::reading::spelling::Spelling;
+use crate::reading::spelling::{Spelling, unix_text};
 use crate::reading::value_format::ValueFormat;
 use crate::reading::{Reading, read_in};
 use crate::request::Filter;
@@ -155,7 +155,7 @@ fn bound_by_spelling(spelling: Spelling, any: usize, bytes: &[u8]) -> usize
 {
     match spelling {
         Spelling::Iso => bound_by_iso(any, bytes),
-        Spelling::Seconds => bytes.len().min(LONGEST),
+        Spelling::Seconds => bound_by_seconds(bytes),
     }
 }
 
@@ -176,4 +176,17 @@ fn bound_by_iso(any: usize, bytes: &[u8]) -> usize
     } else {
         longest.min(any + PAST_COLON)
     }
+}
+
+/// Returns the bound for texts of seconds, which may lack the `@` of the six forms.
+fn bound_by_seconds(bytes: &[u8]) -> usize
+    ensures within { result ≤ length bytes.now }
+    ensures text { (n : ℕ) (found : DateOrMoment) → n ≤ length bytes.now
+        → IsSomeAnd (full_by Spelling.Seconds (take n bytes.now)) (λ full. IsTextOf full found)
+        → n ≤ result }
+{
+    let front = &bytes[..bytes.len().min(LONGEST)];
+    let full = unix_text(front);
+    let added = full.as_bytes().len().saturating_sub(front.len());
+    bound_by_form(Reading::Any, full.as_bytes()).saturating_sub(added)
 }

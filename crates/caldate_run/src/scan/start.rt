@@ -3,7 +3,7 @@ ghost use Rattle.std.specs.Prelude.{◌≡◌, ◌<◌, ◌≤◌, ℕ, List, So
 ghost use Rattle.cal_text.specs.declared.any.DateOrMoment.{DateOrMoment};
 ghost use Rattle.caldate_run.specs.Readers.{IsFoundBy, IsTextBy, IsUnread, named};
 ghost use Rattle.caldate_run.specs.Readings.{HasFormIn};
-ghost use Rattle.caldate_run.specs.Scans.{AreUsual, IsUsual, are_digits, has_form, is_digit_or_hyphen, is_last, is_mark, is_usual_end, is_usual_start};
+ghost use Rattle.caldate_run.specs.Scans.{AreUsual, IsUsual, are_digits, has_form, has_short_year, is_digit_or_hyphen, is_last, is_mark, is_usual_end, is_usual_start};
 ghost use Rattle.caldate_run.specs.declared.reading.Reading.{Reading};
 ghost use Rattle.caldate_run.specs.declared.reading.reader.Assumptions.{Assumptions};
 ghost use Rattle.caldate_run.specs.declared.run.no_answer.NoAnswer.{NoAnswer};
@@ -67,6 +67,15 @@ fn is_mark(byte: u8) -> bool
     ensures { result ≡ is_mark byte }
 {
     byte == b'-' || byte == b'+' || byte == b'@' || byte == b'J'
+}
+
+/// Returns whether the bytes start with a sign before a year of four digits, as in `-2024-02-29`.
+#[inline(always)]
+pub fn has_short_year(bytes: &[u8]) -> bool
+    ensures { result ≡ has_short_year bytes.now }
+{
+    let first = byte_at(bytes, 0);
+    (first == b'+' || first == b'-') && byte_at(bytes, 5) == b'-' && are_digits(bytes, 1)
 }
 
 /// Returns whether the four bytes from an index on are digits.

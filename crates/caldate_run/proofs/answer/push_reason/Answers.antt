@@ -1,5 +1,5 @@
 use Rattle.std.proofs.Common.{◌∙◌, ◌++◌, codes, decimal, ap, sym, append_assoc}
-use Rattle.caldate_run.specs.Replies.{reason}
+use Rattle.caldate_run.specs.Reasons.{reason}
 use Rattle.caldate_run.proofs.answer.push_reason.Goals as goal
 
 pub returns-in-Unreadable-clause-text : goal.returns-in-Unreadable-clause-text

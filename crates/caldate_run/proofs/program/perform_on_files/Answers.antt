@@ -1,4 +1,5 @@
 use Rattle.std.proofs.Common.{refl}
+use Rattle.caldate_run.proofs.Named.{named_weaker}
 use Rattle.caldate_run.proofs.Reported.{fails_or_keeps, steps_read}
 use Rattle.caldate_run.proofs.program.perform_on_files.Goals as goal
 
@@ -13,4 +14,6 @@ returns-clause-status g c = (
   refl,
   c.status.ensures,
   λ filter given. let lines = c.perform-ending.ensures.lines filter given in (lines.0, lines.1, lines.3, lines.4),
+  λ filter field given. named_weaker filter field _ _ _ _ _ (λ numbered outcome h. (h.0, h.2, h.3)) (λ failed words h. (h.1, h.2, h.3)) (c.perform-ending.ensures.named filter field given),
+  c.perform-ending.ensures.usage_error,
 )

@@ -1,8 +1,8 @@
-use Rattle.std.proofs.Common.{ℕ, ◌+◌, ◌∙◌, ap, arith, subst, sym}
-use Rattle.caldate_run.specs.Scans.{IsTextAt, NoneFrom, is_of_word}
-use Rattle.caldate_run.proofs.Scans.{none_in_word, none_joined, none_more}
+use Rattle.std.proofs.Common.{ℕ, ◌+◌, ◌∙◌, arith, subst, sym}
+use Rattle.caldate_run.specs.Scans.{IsTextAt, NoneFrom}
+use Rattle.caldate_run.proofs.Scans.{none_begins, none_joined, none_more}
 use Rattle.caldate_run.proofs.scan.first_text.Goals as goal
-use Rattle.caldate_run.proofs.scan.first_text.Goals.{else-not-is_of_word, then-not-is_of_word+in_default}
+use Rattle.caldate_run.proofs.scan.first_text.Goals.{else-may_begin, then-may_begin+in_default}
 
 pub loop-place-preserved : goal.loop-place-preserved
 loop-place-preserved c =
@@ -10,9 +10,9 @@ loop-place-preserved c =
     let line = c.args.line.now in
     let place = c.loop-place.place in
     let next = c.first_start-place-in-loop-place in
-    let none : (n : ℕ) → IsTextAt filter line place n → ⊥ = elim c.if-not-is_of_word.branch [
-      | then-not-is_of_word+in_default w ↦ w.in_default.ensures
-      | else-not-is_of_word w ↦ λ n. none_in_word filter line place n (sym (c.is_of_word.ensures ∙ ap is_of_word c.byte_before.ensures) ∙ w.if-not-is_of_word.false)
+    let none : (n : ℕ) → IsTextAt filter line place n → ⊥ = elim c.if-may_begin.branch [
+      | then-may_begin+in_default w ↦ w.in_default.ensures
+      | else-may_begin w ↦ λ n. none_begins filter line place n (sym c.may_begin.ensures ∙ w.if-may_begin.false)
     ] in record {
       from = omega (arith, c.loop-place.invariant.from, next.ensures.from);
       none = none_joined filter line c.args.from (place + 1) next.result (none_more filter line c.args.from place (λ n some. none n) c.loop-place.invariant.none) next.ensures.none;

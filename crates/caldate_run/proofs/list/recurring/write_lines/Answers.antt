@@ -1,43 +1,51 @@
-use Rattle.std.proofs.Common.{ℕ, List, ◌++◌, ◌∷◌, ◌∙◌, ap, sym, arith, rules, length, length-append, []}
-use Rattle.std.specs.Prelude.{IsErrAnd}
-use Rattle.std.proofs.KnownBytes.{Appends-nil, Appends-trans}
-use Rattle.caldate_run.specs.Calls.Writes.{no_more}
+use Rattle.std.proofs.Common.{◌≡◌, ◌++◌, ◌∷◌, [], ◌∙◌, ℕ, List, Err, ap, append_assoc, arith, length, length-append, refl, subst, sym}
+use Rattle.std.proofs.lemmas.List.{append-nil}
+use Rattle.caldate_run.specs.Calls.{Writes, write_failure}
+use Rattle.caldate_run.specs.Outputs.{HasTaken, WritesPage}
 use Rattle.caldate_run.specs.Recurring.{lines_left}
-use Rattle.caldate_run.specs.Runs.{IsOfWrite}
-use Rattle.caldate_run.proofs.Calls.{writes_then}
-use Rattle.caldate_run.proofs.Listed.{lines_ended, lines_failed, one_text_more}
+use Rattle.caldate_run.proofs.Outputs.{new_output, page_longer, taken_all}
 use Rattle.caldate_run.proofs.list.recurring.write_lines.Goals as goal
 
-pub loop-text-init : goal.loop-text-init
-loop-text-init g c = (([], ap (λ (l : List ℕ). l ++ lines_left c.args.rest) (sym c.new-buffer.ensures), Appends-nil _), no_more _)
+-- one text more
+more : (all given text bytes old left : List ℕ) → all ≡ given ++ old → old ≡ text ++ 10 ∷ left → bytes ≡ text → all ≡ (given ++ (bytes ++ 10 ∷ [])) ++ left
+more all given text bytes old left e next same =
+    e ∙ ap (λ l. given ++ l) (next ∙ ap (λ t. t ++ 10 ∷ left) (sym same) ∙ sym (append_assoc bytes (10 ∷ []) left)) ∙ sym (append_assoc given (bytes ++ 10 ∷ []) left)
 
-pub returns-in_err-make_room-clause-lines : goal.returns-in_err-make_room-clause-lines
-returns-in_err-make_room-clause-lines g c =
-    let inv = c.loop-text.invariant.0 in
-    let is : IsErrAnd c.from_residual.result IsOfWrite = search rules in
-    lines_failed _ _ _ _ _ inv.0 c.loop-text.buffer _ is inv.1 inv.2 c.in_err-make_room.ensures.front
+pub loop-text-init : goal.loop-text-init
+loop-text-init g c = ([], new_output g.W.Sink.contents g.W.Sink.write_gives _ c.new-output.result c.new-output.ensures.buffer c.new-output.ensures.outcome, refl)
 
 pub loop-text-preserved : goal.loop-text-preserved
 loop-text-preserved g c =
-    let inv = c.loop-text.invariant.0 in
-    let room = c.in_ok-make_room.ensures.ok in
-    let next = inv.1 ∙ ap (λ l. inv.0 ++ (c.loop-text.buffer ++ l)) c.in-Some.ensures.next in
-    let text = c.push.ensures.appended ∙ ap (λ l. c.make_room.new.buffer ++ l) c.as_bytes.ensures.value in
-    let line = c.push-in-Some.ensures.appended ∙ ap (λ l. l ++ 10 ∷ []) text in (
-      (
-        inv.0 ++ room.0,
-        one_text_more _ inv.0 c.loop-text.buffer room.0 _ _ _ next room.1 ∙ ap (λ l. (inv.0 ++ room.0) ++ (l ++ lines_left c.next_text.new.self)) (sym line),
-        Appends-trans _ _ _ _ _ inv.2 room.2,
-      ),
-      writes_then _ _ _ _ _ c.loop-text.invariant.1 c.in_ok-make_room.ensures.writes,
+    let (given, outputs, e) = c.loop-text.invariant in (
+      given ++ (c.as_bytes.result.now ++ 10 ∷ []),
+      c.push_line.ensures.given given _ outputs,
+      more _ given c.in-Some.text c.as_bytes.result.now _ _ e c.in-Some.ensures.next c.as_bytes.ensures.value,
     )
 
 pub loop-text-smaller : goal.loop-text-smaller
 loop-text-smaller g c = omega (arith, ap length c.in-Some.ensures.next, length-append c.in-Some.text (10 ∷ lines_left c.next_text.new.self))
 
+pub returns-in-Err-clause-lines : goal.returns-in-Err-clause-lines
+returns-in-Err-clause-lines g c =
+    let (given, outputs, e) = c.loop-text.invariant in
+    let bytes = given ++ (c.as_bytes.result.now ++ 10 ∷ []) in
+    page_longer bytes (lines_left c.next_text.new.self) _ (Err c.in-Err.error) (g.W.Sink.contents c.args.writer.now) (g.W.Sink.contents c.push_line.new.writer) (more _ given c.in-Some.text c.as_bytes.result.now _ _ e c.in-Some.ensures.next c.as_bytes.ensures.value) tt
+    (subst (λ outcome. HasTaken outcome bytes c.push_line.new.self.buffer (g.W.Sink.contents c.args.writer.now) (g.W.Sink.contents c.push_line.new.writer)) (sym c.push_line.ensures.value ∙ c.in-Err.is)
+    (c.push_line.ensures.given given _ outputs).taken)
+
+pub returns-in-Err-clause-writes : goal.returns-in-Err-clause-writes
+returns-in-Err-clause-writes g c =
+    let (given, outputs, e) = c.loop-text.invariant in
+    subst (λ outcome. Writes g.W.Sink.write_gives c.args.writer.now (write_failure outcome) c.push_line.new.writer) (sym c.push_line.ensures.value ∙ c.in-Err.is) (c.push_line.ensures.given given _ outputs).writes
+
 pub returns-clause-lines : goal.returns-clause-lines
 returns-clause-lines g c =
-    let inv = c.loop-text.invariant.0 in
-    lines_ended c.write_all.result _ _ _ _ inv.0 c.as_bytes-2.result.now (lines_left c.loop-text.rest) c.in_default.ensures.next
-    (inv.1 ∙ ap (λ l. inv.0 ++ (l ++ lines_left c.loop-text.rest)) (sym c.as_bytes-2.ensures)) inv.2
-    c.write_all.ensures.ok c.write_all.ensures.front c.write_all.ensures.err
+    let (given, outputs, e) = c.loop-text.invariant in
+    let outputs = c.finish.ensures.passes_on given _ outputs in
+    subst (λ page. WritesPage page c.finish.result (g.W.Sink.contents c.args.writer.now) (g.W.Sink.contents c.finish.new.writer)) (sym (e ∙ ap (λ l. given ++ l) c.in_default.ensures.next ∙ append-nil given))
+    (subst (λ outcome. WritesPage given outcome (g.W.Sink.contents c.args.writer.now) (g.W.Sink.contents c.finish.new.writer)) (sym c.finish.ensures.value) (taken_all c.finish.new.self.outcome given c.finish.new.self.buffer _ _ c.finish.ensures.none outputs.taken))
+
+pub returns-clause-writes : goal.returns-clause-writes
+returns-clause-writes g c =
+    let (given, outputs, e) = c.loop-text.invariant in
+    subst (λ outcome. Writes g.W.Sink.write_gives c.args.writer.now (write_failure outcome) c.finish.new.writer) (sym c.finish.ensures.value) (c.finish.ensures.passes_on given _ outputs).writes

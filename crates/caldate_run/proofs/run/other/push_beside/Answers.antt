@@ -12,7 +12,7 @@ push_count-requires c = record {
 
 pub returns-in-Err-clause-answered : goal.returns-in-Err-clause-answered
 returns-in-Err-clause-answered c =
-    (refl, beside c.args.filter.now c.args.other c.args.text.now c.args.asked.now (Err c.in-Err.why) (Err c.in-Err.why) c.requires.other c.in-Err.ensures.value refl)
+    (refl, beside c.args.filter.now c.args.other c.args.text.now c.args.asked.now (Err c.in-Err.why) (Err c.in-Err.why) c.requires.other c.in-Err.ensures refl)
 
 pub returns-in-Ok-read_with-clause-answered : goal.returns-in-Ok-read_with-clause-answered
 returns-in-Ok-read_with-clause-answered c =
@@ -21,7 +21,7 @@ returns-in-Ok-read_with-clause-answered c =
     let put = c.push_count.ensures.text asked in (
       put.0,
       put.1,
-      beside filter c.args.other c.args.text.now asked (Ok (Some put.0)) (Ok c.in-Ok.target) c.requires.other c.in-Ok.ensures.value
+      beside filter c.args.other c.args.text.now asked (Ok (Some put.0)) (Ok c.in-Ok.target) c.requires.other c.in-Ok.ensures
           (c.in-Ok-read_with.found, c.in-Ok-read_with.ensures.has, put.2),
     )
 
@@ -30,4 +30,4 @@ returns-in-Err-read_with-clause-answered c =
     let filter = c.args.filter.now in
     let asked = c.args.asked.now in
     let why = c.in-Err-read_with.why in
-    (refl, beside filter c.args.other c.args.text.now asked (Err why) (Ok c.in-Ok.target) c.requires.other c.in-Ok.ensures.value (unread (with_text filter c.in-Ok.target) asked why c.in-Err-read_with.ensures.error))
+    (refl, beside filter c.args.other c.args.text.now asked (Err why) (Ok c.in-Ok.target) c.requires.other c.in-Ok.ensures (unread (with_text filter c.in-Ok.target) asked why c.in-Err-read_with.ensures.error))

@@ -1,0 +1,153 @@
+//! Pieces of a line.
+ghost use Rattle.std.specs.Prelude.{◌≡◌, ◌+◌, ◌≤◌, ◌++◌, IfSome, Some, length, option_map};
+ghost use Rattle.caldate_run.specs.Fields.{cut_of, field_text, selected_text};
+ghost use Rattle.caldate_run.specs.Pieces.{field_end, field_piece, later_cut, missing, new_field, whole};
+ghost use Rattle.caldate_run.specs.Room.{HasRoom, longest_text};
+
+use crate::input::field_text::{FieldText, plain_text};
+use crate::input::fields::cut_field;
+use crate::output::buffer::Buffer;
+use crate::request::Field;
+use std::marker::Model;
+
+/// Bytes that stay, perhaps with a separator, and then the bytes that the answer to a text replaces.
+#[derive(Drop)]
+pub struct Piece<'a> {
+    kept: &'a [u8],
+    separator: Option<u8>,
+    source: &'a [u8],
+    part: Option<&'a [u8]>,
+    csv: bool,
+    rank: u8,
+}
+
+impl<'a> Model for Piece<'a> {
+    ghost use Rattle.std.specs.Prelude.{◌≤◌, ◌++◌, IfSome, length, option_map, option_to_list};
+    ghost use Rattle.caldate_run.specs.Fields.{field_text};
+    ghost use Rattle.caldate_run.specs.Pieces.{Piece as TextPiece};
+    ghost use Rattle.caldate_run.specs.Room.{longest_text};
+
+    ghost Value = { TextPiece };
+
+    ghost view = { λ piece. record {
+        kept = piece.kept.now ++ option_to_list piece.separator;
+        source = piece.source.now;
+        asked = option_map (λ part. field_text piece.csv part.now) piece.part;
+        rank = piece.rank
+    } };
+
+    ghost invariant = { λ piece. IfSome piece.part (λ part. length part.now ≤ longest_text) };
+}
+
+impl<'a> Piece<'a> {
+    /// Appends the bytes that stay.
+    pub fn push_kept(&self, buffer: &mut Buffer)
+        requires { HasRoom (length self.now.kept) buffer.old }
+        ensures { buffer.new ≡ buffer.old ++ self.now.kept }
+    {
+        buffer.push(self.kept);
+        if let Some(separator) = self.separator {
+            buffer.push(&[separator]);
+        }
+    }
+
+    /// Returns the bytes that the answer replaces.
+    pub fn source(&self) -> &[u8]
+        ensures { result.now ≡ self.now.source }
+    {
+        self.source
+    }
+
+    /// Returns the text if the bytes of the line have it as it is.
+    #[inline(always)]
+    pub fn plain(&self) -> Option<&[u8]>
+        ensures text { IfSome result (λ text. self.now.asked ≡ Some text.now) }
+        ensures few { IfSome result (λ text. length text.now ≤ longest_text) }
+    {
+        plain_text(self.csv, self.part?)
+    }
+
+    /// Returns the text, if the line has it.
+    pub fn text(&self) -> Option<FieldText>
+        ensures { result ≡ self.now.asked }
+    {
+        Some(FieldText::new(self.csv, self.part?))
+    }
+}
+
+/// Cuts a line that is one text.
+pub fn whole(text: &[u8]) -> Piece<'_>
+    requires { length text.now ≤ longest_text }
+    ensures { result ≡ whole text.now }
+{
+    Piece {
+        kept: b"",
+        separator: None,
+        source: text,
+        part: Some(text),
+        csv: false,
+        rank: 0,
+    }
+}
+
+/// Cuts a line that gets the answer to its field as a new field.
+pub fn new_field(field: Field, text: &[u8]) -> Piece<'_>
+    requires { length text.now ≤ longest_text }
+    ensures { result ≡ new_field field text.now }
+{
+    Piece {
+        kept: text,
+        separator: Some(field.separator),
+        source: b"",
+        part: part_of(field, text),
+        csv: field.csv,
+        rank: 0,
+    }
+}
+
+/// Returns the field, if the line has it.
+fn part_of(field: Field, text: &[u8]) -> Option<&[u8]>
+    ensures part { option_map (λ part. field_text field.csv part.now) result ≡ selected_text field text.now }
+    ensures fits { IfSome result (λ part. length part.now ≤ length text.now) }
+{
+    Some(cut_field(field, text)?.1)
+}
+
+/// Cuts a field off a line, after its first `at` bytes, and returns where the field ends.
+pub fn field_piece(field: Field, rank: u8, text: &[u8], at: usize) -> (Piece<'_>, usize)
+    requires at { at ≤ length text.now }
+    requires fits { length text.now ≤ longest_text }
+    ensures piece { result.0 ≡ field_piece field rank at (later_cut at (cut_of field text.now)) }
+    ensures end { result.1 ≡ field_end at (later_cut at (cut_of field text.now)) }
+    ensures within { result.1 ≤ length text.now }
+    ensures short { length result.0.kept + length result.0.source + at ≤ result.1 }
+{
+    match cut_field(field, text) {
+        Some((front, part, _rest)) if at <= front.len() => {
+            let piece = Piece {
+                kept: &front[at..],
+                separator: None,
+                source: part,
+                part: Some(part),
+                csv: field.csv,
+                rank,
+            };
+            (piece, front.len() + part.len())
+        }
+        _ => (missing(rank), at),
+    }
+}
+
+/// Returns the piece of a field that the line lacks.
+fn missing<'a>(rank: u8) -> Piece<'a>
+    ensures { result ≡ missing rank }
+{
+    Piece {
+        kept: b"",
+        separator: None,
+        source: b"",
+        part: None,
+        csv: false,
+        rank,
+    }
+}
