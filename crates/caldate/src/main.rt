@@ -4,12 +4,13 @@
 
 use cal_time::Date;
 use caldate_run::args::arguments::{MAX_BYTES, join};
+use caldate_run::args::asked_by;
 use caldate_run::clock::read_clock;
+use caldate_run::data_files::system_files::SystemFiles;
 use caldate_run::files::Joined;
 use caldate_run::files::named_files::NamedFiles;
-use caldate_run::holidays::holiday_source::{MAX_HOLIDAYS, read_files};
+use caldate_run::holidays::MAX_HOLIDAYS;
 use caldate_run::program::{perform, perform_on_files};
-use caldate_run::zones::DataFiles;
 use caldate_run::zones::zone_source::{MAX_FILE_BYTES, MAX_PATH_BYTES, find_folder};
 use std::io;
 use std::process::ExitCode;
@@ -21,28 +22,21 @@ fn main(rt: HostRuntime) -> ExitCode {
     let joined = join(&rt, &mut arguments);
     let words = joined.map(|joined| joined.words);
     let mut folder = [0u8; MAX_PATH_BYTES];
+    let folder = find_folder(&rt, &mut folder);
     let mut first = [0u8; MAX_FILE_BYTES];
     let mut second = [0u8; MAX_FILE_BYTES];
-    let length = find_folder(&rt, &mut folder);
-    let folder = &folder[..length];
     let mut days = [Date::MIN; MAX_HOLIDAYS];
-    let mut files = DataFiles {
-        folder,
-        first: None,
-        second: None,
-        holidays: None,
-    };
-    if let Some(words) = words {
-        files = read_files(&rt, words, folder, &mut first, &mut second, &mut days);
-    }
+    let mut files = SystemFiles::new(&rt, folder, &mut first, &mut second, &mut days);
+    let asked = asked_by(words, now, &mut files);
+    let words = words.unwrap_or(b"");
     let mut writer = io::writer(&rt);
     let mut errors = rt.stderr();
     let Some(first) = joined.and_then(|joined| joined.first_file) else {
         let mut reader = rt.reader();
-        let ending = perform(words, &now, &files, &mut reader, &mut writer, &mut errors);
+        let ending = perform(asked, words, &now, &mut reader, &mut writer, &mut errors);
         return ExitCode::from(ending.status);
     };
     let mut input = Joined::new(NamedFiles::new(&rt, first, rt.reader(), rt.stderr()));
-    let ending = perform_on_files(words, &now, &files, &mut input, &mut writer, &mut errors);
+    let ending = perform_on_files(asked, words, &now, &mut input, &mut writer, &mut errors);
     ExitCode::from(ending.status)
 }

@@ -1,18 +1,15 @@
 -- The header, and the names of its fields.
-use Rattle.std.proofs.Common.{◌≡◌, ◌++◌, ◌∷◌, ◌∙◌, ◌+◌, ◌<◌, ◌≤◌, ℕ, Bool, List, [], Option, Some, ap, append_assoc, arith, cond, drop, false, get_or, length, length-append, length-take, refl, sym, take, true}
-use Rattle.std.specs.Prelude.{◌&&◌, codes, nat_le}
+use Rattle.std.proofs.Common.{◌≡◌, ◌++◌, ◌∷◌, ◌∙◌, ◌+◌, ◌<◌, ◌≤◌, ℕ, Bool, List, [], Option, Some, ap, append_assoc, arith, cond, drop, false, get_or, length, length-append, refl, sym, true}
+use Rattle.std.specs.Prelude.{◌&&◌, nat_le}
 use Rattle.std.proofs.lemmas.Bool.{false≢true}
 use Rattle.std.proofs.lemmas.Bool.Decides.{nat_tests}
-use Rattle.std.proofs.lemmas.List.{append-nil, length-map}
-use Rattle.caldate_run.specs.Excerpts.{excerpt_of, printable}
-use Rattle.caldate_run.specs.Fields.{fields_of, is_quote}
-use Rattle.caldate_run.specs.Header.{HasLine, field_name, first_part, has_name, header_of, is_pair, name_number, names_text, unescaped}
+use Rattle.std.proofs.lemmas.List.{append-nil}
+use Rattle.caldate_run.specs.Fields.{is_quote}
+use Rattle.caldate_run.specs.Header.{HasLine, first_part, has_name, header_of, is_pair, name_number, unescaped}
 use Rattle.caldate_run.specs.Lines.{split_input, text_of}
 use Rattle.caldate_run.specs.RunStates.{FirstEnds, NoEnd}
-use Rattle.caldate_run.specs.UsageMessages.{quoted}
 use Rattle.caldate_run.specs.declared.request.Field.{Field}
 use Rattle.caldate_run.specs.declared.run.quoting.Quoting.TheVariants.{Ready}
-use Rattle.caldate_run.proofs.Cuts.{some_fields}
 use Rattle.caldate_run.proofs.Ends.{empty}
 use Rattle.caldate_run.proofs.Splits.{parts_some}
 
@@ -41,25 +38,6 @@ pub name_passed : (field : Field) (name part : List ℕ) (parts others : List (L
     → name_number n field name parts ≡ all → name_number (n + 1) field name others ≡ all
 name_passed field name part parts others n all cut test inv =
     sym (ap (name_number n field name) cut ∙ ap (λ b. cond b (Some n) (name_number (n + 1) field name others)) test) ∙ inv
-
-names_more : (field : Field) (part : List ℕ) (parts : List (List ℕ)) → 0 < length parts
-    → names_text field (part ∷ parts) ≡ (quoted (field_name field part) ++ codes ", ") ++ names_text field parts
-names_more field part [] h = absurd (omega (arith, h))
-names_more field part (next ∷ parts) h = refl
-
-pub name_pushed : (field : Field) (words words_now rest part others all : List ℕ) → fields_of field rest ≡ part ∷ fields_of field others
-    → words_now ≡ (words ++ quoted (field_name field part)) ++ codes ", " → words ++ names_text field (fields_of field rest) ≡ all
-    → words_now ++ names_text field (fields_of field others) ≡ all
-name_pushed field words words_now rest part others all cut e inv =
-    let name = quoted (field_name field part) in
-    let more = names_text field (fields_of field others) in
-    ap (λ w. w ++ more) e ∙ append_assoc (words ++ name) (codes ", ") more ∙ append_assoc words name (codes ", " ++ more)
-    ∙ ap (λ l. words ++ l) (sym (append_assoc name (codes ", ") more) ∙ sym (names_more field part (fields_of field others) (some_fields field others)) ∙ ap (names_text field) (sym cut))
-    ∙ inv
-
-pub last_name_pushed : (field : Field) (words words_now rest all : List ℕ) → fields_of field rest ≡ rest ∷ []
-    → words_now ≡ words ++ quoted (field_name field rest) → words ++ names_text field (fields_of field rest) ≡ all → words_now ≡ all
-last_name_pushed field words words_now rest all cut e inv = e ∙ ap (λ l. words ++ l) (sym (ap (names_text field) cut)) ∙ inv
 
 -- ---- doubled quotes
 second : (b c : Bool) → (b && c) ≡ true → c ≡ true
@@ -93,8 +71,3 @@ byte_pushed own own_now rest others all byte cut e inv =
 
 pub all_pushed : (own rest all : List ℕ) → length rest ≡ 0 → own ++ unescaped rest ≡ all → own ≡ all
 all_pushed own rest all none inv = sym (append-nil own) ∙ ap (λ r. own ++ unescaped r) (sym (empty rest none)) ∙ inv
-
--- ---- excerpts
-pub excerpt_short : (text : List ℕ) → length (excerpt_of text) ≤ length text
-unfolding excerpt_of
-excerpt_short text = omega (arith, length-map (take 80 text) printable, length-take 80 text)

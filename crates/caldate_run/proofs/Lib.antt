@@ -3,16 +3,13 @@ pub mod Quotes
 pub mod Splits
 pub mod Calls
 pub mod Cuts
-pub mod Indices
 pub mod Joins
 pub mod Ends
 pub mod Known
 pub mod Lacks
 pub mod Laters
-pub mod Tables
 pub mod Takes
 pub mod Texts
-pub mod Numbers
 pub mod RecordFields
 pub mod NewFields
 pub mod NextMoments
@@ -35,12 +32,8 @@ pub mod DateShapes
 pub mod LocalShapes
 pub mod WholeNumbers
 pub mod FrontDays
-pub mod SomeMeanings
 pub mod Printed
 pub mod FirstForms
-pub mod MeantWords
-mod ZoneResults
-mod SomeZones
 mod OneMoment
 mod ReadWith
 pub mod Rounds
@@ -54,9 +47,3 @@ mod TextStarts
 mod DigitStarts
 pub mod Scans
 pub mod OneScan
-pub mod Grammar
-pub mod GrammarNames
-mod GrammarRequests
-mod GrammarLists
-mod GrammarOptions
-mod GrammarCommands

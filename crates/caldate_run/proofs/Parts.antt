@@ -9,7 +9,6 @@ use Rattle.std.proofs.lemmas.Bool.{cases_lt, eq-eqb, eqb-true, ne_eqb}
 use Rattle.std.proofs.lemmas.Option.{cond_some}
 use Rattle.std.proofs.lemmas.Bool.Decides.{nat_tests}
 use Rattle.caldate_run.specs.Lines.{is_end}
-use Rattle.caldate_run.specs.Requests.{arguments_of}
 use Rattle.caldate_run.specs.RunStates.{HasNoFeed}
 
 -- the first part ends at the position
@@ -46,13 +45,6 @@ one_more c xs i before at k h e =
       | inl less ↦ before k less e
       | inr past ↦ at (subst (λ n. get_or xs n 0 ≡ c) (omega (arith, h, past)) e)
     ]
-
-pub arguments_of_some : (xs : List ℕ) (k : ℕ) → position (λ b. eqb b 0) xs ≡ Some k
-    → (k < length xs) × (arguments_of xs ≡ take k xs ∷ arguments_of (drop (k + 1) xs))
-arguments_of_some xs k e = split_at_some (λ b. eqb b 0) xs k e
-
-pub arguments_of_none : (xs : List ℕ) → position (λ b. eqb b 0) xs ≡ None → arguments_of xs ≡ xs ∷ []
-arguments_of_none xs e = slice_split_none (λ b. eqb b 0) xs (all_fail (λ b. eqb b 0) xs e)
 
 before : (p : ℕ → Bool) (xs : List ℕ) (j d : ℕ) → j < length (take (position_or_len p xs) xs)
     → p (get_or (take (position_or_len p xs) xs) j d) ≡ false

@@ -8,15 +8,14 @@ use Rattle.cal_text.specs.declared.any.DateOrMoment.{DateOrMoment}
 use Rattle.cal_schedule.specs.Workdays.{WorkWeek}
 use Rattle.caldate_run.specs.Answers.{Answer, IsAnswer, IsAnswerTo, keeps}
 use Rattle.caldate_run.proofs.Others.{by_itself, no_other}
-use Rattle.caldate_run.proofs.Steps.{passed_none, shown_front}
+use Rattle.caldate_run.proofs.Steps.{passed_none}
 use Rattle.caldate_run.specs.Fields.{selected_text, several, text_with, text_without}
 use Rattle.caldate_run.specs.Lines.{has_return, text_of}
 use Rattle.caldate_run.specs.Replies.{IsCounted, Describes, RepliesWith, IsAnswerIn, IsAnswerOf, IsAnswerToEach, IsAnswerToLine, IsAnswerToText, IsInPlace, IsLeftByEach, IsReplyTo, in_place, in_text, more, skipped, stops, with_end, with_reason}
 use Rattle.caldate_run.specs.Runs.{AppendsOut, AppendsSome, AppendsAnswer, AppendsReply}
 use Rattle.caldate_run.specs.Scans.{IsScanned}
-use Rattle.caldate_run.specs.RunStates.{AtLine, IsDroppedFront, HasExcerpt, passed}
+use Rattle.caldate_run.specs.RunStates.{AtLine, IsDroppedFront, passed}
 use Rattle.caldate_run.specs.Targets.{IsAnswerAt}
-use Rattle.caldate_run.specs.Excerpts.{excerpt_of, excerpt_bytes}
 use Rattle.caldate_run.specs.declared.run.no_answer.NoAnswer.{NoAnswer}
 use Rattle.caldate_run.specs.declared.run.no_answer.NoAnswer.TheVariants as why
 use Rattle.caldate_run.specs.declared.on_invalid.OnInvalid.{OnInvalid}
@@ -26,7 +25,6 @@ use Rattle.caldate_run.specs.declared.request.Field.{Field}
 use Rattle.caldate_run.specs.declared.request.Filter.{Filter}
 use Rattle.caldate_run.specs.declared.request.Request.{Request}
 use Rattle.caldate_run.specs.declared.request.Request.TheVariants.{To, Print, Add, Move, Floor, Until, Since, At, Keep}
-use Rattle.caldate_run.specs.declared.run.excerpt.Excerpt.{Excerpt}
 use Rattle.caldate_run.specs.declared.run.tally.Tally.{Tally}
 use Rattle.caldate_run.specs.declared.run.unanswered.UnansweredLine.{UnansweredLine}
 
@@ -131,9 +129,9 @@ pub replied_without : (filter : Filter) (progress : Progress) (tally : Tally) (l
     → ((line : List ℕ) → text ≡ text_of line → cut ≡ has_return line → AtLine progress line (λ before whole. IsAnswerOf filter before (text_of whole) (Err any))
     → AppendsReply (IsReplyTo filter) filter.on_invalid progress tally line mid new)
     → AppendsReply (IsReplyTo filter) filter.on_invalid progress tally line old new
-replied_without filter progress tally line text old mid new cut any e f put h = λ kept before held front number.
+replied_without filter progress tally line text old mid new cut any e f put h = λ kept before held number.
     subst (λ l. AppendsSome (λ words. IsReplyTo filter before (kept ++ line) (passed filter.on_invalid kept ++ words) progress.tally tally) l new)
-    ((put kept before held front number).0) (h line e f (λ kept before held front number. (put kept before held front number).1) kept before held front number)
+    ((put kept before held number).0) (h line e f (λ kept before held number. (put kept before held number).1) kept before held number)
 
 pub taken_back : (old mid rest new : List ℕ) (before : ℕ) → before ≡ length old → mid ≡ old ++ rest → new ≡ take before mid → new ≡ old
 taken_back old mid rest new before at e f = f ∙ ap (λ k. take k mid) at ∙ ap (λ l. take (length old) l) e ∙ take-append_seam old rest
@@ -271,20 +269,3 @@ unanswered filter before b kept line text old mid new any goes cut t u reported 
     replies_with filter before (kept ++ line) (passed filter.on_invalid kept) old new (Err any) put.0 t u
     (ended b kept line (passed filter.on_invalid kept) old mid new put.1 put.0 goes cut h put.2 put.3 put.4 has f)
     is (on, (put.0, put.5, refl)) (lines, count, first_counts before (kept ++ line) any t.first u.first reported describes first)
-
--- ---- the shown text of a line
-shown_cut : (kept line : List ℕ) → 80 ≤ length kept → 0 < length line → excerpt_of (take (length (kept ++ line) - 1) (kept ++ line)) ≡ excerpt_of kept
-shown_cut kept line h some =
-    let at : length (kept ++ line) - 1 ≡ length kept + (length line - 1) = omega (arith, some, length-append kept line) in
-    ap (λ k. excerpt_of (take k (kept ++ line))) at ∙ ap excerpt_of (take-append-add kept line (length line - 1)) ∙ shown_front kept (take (length line - 1) line) h
-
-shown_long : (b : Bool) (kept line : List ℕ) → 80 ≤ length kept → 0 < length line
-    → excerpt_of (cond b (take (length (kept ++ line) - 1) (kept ++ line)) (kept ++ line)) ≡ excerpt_of kept
-shown_long true kept line h some = shown_cut kept line h some
-shown_long false kept line h some = shown_front kept line h
-
-pub text_shown : (b : Bool) (front : Excerpt) (kept line text : List ℕ) (reported : Excerpt) → IsDroppedFront b kept line → HasExcerpt b front kept → text ≡ text_of line
-    → (b ≡ false → excerpt_bytes reported ≡ excerpt_of text) → (b ≡ true → reported ≡ front) → excerpt_bytes reported ≡ excerpt_of (text_of (kept ++ line))
-text_shown false front kept line text reported held is e whole long = whole refl ∙ ap excerpt_of (e ∙ ap (λ k. text_of (k ++ line)) (sym held))
-text_shown true front kept line text reported held is e whole long =
-    ap excerpt_bytes (long refl) ∙ is ∙ sym (shown_long (has_return (kept ++ line)) kept line (omega (arith, held.0)) (omega (arith, held.1)))

@@ -1,16 +1,14 @@
 -- How far a run is after each of its steps.
-use Rattle.std.proofs.Common.{◌≡◌, ℕ, inl, inr, ◌+◌, ◌-◌, ◌<◌, ◌≤◌, Bool, true, false, cond, List, [], ◌∷◌, ◌++◌, length, take, drop, Option, Err, refl, sym, ap, ◌∙◌, subst, arith, append_assoc, length-append, length-take, length-drop, take-append-drop}
+use Rattle.std.proofs.Common.{◌≡◌, ℕ, inl, inr, ◌+◌, ◌-◌, ◌<◌, Bool, true, false, cond, List, [], ◌∷◌, ◌++◌, length, take, drop, Option, Err, refl, sym, ap, ◌∙◌, subst, arith, append_assoc, length-append, length-take, length-drop, take-append-drop}
 use Rattle.std.specs.Io.KnownBytes.{Appends}
 use Rattle.std.proofs.KnownBytes.{Appends-trans, Appends-nil}
 use Rattle.std.proofs.Math.Nat.{min-eq_left}
-use Rattle.std.specs.Prelude.{map}
 use Rattle.std.proofs.lemmas.List.{append-nil, take-append-le, take_all}
 use Rattle.std.proofs.lemmas.Bool.{false≢true}
 use Rattle.caldate_run.specs.Lines.{all_lines, ended_lines, last_part, split_from, split_input, text_of, unended, without_empty_last, without_last}
 use Rattle.caldate_run.specs.Replies.{Describes, EndsAt, IsAnswerOf, IsReplyTo, stops}
 use Rattle.caldate_run.specs.Runs.{AnswersAll, AnswersEnded, AnswersFront, AppendsFront, IsPassedOn, AppendsReply, StopsAt}
-use Rattle.caldate_run.specs.RunStates.{AreReplies, AtLine, FirstEnds, IsDroppedFront, HasExcerpt, NoEnd, Replies, RunState, counted, no_lines, onto, passed, quoting_in, quoting_of}
-use Rattle.caldate_run.specs.Excerpts.{printable, excerpt_of, excerpt_bytes}
+use Rattle.caldate_run.specs.RunStates.{AreReplies, AtLine, FirstEnds, IsDroppedFront, NoEnd, Replies, RunState, counted, no_lines, onto, passed, quoting_in, quoting_of}
 use Rattle.caldate_run.specs.declared.run.no_answer.NoAnswer.{NoAnswer}
 use Rattle.caldate_run.specs.declared.on_invalid.OnInvalid.{OnInvalid}
 use Rattle.caldate_run.specs.declared.on_invalid.OnInvalid.TheVariants as invalid
@@ -19,7 +17,6 @@ use Rattle.caldate_run.specs.declared.request.Field.{Field}
 use Rattle.caldate_run.specs.declared.request.Filter.{Filter}
 use Rattle.caldate_run.specs.declared.run.quoting.Quoting.{Quoting}
 use Rattle.caldate_run.specs.declared.run.quoting.Quoting.TheVariants.{Ready}
-use Rattle.caldate_run.specs.declared.run.excerpt.Excerpt.{Excerpt}
 use Rattle.caldate_run.specs.declared.run.tally.Tally.{Tally}
 use Rattle.caldate_run.specs.declared.run.unanswered.UnansweredLine.{UnansweredLine}
 use Rattle.caldate_run.proofs.Quotes.{onto_one}
@@ -93,7 +90,7 @@ pub answered : (IsReply : Replies) (mode : OnInvalid) (field : Option Field) (in
     → progress_now.is_long ≡ false → progress_now.tally.lines ≡ counted (progress.tally.lines + 1)
     → RunState IsReply mode field input start now buffered pending progress → RunState IsReply mode field input start now buffered_now after progress_now
 answered IsReply mode field input start now buffered buffered_now pending line after progress progress_now first reply short number s =
-    let r = reply s.kept (length s.lines) (held_line field progress.is_long progress.quoting s.kept pending line after s.held s.goes_on first) s.front s.number in
+    let r = reply s.kept (length s.lines) (held_line field progress.is_long progress.quoting s.kept pending line after s.held s.goes_on first) s.number in
     record {
       lines = s.lines ++ (s.kept ++ line) ∷ [];
       kept = [];
@@ -108,7 +105,6 @@ answered IsReply mode field input start now buffered buffered_now pending line a
       taken = s.taken;
       held = subst (λ b. IsDroppedFront b [] after) (sym short) refl;
       goes_on = λ long. absurd (false≢true (sym short ∙ long));
-      front = subst (λ b. HasExcerpt b progress_now.front []) (sym short) tt;
       number = number ∙ counted_more (length s.lines) progress.tally.lines s.number ∙ ap counted (sym (length-append s.lines ((s.kept ++ line) ∷ [])));
     }
 
@@ -127,7 +123,6 @@ gone IsReply mode field input start now new buffered left written pending progre
   taken = Appends-trans start now new _ _ s.taken a;
   held = s.held;
   goes_on = s.goes_on;
-  front = s.front;
   number = s.number;
 }
 
@@ -228,20 +223,20 @@ none_passed filter out kept all none whole = sym (append-nil out) ∙ ap (λ p. 
 pub ends_at : (filter : Filter) (old now : Progress) (line : List ℕ) (any : NoAnswer) (reported : UnansweredLine) → now ≡ old
     → AtLine old line (λ before whole. (stops filter.on_invalid ≡ true) × IsAnswerOf filter before (text_of whole) (Err any))
     → AtLine now line (λ before whole. Describes before whole any reported) → Ends filter old line reported
-ends_at filter old now line any reported same ends described = λ kept before held front number.
-    let end = ends kept before held front number in
-    let told = subst (λ progress. AtLine progress line (λ before whole. Describes before whole any reported)) same described kept before held front number in
+ends_at filter old now line any reported same ends described = λ kept before held number.
+    let end = ends kept before held number in
+    let told = subst (λ progress. AtLine progress line (λ before whole. Describes before whole any reported)) same described kept before held number in
     record {
       is = subst (λ w. IsAnswerOf filter before (text_of (kept ++ line)) (Err w)) (sym told.why_is) end.1;
       ends = end.0;
-      reported_is = record { number_is = told.number_is; why_is = refl; text_is = told.text_is };
+      reported_is = record { number_is = told.number_is; why_is = refl };
     }
 
 pub stopped : (filter : Filter) (input : List ℕ) (start now new : Option (List ℕ)) (buffered pending line after : List ℕ) (progress : Progress) (reported : UnansweredLine)
     → FirstEnds filter.field (quoting_of progress) pending line after → Ends filter progress line reported → Appends now new buffered
     → RunState (IsReplyTo filter) filter.on_invalid filter.field input start now buffered pending progress → StopsAt filter reported (ended_lines filter.field input) start new
 stopped filter input start now new buffered pending line after progress reported first ends f s =
-    let at = ends s.kept (length s.lines) (held_line filter.field progress.is_long progress.quoting s.kept pending line after s.held s.goes_on first) s.front s.number in
+    let at = ends s.kept (length s.lines) (held_line filter.field progress.is_long progress.quoting s.kept pending line after s.held s.goes_on first) s.number in
     let rest = split_input filter.field (after ++ []) in
     let parts : split_input filter.field input ≡ s.lines ++ (s.kept ++ line) ∷ rest =
     ap (split_input filter.field) (sym (append-nil input)) ∙ s.cut [] ∙ ap (λ ps. s.lines ++ onto s.kept ps) (first []) ∙ ap (λ ps. s.lines ++ ps) (onto_one s.kept line rest) in
@@ -295,7 +290,7 @@ pub last_answered : (filter : Filter) (input : List ℕ) (start now new : Option
     → Appends now new buffered
     → RunState (IsReplyTo filter) filter.on_invalid filter.field input start now [] line progress → AnswersAll filter (all_lines filter.field input) tally start new
 last_answered filter input start now new buffered line progress tally n l reply f s =
-    let r = reply s.kept (length s.lines) s.held s.front s.number in
+    let r = reply s.kept (length s.lines) s.held s.number in
     record {
       out = s.out ++ (passed filter.on_invalid s.kept ++ r.0);
       replies = subst (λ ls. AreReplies (IsReplyTo filter) 0 ls (s.out ++ (passed filter.on_invalid s.kept ++ r.0)) no_lines tally) (sym (with_last filter input start now [] line progress n l s))
@@ -309,7 +304,7 @@ pub last_failed : (filter : Filter) (input : List ℕ) (start now new : Option (
     → AppendsFront now new buffered
     → RunState (IsReplyTo filter) filter.on_invalid filter.field input start now [] line progress → AnswersFront filter (all_lines filter.field input) [] start new
 last_failed filter input start now new buffered line progress tally n l reply f s =
-    let r = reply s.kept (length s.lines) s.held s.front s.number in
+    let r = reply s.kept (length s.lines) s.held s.number in
     record {
       lines = s.lines ++ (s.kept ++ line) ∷ [];
       next = [];
@@ -327,7 +322,7 @@ pub last_stopped : (filter : Filter) (input : List ℕ) (start now : Option (Lis
     → NoEnd filter.field (quoting_of progress) line → 0 < length line → Ends filter progress line reported
     → RunState (IsReplyTo filter) filter.on_invalid filter.field input start now [] line progress → StopsAt filter reported (all_lines filter.field input) start now
 last_stopped filter input start now line progress reported n l ends s =
-    let at = ends s.kept (length s.lines) s.held s.front s.number in
+    let at = ends s.kept (length s.lines) s.held s.number in
     record {
       lines = s.lines;
       line = s.kept ++ line;
@@ -354,7 +349,6 @@ begun IsReply mode field start progress short none = record {
   taken = Appends-nil start;
   held = subst (λ b. IsDroppedFront b [] []) (sym short) refl;
   goes_on = λ long. absurd (false≢true (sym short ∙ long));
-  front = subst (λ b. HasExcerpt b progress.front []) (sym short) tt;
   number = ap (λ (t : Tally). t.lines) none;
 }
 
@@ -381,7 +375,6 @@ read IsReply mode field input given start now buffered pending progress s = reco
   taken = s.taken;
   held = held_more progress.is_long s.kept pending given s.held;
   goes_on = goes_more field progress.is_long progress.quoting s.kept pending given s.held s.goes_on;
-  front = s.front;
   number = s.number;
 }
 
@@ -401,24 +394,11 @@ ended_answered filter input start now pending progress n s =
     }
 
 -- ---- a long line is dropped except for its last byte
--- a line with a long front shows the same as that front
-pub shown_front : (xs ys : List ℕ) → 80 ≤ length xs → excerpt_of (xs ++ ys) ≡ excerpt_of xs
-unfolding excerpt_of
-shown_front xs ys h = ap (map printable) (take-append-le 80 xs ys h)
-
-front_shown : (b : Bool) (front front_now : Excerpt) (kept pending : List ℕ) (k : ℕ) → 80 ≤ length (take k pending) → IsDroppedFront b kept pending → HasExcerpt b front kept
-    → (b ≡ false → excerpt_bytes front_now ≡ excerpt_of pending) → (b ≡ true → front_now ≡ front) → excerpt_bytes front_now ≡ excerpt_of (kept ++ take k pending)
-front_shown false front front_now kept pending k h held is whole same =
-    whole refl ∙ ap excerpt_of (sym (take-append-drop k pending)) ∙ shown_front (take k pending) (drop k pending) h ∙ ap (λ l. excerpt_of (l ++ take k pending)) (sym held)
-front_shown true front front_now kept pending k h held is whole same =
-    ap excerpt_bytes (same refl) ∙ is ∙ sym (shown_front kept (take k pending) (omega (arith, held.0)))
-
 pub discard_long_line : (IsReply : Replies) (mode : OnInvalid) (field : Option Field) (input : List ℕ) (start now new : Option (List ℕ)) (pending pending_now : List ℕ) (progress progress_now : Progress)
     → NoEnd field (quoting_of progress) pending → Appends now new (passed mode (take (length pending - 1) pending)) → 4097 < length pending → pending_now ≡ drop (length pending - 1) pending
-    → progress_now.quoting ≡ quoting_in field (quoting_of progress) (take (length pending - 1) pending) → (progress.is_long ≡ false → excerpt_bytes progress_now.front ≡ excerpt_of pending)
-    → (progress.is_long ≡ true → progress_now.front ≡ progress.front) → progress_now.is_long ≡ true → progress_now.tally ≡ progress.tally
+    → progress_now.quoting ≡ quoting_in field (quoting_of progress) (take (length pending - 1) pending) → progress_now.is_long ≡ true → progress_now.tally ≡ progress.tally
     → RunState IsReply mode field input start now [] pending progress → RunState IsReply mode field input start new [] pending_now progress_now
-discard_long_line IsReply mode field input start now new pending pending_now progress progress_now n went long last_byte state whole_front same_front is_long same s =
+discard_long_line IsReply mode field input start now new pending pending_now progress progress_now n went long last_byte state is_long same s =
     let k = length pending - 1 in
     let front : length (take k pending) ≡ k = length-take k pending ∙ min-eq_left (omega arith) in
     let last : length (drop k pending) ≡ 1 = omega (arith, length-drop k pending) in
@@ -440,8 +420,6 @@ discard_long_line IsReply mode field input start now new pending pending_now pro
       held = subst (λ b. IsDroppedFront b (s.kept ++ take k pending) (drop k pending)) (sym is_long) held;
       goes_on = λ long. subst (λ q. NoEnd field q (take 1 (drop k pending))) (sym state)
           (subst (NoEnd field (quoting_in field (quoting_of progress) (take k pending))) (sym (take_all 1 (drop k pending) (omega (arith, last)))) parts.1);
-      front = subst (λ b. HasExcerpt b progress_now.front (s.kept ++ take k pending)) (sym is_long)
-          (front_shown progress.is_long progress.front progress_now.front s.kept pending k (omega arith) s.held s.front whole_front same_front);
       number = ap (λ (t : Tally). t.lines) same ∙ s.number;
     })
 

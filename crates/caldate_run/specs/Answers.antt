@@ -23,7 +23,6 @@ use Rattle.caldate_run.specs.Readers.{IsFoundBy, IsUnread}
 use Rattle.caldate_run.specs.declared.run.no_answer.NoAnswer.{NoAnswer}
 use Rattle.caldate_run.specs.declared.run.no_answer.NoAnswer.TheVariants as why
 use Rattle.caldate_run.specs.declared.request.DayMove.{DayMove}
-use Rattle.caldate_run.specs.declared.request.DayMove.TheVariants as move
 use Rattle.caldate_run.specs.declared.request.Filter.{Filter}
 use Rattle.caldate_run.specs.declared.request.Form.TheVariants.{Moment}
 use Rattle.caldate_run.specs.declared.request.Place.{Place}
@@ -106,13 +105,6 @@ IsAnswerTo workdays other text found words = ⊥
 abbrev pub keeps : Request → Bool
 keeps (Keep bounds) = true
 keeps other = false
-
--- The request counts working days.
-abbrev pub counts_workdays : Request → Bool
-counts_workdays (Move (move.Workdays z)) = true
-counts_workdays (Until target (Some unit.Workdays)) = true
-counts_workdays (Since target (Some unit.Workdays)) = true
-counts_workdays other = false
 
 -- `keep` leaves out a line whose date or moment lies outside of its bounds.
 abbrev pub leaves_out : Request → DateOrMoment → Bool

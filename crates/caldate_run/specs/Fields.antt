@@ -1,5 +1,5 @@
 -- The part of a line to answer: all of its text, or some of its fields.
-use Rattle.std.specs.Prelude.{◌≡◌, ℕ, ◌+◌, ◌-◌, ◌==◌, ◌&&◌, ◌||◌, not, nat_le, Bool, true, false, List, [], ◌∷◌, ◌++◌, length, take, drop, Option, Some, None, option_map, slice_index, map, is_some, unwrap_or, if◌then◌else◌}
+use Rattle.std.specs.Prelude.{◌≡◌, ℕ, ◌+◌, ◌-◌, ◌==◌, ◌&&◌, ◌||◌, not, nat_le, Bool, true, false, List, [], ◌∷◌, ◌++◌, length, take, drop, Option, Some, None, option_map, slice_index, map, unwrap_or, if◌then◌else◌}
 use Rattle.std.specs.List.{join_with_byte, onto_first, slice_split, zip}
 use Rattle.caldate_run.specs.declared.run.quoting.Quoting.{Quoting}
 use Rattle.caldate_run.specs.declared.run.quoting.Quoting.TheVariants.{Ready, Open, Bare}
@@ -25,10 +25,6 @@ several (Some field) (next ∷ more) = field ∷ each_of field (next ∷ more)
 -- A name stands for each of up to four fields that is given by a name.
 abbrev pub no_names : List (Option (List ℕ))
 no_names = None ∷ None ∷ None ∷ None ∷ []
-
-abbrev pub names_any : List (Option (List ℕ)) → Bool
-names_any [] = false
-names_any (name ∷ names) = is_some name || names_any names
 
 -- The field with this number in place of its own, if it is given.
 abbrev pub with_first : FieldNumbers × Option ℕ → FieldNumbers

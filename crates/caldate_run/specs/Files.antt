@@ -1,11 +1,8 @@
 -- Several texts as one input, each with the line feed that its last line may lack.
-use Rattle.std.specs.Prelude.{◌≡◌, ◌⊎◌, ℕ, Bool, true, false, not, ⊤, List, [], ◌∷◌, ◌++◌, map, Option, Some, None, Result, if◌then◌else◌, codes}
-use Rattle.caldate_run.specs.Excerpts.{printable}
+use Rattle.std.specs.Prelude.{◌≡◌, ◌⊎◌, ◌<◌, ℕ, length, Bool, true, false, not, ⊤, List, [], ◌∷◌, ◌++◌, Option, Some, None, Result, if◌then◌else◌}
 use Rattle.caldate_run.specs.Lines.{is_end}
-use Rattle.caldate_run.specs.ReadZoneErrors.{file_words}
 use Rattle.caldate_run.specs.Runs.{WritesPage}
 use Rattle.caldate_run.specs.declared.run.run_error.RunError.{RunError}
-use Rattle.caldate_run.specs.declared.zones.read_zone_error.FileError.{FileError}
 
 -- A line is unfinished after these bytes, if it was so or not before them.
 abbrev pub is_unfinished : Bool → List ℕ → Bool
@@ -44,13 +41,9 @@ module _ {S : Type 0} (step : S → S → Type 0) where
     some : (s t end : S) → step s t → Steps t end → Steps s end
 
 -- ---- a file that can't be read
--- Its whole name is shown, with `?` for each byte that doesn't print.
-abbrev pub file_message : List ℕ → FileError → List ℕ
-file_message name error = codes "caldate: cannot read '" ++ map printable name ++ codes "': " ++ file_words error ++ 10 ∷ []
-
--- Standard error took this message, or after a failed write a beginning of it that is not all.
-abbrev pub ReportsFile : List ℕ → FileError → Option (List ℕ) → Option (List ℕ) → Type 0
-ReportsFile name error old new = (outcome : Result Unit RunError) × WritesPage (file_message name error) outcome old new
+-- Standard error took some words, or after a failed write a beginning of them that is not all.
+abbrev pub ReportsFile : Option (List ℕ) → Option (List ℕ) → Type 0
+ReportsFile old new = (words : List ℕ) × (outcome : Result Unit RunError) × (0 < length words) × WritesPage words outcome old new
 
 -- From one state to another, a file failed, or nothing was written to standard error.
 abbrev pub FailsOrKeeps : {E : Type 0} → Bool → Bool → E → E → Type 0

@@ -1,21 +1,19 @@
 -- The header, the first line of an input, and fields by their names in it.
-use Rattle.std.specs.Prelude.{◌⊎◌, ℕ, ◌+◌, ◌<◌, ◌&&◌, nat_le, nat_lt, Bool, true, false, unwrap_or, drop, get_or, List, [], ◌∷◌, ◌++◌, bytes_eq, codes, length, MatchResult, Option, Some, None, Result, Ok, Err, slice_index, if◌then◌else◌}
+use Rattle.std.specs.Prelude.{◌⊎◌, ℕ, ◌+◌, ◌<◌, ◌&&◌, nat_le, nat_lt, Bool, true, false, unwrap_or, drop, get_or, List, [], ◌∷◌, bytes_eq, length, MatchResult, Option, Some, None, Result, Ok, Err, slice_index, if◌then◌else◌}
 use Rattle.std.specs.Option.{option_map_or}
 use Rattle.std.specs.Io.KnownBytes.{Consumes, IsAtEnd}
-use Rattle.caldate_run.specs.Ending.{end_message}
+use Rattle.caldate_run.specs.Ending.{Says}
 use Rattle.caldate_run.specs.Fields.{fields_of, is_quote, is_quoted, no_names, with_firsts, within_quotes}
 use Rattle.caldate_run.specs.Lines.{split_input, text_of}
 use Rattle.caldate_run.specs.Room.{longest_text}
 use Rattle.caldate_run.specs.RunStates.{NoEnd}
 use Rattle.caldate_run.specs.Targets.{target_name, with_target}
-use Rattle.caldate_run.specs.UsageMessages.{quoted}
 use Rattle.caldate_run.specs.declared.run.quoting.Quoting.TheVariants.{Ready}
 use Rattle.caldate_run.specs.declared.request.Field.{Field}
 use Rattle.caldate_run.specs.declared.request.Filter.{Filter}
 use Rattle.caldate_run.specs.declared.request.Request.{Request}
 use Rattle.caldate_run.specs.declared.request.Target.TheVariants.{Fields}
 use Rattle.caldate_run.specs.declared.run.run_error.RunError.{RunError}
-use Rattle.caldate_run.specs.declared.run.run_error.RunError.TheVariants.{Read}
 
 -- ---- the header
 -- The text of the first line, which may not have its line feed.
@@ -61,28 +59,6 @@ name_number n field name (part ∷ parts) = if has_name field name part then Som
 abbrev pub number_of : Field → List ℕ → List ℕ → Option ℕ
 number_of field name header = if nat_lt longest_text (length header) then None else name_number 1 field name (fields_of field header)
 
--- ---- the error
--- The names of the fields, each in quotes, with commas between them.
-abbrev pub names_text : Field → List (List ℕ) → List ℕ
-names_text field [] = []
-names_text field (part ∷ []) = quoted (field_name field part)
-names_text field (part ∷ parts) = quoted (field_name field part) ++ codes ", " ++ names_text field parts
-
--- The names that the header has, or that it is empty.
-abbrev pub expected_names : Field → List ℕ → List ℕ
-expected_names field header =
-    if bytes_eq header [] then codes "; the header is empty" else codes "; expected " ++ names_text field (fields_of field header)
-
--- A header that is too long has no names.
-abbrev pub header_problem : Field → List ℕ → List ℕ → List ℕ
-header_problem field name header =
-    if nat_lt longest_text (length header) then codes "header too long; expected at most 4096 bytes" else
-    codes "unknown field name " ++ quoted name ++ expected_names field header
-
--- The line on standard error.
-abbrev pub header_error : Field → List ℕ → List ℕ → List ℕ
-header_error field name header = codes "caldate: " ++ header_problem field name header ++ 10 ∷ []
-
 -- ---- a run with names of fields
 -- The number that the header gives a name, if there is a name. A name that the header lacks is an
 -- error.
@@ -125,7 +101,7 @@ pub record EndsNamed (filter : Filter) (field : Field) (old : Option (List ℕ))
   pub front : List ℕ
   pub left : Option (List ℕ)
   pub given : Consumes old left front
-  pub ends : (NoEnd (Some field) Ready front × Stops true (end_message (Err Read)))
+  pub ends : (NoEnd (Some field) Ready front × ((words : List ℕ) × Says 2 words × Stops true words))
       ⊎ (HasHeader field left front × MatchResult (numbers_in filter field (header_of field front))
       (λ numbers. (outcome : Result Unit RunError) × Runs (numbered filter field numbers) outcome)
-      (λ name. Stops false (header_error field name (header_of field front))))
+      (λ name. (words : List ℕ) × Says 2 words × Stops false words))

@@ -1,5 +1,7 @@
 -- The holidays in a file: an ISO date in each line, in any order.
-use Rattle.std.specs.Prelude.{◌≡◌, ◌⊎◌, ◌↔◌, ℕ, ◌+◌, ◌==◌, Bool, true, false, List, [], ◌∷◌, ◌++◌, length, All, Contains, None, Some}
+use denote.Ref.{Bor}
+use Rattle.std.specs.Prelude.{◌≡◌, ◌⊎◌, ◌↔◌, ⊤, ℕ, ◌+◌, ◌==◌, Bool, true, false, List, [], ◌∷◌, ◌++◌, length, All, Contains, Option, None, Some, Result, Ok, Err}
+use Rattle.std.specs.Io.KnownBytes.{Consumes, IsAtEnd}
 use Rattle.cal_time.specs.Counted.{IsRising}
 use Rattle.cal_time.specs.Date.{IsDate, julian_day_at}
 use Rattle.cal_time.specs.declared.error.ComponentRange.{ComponentRange}
@@ -7,7 +9,7 @@ use Rattle.cal_text.specs.DateForms.{HasForm, IsDateText}
 use Rattle.cal_text.specs.Parsing.{HasError, IsDateError, component_of}
 use Rattle.cal_text.specs.Position.{HasSome, IsErrorAtStop}
 use Rattle.cal_text.specs.declared.error.ParseError.{ParseError}
-use Rattle.caldate_run.specs.Lines.{text_of}
+use Rattle.caldate_run.specs.Lines.{lines_of, text_of}
 use Rattle.caldate_run.specs.declared.holidays.read_holidays_error.ReadHolidaysError.{ReadHolidaysError}
 use Rattle.caldate_run.specs.declared.holidays.read_holidays_error.ReadHolidaysError.TheVariants.{File, Line}
 
@@ -53,3 +55,10 @@ pub record IsInvalidAt (lines : List (List ℕ)) (number : ℕ) (error : ParseEr
 abbrev pub IsFirstInvalid : List (List ℕ) → ReadHolidaysError → Type 0
 IsFirstInvalid lines (Line number error) = IsInvalidAt lines number error
 IsFirstInvalid lines (File error) = ⊥
+
+-- The bytes that a reader gave up to its end have these holidays, or an invalid line. After a failed
+-- read nothing is known of them.
+abbrev pub AreReadHolidays : Option (List ℕ) → Option (List ℕ) → Result (Bor (List ℕ)) ReadHolidaysError → Type 0
+AreReadHolidays old new (Ok days) = (bytes : List ℕ) × IsAtEnd new × Consumes old new bytes × AreHolidays (lines_of bytes) days.now
+AreReadHolidays old new (Err (Line number error)) = (bytes : List ℕ) × IsAtEnd new × Consumes old new bytes × IsInvalidAt (lines_of bytes) number error
+AreReadHolidays old new (Err (File error)) = ⊤

@@ -10,7 +10,6 @@ use Rattle.caldate_run.specs.Answers.{Answer, keeps}
 use Rattle.caldate_run.specs.Fields.{selected_text, several, text_with, text_without, with_last}
 use Rattle.caldate_run.specs.Lines.{end_of, text_of}
 use Rattle.caldate_run.specs.Room.{longest_answer, longest_text}
-use Rattle.caldate_run.specs.Excerpts.{excerpt_of, excerpt_bytes}
 use Rattle.caldate_run.specs.RunStates.{counted}
 use Rattle.caldate_run.specs.Scans.{IsScanned}
 use Rattle.caldate_run.specs.Targets.{IsAnswerAt}
@@ -156,7 +155,6 @@ stops mode = false
 pub record Describes (before : ℕ) (line : List ℕ) (any : NoAnswer) (reported : UnansweredLine) : Type 0 where
   pub number_is : reported.number ≡ counted (before + 1)
   pub why_is : reported.why ≡ any
-  pub text_is : excerpt_bytes reported.text ≡ excerpt_of (text_of line)
 
 -- ---- the reply
 -- A count and one more, at most 2^64 - 1.

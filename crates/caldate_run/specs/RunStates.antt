@@ -1,18 +1,16 @@
 -- The state of a run.
-use Rattle.std.specs.Prelude.{◌≡◌, ℕ, ⊤, ◌+◌, ◌-◌, ◌^◌, ◌<◌, min, Bool, true, false, List, [], ◌∷◌, ◌++◌, length, take, All, Option, Some, None, if◌then◌else◌}
+use Rattle.std.specs.Prelude.{◌≡◌, ℕ, ◌+◌, ◌-◌, ◌^◌, ◌<◌, min, Bool, true, false, List, [], ◌∷◌, ◌++◌, length, take, All, Option, Some, None, if◌then◌else◌}
 use Rattle.std.specs.List.{onto_first}
 use Rattle.std.specs.Io.KnownBytes.{Appends}
 use Rattle.caldate_run.specs.Fields.{quoting_past}
 use Rattle.caldate_run.specs.Lines.{is_end, split_from, split_input}
 use Rattle.caldate_run.specs.Room.{longest_text}
-use Rattle.caldate_run.specs.Excerpts.{excerpt_of, excerpt_bytes}
 use Rattle.caldate_run.specs.declared.run.quoting.Quoting.{Quoting}
 use Rattle.caldate_run.specs.declared.run.quoting.Quoting.TheVariants.{Ready}
 use Rattle.caldate_run.specs.declared.on_invalid.OnInvalid.{OnInvalid}
 use Rattle.caldate_run.specs.declared.request.Field.{Field}
 use Rattle.caldate_run.specs.declared.on_invalid.OnInvalid.TheVariants as invalid
 use Rattle.caldate_run.specs.declared.run.progress.Progress.{Progress}
-use Rattle.caldate_run.specs.declared.run.excerpt.Excerpt.{Excerpt}
 use Rattle.caldate_run.specs.declared.run.tally.Tally.{Tally}
 
 -- A reply to a line, by the number of lines before it, and the tally before and after it.
@@ -71,11 +69,6 @@ abbrev pub passed : OnInvalid → List ℕ → List ℕ
 passed invalid.Keep kept = kept
 passed mode kept = []
 
--- A long line with a dropped front shows that front.
-abbrev pub HasExcerpt : Bool → Excerpt → List ℕ → Type 0
-HasExcerpt false front kept = ⊤
-HasExcerpt true front kept = excerpt_bytes front ≡ excerpt_of kept
-
 -- The number of a line, counted in 64 bits.
 abbrev pub counted : ℕ → ℕ
 counted n = min n (2 ^ 64 - 1)
@@ -83,7 +76,7 @@ counted n = min n (2 ^ 64 - 1)
 -- The run is at a line, of which a front may have been dropped, after `before` lines.
 abbrev pub AtLine : Progress → List ℕ → (ℕ → List ℕ → Type 0) → Type 0
 AtLine progress line Holds =
-    (kept : List ℕ) (before : ℕ) → IsDroppedFront progress.is_long kept line → HasExcerpt progress.is_long progress.front kept
+    (kept : List ℕ) (before : ℕ) → IsDroppedFront progress.is_long kept line
     → progress.tally.lines ≡ counted before → Holds before (kept ++ line)
 
 -- Some lines of the input are answered. The writer has their replies and the front that was passed
@@ -100,7 +93,6 @@ pub record RunState (IsReply : Replies) (mode : OnInvalid) (field : Option Field
   pub taken : Appends start now written
   pub held : IsDroppedFront progress.is_long kept pending
   pub goes_on : GoesOn field progress pending
-  pub front : HasExcerpt progress.is_long progress.front kept
   pub number : progress.tally.lines ≡ counted (length lines)
 
 -- The run advances for any input, and for any bytes that the writer held at the start.

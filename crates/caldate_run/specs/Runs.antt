@@ -5,7 +5,7 @@ use Rattle.caldate_run.specs.Answers.{Answer}
 use Rattle.caldate_run.specs.Lines.{all_lines, ended_lines, unended}
 use Rattle.caldate_run.specs.Replies.{EndsAt, IsReplyTo}
 use Rattle.caldate_run.specs.Room.{longest_text}
-use Rattle.caldate_run.specs.RunStates.{AreReplies, IsDroppedFront, HasExcerpt, Replies, RunState, counted, no_lines, passed}
+use Rattle.caldate_run.specs.RunStates.{AreReplies, IsDroppedFront, Replies, RunState, counted, no_lines, passed}
 use Rattle.caldate_run.specs.declared.run.run_error.RunError.{RunError}
 use Rattle.caldate_run.specs.declared.run.run_error.RunError.TheVariants.{Read, Write, Stopped, Unanswered}
 use Rattle.caldate_run.specs.declared.run.no_answer.NoAnswer.{NoAnswer}
@@ -34,7 +34,7 @@ AppendsOut Is goes old new = (out : Option (List ℕ)) × (new ≡ old ++ unwrap
 -- that was passed on.
 abbrev pub AppendsReply : Replies → OnInvalid → Progress → Tally → List ℕ → List ℕ → List ℕ → Type 0
 AppendsReply IsReply mode progress tally line old new =
-    (kept : List ℕ) (before : ℕ) → IsDroppedFront progress.is_long kept line → HasExcerpt progress.is_long progress.front kept
+    (kept : List ℕ) (before : ℕ) → IsDroppedFront progress.is_long kept line
     → progress.tally.lines ≡ counted before
     → AppendsSome (λ words. IsReply before (kept ++ line) (passed mode kept ++ words) progress.tally tally) old new
 

@@ -1,5 +1,5 @@
 -- TEXT of `until` and `since` in other fields of the line.
-use Rattle.std.specs.Prelude.{◌≡◌, ◌||◌, ℕ, Bool, List, MatchOption, Option, Some, None, is_some, option_and_then, option_map, Result, Ok, Err}
+use Rattle.std.specs.Prelude.{◌≡◌, ℕ, List, MatchOption, Option, Some, None, option_and_then, option_map, Result, Ok, Err}
 use Rattle.cal_text.specs.declared.any.DateOrMoment.{DateOrMoment}
 use Rattle.caldate_run.specs.Answers.{Answer, IsAnswer, IsNotRead, IsReadAs}
 use Rattle.caldate_run.specs.Fields.{selected_text, with_numbers}
@@ -24,10 +24,6 @@ abbrev pub target_name : Request → Option (List ℕ)
 target_name (Until (Name name) unit) = Some name
 target_name (Since (Name name) unit) = Some name
 target_name request = None
-
--- Other fields of the line have TEXT.
-abbrev pub reads_other : Request → Bool
-reads_other request = is_some (target_fields request) || is_some (target_name request)
 
 -- The request with this in place of its TEXT, if it has one.
 abbrev pub with_target : Target → Request → Request

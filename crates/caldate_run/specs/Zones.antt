@@ -1,23 +1,10 @@
--- The zones and the holidays of names: the files, what they say, and why a name has none.
-use denote.Ref.{Bor}
-use Rattle.std.specs.Prelude.{◌≡◌, ℕ, ◌+◌, ◌==◌, ◌&&◌, ◌||◌, nat_le, not, Bool, false, is_none, List, [], ◌∷◌, ◌++◌, drop, position, bytes_eq, codes, Option, Some, None, option_map, Result, Ok, Err, if◌then◌else◌}
-use Rattle.std.specs.Option.{option_map_or}
-use Rattle.std.specs.Result.{result_ok}
+-- The zones of names: the names, and what their files say.
+use Rattle.std.specs.Prelude.{⊤, ℕ, ◌==◌, ◌&&◌, ◌||◌, nat_le, not, Bool, false, is_none, List, [], ◌∷◌, ◌++◌, position, Option, Result, Ok, Err}
+use Rattle.std.specs.Io.KnownBytes.{Consumes, IsAtEnd}
 use Rattle.cal_tzif.specs.File.{IsFile, IsFileError}
 use Rattle.cal_zone.specs.Timeline.{Timeline}
-use Rattle.cal_schedule.specs.Workdays.{WorkWeek}
-use Rattle.caldate_run.specs.Meanings.{Meanings, name_of, value_in}
-use Rattle.caldate_run.specs.Moves.{weekdays_except}
-use Rattle.caldate_run.specs.Offsets.{offset_of}
-use Rattle.caldate_run.specs.declared.holidays.holiday_file.HolidayFile.{HolidayFile}
-use Rattle.caldate_run.specs.declared.holidays.read_holidays_error.ReadHolidaysError.{ReadHolidaysError}
-use Rattle.caldate_run.specs.declared.holidays.read_holidays_error.ReadHolidaysError.TheVariants as why
-use Rattle.caldate_run.specs.declared.zones.read_zone_error.FileError.{FileError}
-use Rattle.caldate_run.specs.declared.zones.read_zone_error.FileError.TheVariants.{NotFound}
 use Rattle.caldate_run.specs.declared.zones.read_zone_error.ReadZoneError.{ReadZoneError}
 use Rattle.caldate_run.specs.declared.zones.read_zone_error.ReadZoneError.TheVariants.{File, Zone}
-use Rattle.caldate_run.specs.declared.zones.ZoneFile.{ZoneFile}
-use Rattle.caldate_run.specs.declared.zones.DataFiles.{DataFiles}
 
 -- ---- names
 -- A letter of ASCII.
@@ -33,68 +20,15 @@ abbrev pub is_zone_name : List ℕ → Bool
 is_zone_name [] = false
 is_zone_name (byte ∷ bytes) = is_letter byte && is_none (position (λ b. not (is_name_byte b)) (byte ∷ bytes))
 
--- A word is read as the name of a zone if it can be one and isn't an offset, such as `Z`.
-abbrev pub is_zone_like : List ℕ → Bool
-is_zone_like word = is_zone_name word && is_none (offset_of word)
-
--- The name in `NAME` or `--zone=NAME`. A `=` is byte 61, and in no name.
-abbrev pub name_in : List ℕ → List ℕ
-name_in word = option_map_or (λ at. drop (at + 1) word) (position (λ b. b == 61) word) word
-
--- The name in `FILE` or `--holidays=FILE`.
-abbrev pub file_in : List ℕ → List ℕ
-file_in word = if bytes_eq (name_of word) (codes "--holidays") then value_in word else word
-
 -- ---- files
--- The file is there, and has this name.
-abbrev pub is_named : List ℕ → Option ZoneFile → Bool
-is_named name None = false
-is_named name (Some file) = bytes_eq file.name.now name
-
--- The first of the files with this name.
-abbrev pub file_named : DataFiles → List ℕ → Option ZoneFile
-file_named files name =
-    if is_named name files.first then files.first else
-    if is_named name files.second then files.second else
-    None
-
--- The dates of the file of the holidays, if it has this name.
-abbrev pub days_of : Result (Bor (List ℕ)) ReadHolidaysError → Result (List ℕ) ReadHolidaysError
-days_of (Ok days) = Ok days.now
-days_of (Err error) = Err error
-
-abbrev pub days_in : List ℕ → Option HolidayFile → Result (List ℕ) ReadHolidaysError
-days_in name None = Err (why.File NotFound)
-days_in name (Some file) = if bytes_eq file.name.now name then days_of file.days else Err (why.File NotFound)
-
-abbrev pub holidays_named : DataFiles → List ℕ → Result (List ℕ) ReadHolidaysError
-holidays_named files name = days_in name files.holidays
-
 -- The path of a file in a folder. A slash is byte 47.
 abbrev pub path_in : List ℕ → List ℕ → List ℕ
 path_in folder name = folder ++ 47 ∷ name
 
--- The contents of a file are a zone, or why it is not one.
-abbrev pub IsZoneIn : Result (Bor (List ℕ)) FileError → Result Timeline ReadZoneError → Type 0
-IsZoneIn (Err error) r = r ≡ Err (File error)
-IsZoneIn (Ok bytes) (Ok zone) = IsFile bytes.now zone
-IsZoneIn (Ok bytes) (Err (Zone error)) = ((zone : Timeline) → ¬ IsFile bytes.now zone) × IsFileError bytes.now error
-IsZoneIn (Ok bytes) (Err other) = ⊥
-
--- The same for a file that may be missing.
-abbrev pub IsZoneOf : Option ZoneFile → Result Timeline ReadZoneError → Type 0
-IsZoneOf None r = r ≡ Err (File NotFound)
-IsZoneOf (Some file) r = IsZoneIn file.contents r
-
--- Each name has the zone and the holidays of its file.
-abbrev pub AreOfFiles : DataFiles → Meanings → Type 0
-AreOfFiles files meanings =
-    (name : List ℕ) → IsZoneOf (file_named files name) (meanings name).zone × ((meanings name).holidays ≡ holidays_named files name)
-
--- The zone of a word that is the name of one.
-abbrev pub zone_of : Meanings → List ℕ → Option Timeline
-zone_of meanings word = if is_zone_name word then result_ok (meanings word).zone else None
-
--- The working days without the holidays of a word that names a file of them.
-abbrev pub workdays_of : Meanings → List ℕ → Option WorkWeek
-workdays_of meanings word = option_map weekdays_except (result_ok (meanings word).holidays)
+-- The bytes that a reader gave up to its end are a zone, or why they are not one. After a failed
+-- read nothing is known of them.
+abbrev pub IsReadZone : Option (List ℕ) → Option (List ℕ) → Result Timeline ReadZoneError → Type 0
+IsReadZone old new (Ok zone) = (bytes : List ℕ) × IsAtEnd new × Consumes old new bytes × IsFile bytes zone
+IsReadZone old new (Err (Zone error)) = (bytes : List ℕ) × IsAtEnd new × Consumes old new bytes
+    × ((zone : Timeline) → ¬ IsFile bytes zone) × IsFileError bytes error
+IsReadZone old new (Err (File error)) = ⊤

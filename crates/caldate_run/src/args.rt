@@ -1,13 +1,6 @@
 //! The command that the arguments give.
-ghost use Rattle.std.specs.Prelude.{◌≡◌, ◌↔◌, ◌+◌, ◌<◌, ◌^◌, ◌≤◌, ℕ, List, Ok, Option, None, IfOk, drop, false, slice_get, unwrap_or, if◌then◌else◌};
-ghost use Rattle.caldate_run.specs.Grammar.{Spells};
+ghost use Rattle.std.specs.Prelude.{◌+◌, ◌<◌, ◌^◌, ◌≤◌, IfOk};
 ghost use Rattle.caldate_run.specs.Lists.{HasValidStep};
-ghost use Rattle.caldate_run.specs.Offsets.{offset_of};
-ghost use Rattle.caldate_run.specs.Meanings.{AreMeanings, Meanings};
-ghost use Rattle.caldate_run.specs.Moves.{monday_to_friday};
-ghost use Rattle.caldate_run.specs.Zones.{AreOfFiles, is_zone_like, zone_of};
-ghost use Rattle.std.specs.Option.{option_map_or};
-ghost use Rattle.caldate_run.specs.Requests.{amount_at, amount_of, arguments_of, parse_args, clock_of, conflict_with_request, count_at, default_mode, duration_of, end_at, filter_at, filter_of, filter_with, floor_at, occurrence_at, lines_command, named_field, once_command, once_of, only_at, place_at, request_at, request_of, skip_in, start_at, to_of, unit_at, expected_verb, weekday_of, words_left};
 
 pub mod arguments;
 pub(crate) mod bounds;
@@ -32,7 +25,7 @@ use crate::args::listing::list_of;
 use crate::args::names::{CommandName, Verb};
 use crate::args::offset::offset_of;
 use crate::args::options::{
-    Options, assumptions_in, conflict_in, field_of, options_of, readers_in,
+    Options, assumptions_in, conflict_in, field_of, options_of, readers_in, zone_of,
 };
 use crate::args::spelling::{
     command_of, minutes_of, minutes_word, parse_i64, parse_u8, period_of, start_of, unit_of,
@@ -41,29 +34,41 @@ use crate::args::spelling::{
 use crate::args::target::target_at;
 use crate::args::usage_error::{Expected, UsageError, usage_error_at};
 use crate::args::words::{cut, ended, ends_at, only_at, word_as, word_at};
+use crate::data_files::DataFiles;
 use crate::field_name::FieldName;
 use crate::on_invalid::OnInvalid;
 use crate::request::{Clock, Command, DayMove, Field, Filter, Place, Policy, Request, TimeUnit};
-use crate::zones::{DataFiles, is_zone_like, zone_of};
+use crate::run::lines::next_line;
+use crate::run::quoting::Quoting;
+use crate::zones::is_zone_like;
 use cal_datetime::{OffsetDateTime, PlainDateTime};
 use cal_schedule::Workdays;
-use cal_time::{SignedDuration, UtcOffset, Weekday};
+use cal_time::{SignedDuration, Weekday};
 use cal_zone::Zone;
+
+/// Parses arguments with zero bytes between them, or `None` if they are too long.
+pub fn asked_by<'a, D: DataFiles<'a>>(
+    arguments: Option<&'a [u8]>,
+    now: Option<PlainDateTime>,
+    files: &mut D,
+) -> Result<Command<'a>, UsageError<'a>>
+    ensures steps { IfOk result HasValidStep }
+{
+    match arguments {
+        Some(words) => parse_args(words, now, files),
+        None => Err(usage_error_at(0, Expected::Short)),
+    }
+}
 
 /// Parses arguments with zero bytes between them, or returns the first invalid or missing word. In
 /// `add 1 fortnight` the word at index 2 is not a unit. The words `today` and `now` mean the
 /// date-time `now`, which is at UTC.
-pub fn parse_args<'a>(
+pub fn parse_args<'a, D: DataFiles<'a>>(
     words: &'a [u8],
     now: Option<PlainDateTime>,
-    files: &DataFiles<'a>,
-) -> Result<Command<'a>, UsageError>
+    files: &mut D,
+) -> Result<Command<'a>, UsageError<'a>>
     ensures steps { IfOk result HasValidStep }
-    ensures value { (meanings : Meanings)
-        → AreMeanings meanings (arguments_of words.now)
-        → AreOfFiles files.now meanings → result ≡ parse_args now meanings (arguments_of words.now) }
-    ensures spelled { (meanings : Meanings) (command : Command) → AreMeanings meanings (arguments_of words.now)
-        → AreOfFiles files.now meanings → result ≡ Ok command ↔ Spells now meanings (arguments_of words.now) command }
 {
     let nothing = usage_error_at(0, Expected::Something);
     let first = word_at(words, 0).ok_or(nothing)?;
@@ -73,22 +78,25 @@ pub fn parse_args<'a>(
     match command_of(first) {
         Some(CommandName::List) => list_of(words, &now_in(&None, now), files),
         Some(CommandName::Date) => once_of(words, now, files),
-        Some(CommandName::Help) => ended(words, 1, Command::Help),
-        Some(CommandName::Version) => ended(words, 1, Command::Version),
+        Some(CommandName::Help) => {
+            ended(words, 1, ())?;
+            Ok(Command::Help)
+        }
+        Some(CommandName::Version) => {
+            ended(words, 1, ())?;
+            Ok(Command::Version)
+        }
         None => Ok(lines_command(filter_at(words, Some(words), 0, now, files)?)),
     }
 }
 
 /// Parses the text after `--date`, options and a request.
-fn once_of<'a>(
+fn once_of<'a, D: DataFiles<'a>>(
     words: &'a [u8],
     now: Option<PlainDateTime>,
-    files: &DataFiles<'a>,
-) -> Result<Command<'a>, UsageError>
+    files: &mut D,
+) -> Result<Command<'a>, UsageError<'a>>
     ensures steps { IfOk result HasValidStep }
-    ensures value { (meanings : Meanings)
-        → AreMeanings meanings (arguments_of words.now)
-        → AreOfFiles files.now meanings → result ≡ once_of now meanings (arguments_of words.now) }
 {
     let Some(rest) = cut(words).1 else {
         return Err(usage_error_at(1, Expected::Target));
@@ -97,13 +105,24 @@ fn once_of<'a>(
     if text == b"".as_slice() {
         return Err(usage_error_at(1, Expected::Target));
     }
-    Ok(once_command(filter_at(words, rest, 2, now, files)?))
+    let filter = filter_at(words, rest, 2, now, files)?;
+    if has_more_lines(filter.field, text) {
+        return Err(usage_error_at(1, Expected::Target));
+    }
+    Ok(once_command(filter))
+}
+
+/// Returns whether the text has more than one line, or with `--csv` more than one record.
+fn has_more_lines(field: Option<Field>, text: &[u8]) -> bool {
+    match next_line(field, Quoting::Ready, text) {
+        Some((_line, rest)) => !rest.is_empty(),
+        None => false,
+    }
 }
 
 /// Returns the command for the lines of the input.
 fn lines_command<'a>(filter: Filter<'a>) -> Command<'a>
     ensures steps { HasValidStep result }
-    ensures command { result ≡ lines_command filter.entry }
 {
     match named_field(&filter) {
         Some(field) => Command::Named(filter, field),
@@ -114,7 +133,6 @@ fn lines_command<'a>(filter: Filter<'a>) -> Command<'a>
 /// Returns the command for the text after `--date`.
 fn once_command<'a>(filter: Filter<'a>) -> Command<'a>
     ensures steps { HasValidStep result }
-    ensures command { result ≡ once_command filter.entry }
 {
     match named_field(&filter) {
         Some(field) => Command::NamedOnce(filter, field),
@@ -123,9 +141,7 @@ fn once_command<'a>(filter: Filter<'a>) -> Command<'a>
 }
 
 /// Returns the first field to answer, if any field has a name.
-fn named_field(filter: &Filter<'_>) -> Option<Field>
-    ensures { result ≡ named_field filter.now }
-{
+fn named_field(filter: &Filter<'_>) -> Option<Field> {
     if filter.names.any() || filter.request.names_other() {
         filter.field
     } else {
@@ -134,17 +150,14 @@ fn named_field(filter: &Filter<'_>) -> Option<Field>
 }
 
 /// Parses options and a request from the word at an index on, where `rest` is.
-fn filter_at<'a>(
+fn filter_at<'a, D: DataFiles<'a>>(
     words: &'a [u8],
     rest: Option<&'a [u8]>,
     at: usize,
     now: Option<PlainDateTime>,
-    files: &DataFiles<'a>,
-) -> Result<Filter<'a>, UsageError>
+    files: &mut D,
+) -> Result<Filter<'a>, UsageError<'a>>
     requires few { at ≤ 2 }
-    requires rest { words_left rest ≡ drop at (arguments_of words.now) }
-    ensures { (meanings : Meanings) → AreMeanings meanings (arguments_of words.now)
-        → AreOfFiles files.now meanings → result ≡ filter_at now meanings (arguments_of words.now) at }
 {
     let (options, at) = options_of(rest, at, files)?;
     if let Some(expected) = conflict_in(&options) {
@@ -159,9 +172,7 @@ fn filter_with<'a>(
     at: usize,
     options: Options<'a>,
     request: Request<'a>,
-) -> Result<Filter<'a>, UsageError>
-    ensures { result ≡ filter_with at options.entry request.entry }
-{
+) -> Result<Filter<'a>, UsageError<'static>> {
     if let Some(expected) = conflict_with_request(&options, &request) {
         return Err(usage_error_at(at, expected));
     }
@@ -169,9 +180,7 @@ fn filter_with<'a>(
 }
 
 /// Returns the requirement of the request that the options don't meet, if there is one.
-fn conflict_with_request(options: &Options<'_>, request: &Request<'_>) -> Option<Expected>
-    ensures { result ≡ conflict_with_request options.now request.now }
-{
+fn conflict_with_request(options: &Options<'_>, request: &Request<'_>) -> Option<Expected> {
     if options.append.is_some() && request.keeps() {
         Some(Expected::AppendKeep)
     } else if request.reads_other() && options.fields.is_none() {
@@ -185,9 +194,7 @@ fn conflict_with_request(options: &Options<'_>, request: &Request<'_>) -> Option
     }
 }
 
-fn filter_of<'a>(options: Options<'a>, request: Request<'a>) -> Filter<'a>
-    ensures { result ≡ filter_of options.entry request.entry }
-{
+fn filter_of<'a>(options: Options<'a>, request: Request<'a>) -> Filter<'a> {
     Filter {
         on_invalid: match options.on_invalid {
             Some(mode) => mode,
@@ -208,9 +215,7 @@ fn filter_of<'a>(options: Options<'a>, request: Request<'a>) -> Filter<'a>
 }
 
 /// Returns the name of a new field in the header, if there is one.
-fn column_of<'a>(header: bool, name: Option<FieldName<'a>>) -> Option<FieldName<'a>>
-    ensures { result ≡ if header then name.entry else None }
-{
+fn column_of<'a>(header: bool, name: Option<FieldName<'a>>) -> Option<FieldName<'a>> {
     if !header {
         return None;
     }
@@ -218,9 +223,7 @@ fn column_of<'a>(header: bool, name: Option<FieldName<'a>>) -> Option<FieldName<
 }
 
 /// Returns the clocks of the zone. The default policy is `compatible`.
-fn clock_of<'a>(zone: Option<Zone<'a>>, policy: Option<Policy>) -> Option<Clock<'a>>
-    ensures { result ≡ clock_of zone.entry policy }
-{
+fn clock_of<'a>(zone: Option<Zone<'a>>, policy: Option<Policy>) -> Option<Clock<'a>> {
     Some(Clock {
         zone: zone?,
         policy: policy.unwrap_or(Policy::Compatible),
@@ -228,18 +231,14 @@ fn clock_of<'a>(zone: Option<Zone<'a>>, policy: Option<Policy>) -> Option<Clock<
 }
 
 /// Returns how many lines are passed on at the start. A header is the first of them.
-fn skip_in(options: &Options<'_>) -> u64
-    ensures { result ≡ skip_in options.now }
-{
+fn skip_in(options: &Options<'_>) -> u64 {
     let skip = options.skip.unwrap_or(0);
     if options.header && skip == 0 { 1 } else { skip }
 }
 
 /// Returns what is written for a line without an answer if no option says it. `part` is `true` if
 /// only a part of a line is answered.
-fn default_mode(request: &Request<'_>, part: bool) -> OnInvalid
-    ensures { result ≡ default_mode request.now part }
-{
+fn default_mode(request: &Request<'_>, part: bool) -> OnInvalid {
     match (request, part) {
         (Request::Keep(_), _) => OnInvalid::Drop,
         (_, true) => OnInvalid::Keep,
@@ -248,31 +247,27 @@ fn default_mode(request: &Request<'_>, part: bool) -> OnInvalid
 }
 
 /// Parses the request whose verb has this index.
-fn request_at<'a>(
+fn request_at<'a, D: DataFiles<'a>>(
     words: &'a [u8],
     at: usize,
     now: Option<OffsetDateTime>,
-    files: &DataFiles<'a>,
-) -> Result<Request<'a>, UsageError>
+    files: &mut D,
+) -> Result<Request<'a>, UsageError<'a>>
     requires { at + 5 < 2 ^ 64 }
-    ensures { (meanings : Meanings) → AreMeanings meanings (arguments_of words.now)
-        → AreOfFiles files.now meanings → result ≡ request_at now meanings (arguments_of words.now) at }
 {
     let verb = word_as(words, at, verb_of, expected_verb(at))?;
     request_of(verb, words, at + 1, now, files)
 }
 
 /// Parses the arguments of a verb.
-fn request_of<'a>(
+fn request_of<'a, D: DataFiles<'a>>(
     verb: Verb,
     words: &'a [u8],
     at: usize,
     now: Option<OffsetDateTime>,
-    files: &DataFiles<'a>,
-) -> Result<Request<'a>, UsageError>
+    files: &mut D,
+) -> Result<Request<'a>, UsageError<'a>>
     requires { at + 4 < 2 ^ 64 }
-    ensures { (meanings : Meanings) → AreMeanings meanings (arguments_of words.now)
-        → AreOfFiles files.now meanings → result ≡ request_of now meanings (arguments_of words.now) at verb }
 {
     match verb {
         Verb::To => to_at(words, at),
@@ -303,18 +298,15 @@ fn request_of<'a>(
 }
 
 /// Parses `WEEKDAY`.
-fn weekday_at(words: &[u8], at: usize) -> Result<Weekday, UsageError>
+fn weekday_at(words: &[u8], at: usize) -> Result<Weekday, UsageError<'static>>
     requires { at + 1 < 2 ^ 64 }
-    ensures { result ≡ only_at (arguments_of words.now) at weekday_of Expected.Weekday }
 {
     only_at(words, at, weekday_of, Expected::Weekday)
 }
 
 /// Parses `FORM` or `FORMAT`.
-fn to_at(words: &[u8], at: usize) -> Result<Request<'static>, UsageError>
+fn to_at(words: &[u8], at: usize) -> Result<Request<'static>, UsageError<'static>>
     requires { at + 1 < 2 ^ 64 }
-    ensures { (meanings : Meanings) → AreMeanings meanings (arguments_of words.now)
-        → result ≡ only_at (arguments_of words.now) at (to_of meanings) Expected.Form }
 {
     let usage_error = usage_error_at(at, Expected::Form);
     let word = word_at(words, at).ok_or(usage_error)?;
@@ -323,9 +315,8 @@ fn to_at(words: &[u8], at: usize) -> Result<Request<'static>, UsageError>
 }
 
 /// Parses `PERIOD`, `day`, `hour`, `minute` or `N minutes`.
-fn start_at(words: &[u8], at: usize) -> Result<Request<'static>, UsageError>
+fn start_at(words: &[u8], at: usize) -> Result<Request<'static>, UsageError<'static>>
     requires { at + 2 < 2 ^ 64 }
-    ensures { result ≡ start_at (arguments_of words.now) at }
 {
     match word_at(words, at).and_then(minutes_of) {
         Some(minutes) => floor_at(words, at + 1, minutes),
@@ -333,28 +324,28 @@ fn start_at(words: &[u8], at: usize) -> Result<Request<'static>, UsageError>
     }
 }
 
-fn floor_at(words: &[u8], at: usize, minutes: u16) -> Result<Request<'static>, UsageError>
+fn floor_at(words: &[u8], at: usize, minutes: u16) -> Result<Request<'static>, UsageError<'static>>
     requires { at + 1 < 2 ^ 64 }
-    ensures { result ≡ floor_at (arguments_of words.now) at minutes }
 {
     only_at(words, at, minutes_word, Expected::Minutes)?;
     Ok(Request::Floor(minutes))
 }
 
 /// Parses `PERIOD`.
-fn end_at(words: &[u8], at: usize) -> Result<Request<'static>, UsageError>
+fn end_at(words: &[u8], at: usize) -> Result<Request<'static>, UsageError<'static>>
     requires { at + 1 < 2 ^ 64 }
-    ensures { result ≡ end_at (arguments_of words.now) at }
 {
     let period = only_at(words, at, period_of, Expected::Period)?;
     Ok(Request::Move(DayMove::End(period)))
 }
 
 /// Parses `OFFSET` or `ZONE`.
-fn place_at<'a>(words: &[u8], at: usize, files: &DataFiles<'a>) -> Result<Place<'a>, UsageError>
+fn place_at<'a, D: DataFiles<'a>>(
+    words: &'a [u8],
+    at: usize,
+    files: &mut D,
+) -> Result<Place<'a>, UsageError<'a>>
     requires { at + 1 < 2 ^ 64 }
-    ensures { (meanings : Meanings) → AreOfFiles files.now meanings
-        → result ≡ place_at meanings (arguments_of words.now) at }
 {
     if names_zone(words, at) {
         return Ok(Place::Zone(zone_at(words, at, files)?));
@@ -364,9 +355,7 @@ fn place_at<'a>(words: &[u8], at: usize, files: &DataFiles<'a>) -> Result<Place<
 }
 
 /// Returns whether the word is read as the name of a zone.
-fn names_zone(words: &[u8], at: usize) -> bool
-    ensures { result ≡ option_map_or is_zone_like (slice_get (arguments_of words.now) at) false }
-{
+fn names_zone(words: &[u8], at: usize) -> bool {
     match word_at(words, at) {
         Some(word) => is_zone_like(word),
         None => false,
@@ -374,25 +363,21 @@ fn names_zone(words: &[u8], at: usize) -> bool
 }
 
 /// Parses `ZONE`.
-pub(crate) fn zone_at<'a>(
-    words: &[u8],
+pub(crate) fn zone_at<'a, D: DataFiles<'a>>(
+    words: &'a [u8],
     at: usize,
-    files: &DataFiles<'a>,
-) -> Result<Zone<'a>, UsageError>
+    files: &mut D,
+) -> Result<Zone<'a>, UsageError<'a>>
     requires { at + 1 < 2 ^ 64 }
-    ensures { (meanings : Meanings) → AreOfFiles files.now meanings
-        → result ≡ only_at (arguments_of words.now) at (zone_of meanings) Expected.Zone }
 {
     let usage_error = usage_error_at(at, Expected::Zone);
-    let word = word_at(words, at).ok_or(usage_error)?;
-    let zone = zone_of(files, word).ok_or(usage_error)?;
+    let name = word_at(words, at).ok_or(usage_error)?;
+    let zone = zone_of(name, usage_error, files)?;
     ended(words, at + 1, zone)
 }
 
 /// Returns the word expected for the verb. At index 0, options such as `--help` are allowed too.
-fn expected_verb(at: usize) -> Expected
-    ensures { result ≡ expected_verb at }
-{
+fn expected_verb(at: usize) -> Expected {
     if at == 0 {
         Expected::Start
     } else {
@@ -401,9 +386,8 @@ fn expected_verb(at: usize) -> Expected
 }
 
 /// Parses `N` or `N UNIT`. The default unit is days.
-fn amount_at(words: &[u8], at: usize) -> Result<Request<'static>, UsageError>
+fn amount_at(words: &[u8], at: usize) -> Result<Request<'static>, UsageError<'static>>
     requires { at + 2 < 2 ^ 64 }
-    ensures { result ≡ amount_at (arguments_of words.now) at }
 {
     let number = word_as(words, at, parse_i64, Expected::Number)?;
     let unit = unit_at(words, at + 1)?;
@@ -414,9 +398,8 @@ fn amount_at(words: &[u8], at: usize) -> Result<Request<'static>, UsageError>
 }
 
 /// Parses the last word as a unit. The default is days.
-fn unit_at(words: &[u8], at: usize) -> Result<TimeUnit, UsageError>
+fn unit_at(words: &[u8], at: usize) -> Result<TimeUnit, UsageError<'static>>
     requires { at + 1 < 2 ^ 64 }
-    ensures { result ≡ unit_at (arguments_of words.now) at }
 {
     if ends_at(words, at) {
         return Ok(TimeUnit::Days);
@@ -425,9 +408,7 @@ fn unit_at(words: &[u8], at: usize) -> Result<TimeUnit, UsageError>
 }
 
 /// Returns the request to add `number` units, or `None` if a duration can't hold them.
-fn amount_of(number: i64, unit: TimeUnit) -> Option<Request<'static>>
-    ensures { result ≡ amount_of number unit }
-{
+fn amount_of(number: i64, unit: TimeUnit) -> Option<Request<'static>> {
     match unit {
         TimeUnit::Years => Some(Request::Move(DayMove::Years(number))),
         TimeUnit::Months => Some(Request::Move(DayMove::Months(number))),
@@ -441,26 +422,22 @@ fn amount_of(number: i64, unit: TimeUnit) -> Option<Request<'static>>
 }
 
 /// Returns the request to add `number` units of `unit` seconds each.
-fn duration_of(number: i64, unit: u32) -> Option<Request<'static>>
-    ensures { result ≡ duration_of unit number }
-{
+fn duration_of(number: i64, unit: u32) -> Option<Request<'static>> {
     let seconds = number.checked_mul(i64::from(unit))?;
     Some(Request::Add(SignedDuration::seconds(seconds)))
 }
 
 /// Parses `WEEKDAY` or `WEEKDAY N`.
-fn occurrence_at(words: &[u8], at: usize) -> Result<(Weekday, u8), UsageError>
+fn occurrence_at(words: &[u8], at: usize) -> Result<(Weekday, u8), UsageError<'static>>
     requires { at + 2 < 2 ^ 64 }
-    ensures { result ≡ occurrence_at (arguments_of words.now) at }
 {
     let weekday = word_as(words, at, weekday_of, Expected::Weekday)?;
     Ok((weekday, count_at(words, at + 1)?))
 }
 
 /// Parses the last word as a count. The default is 1.
-fn count_at(words: &[u8], at: usize) -> Result<u8, UsageError>
+fn count_at(words: &[u8], at: usize) -> Result<u8, UsageError<'static>>
     requires { at + 1 < 2 ^ 64 }
-    ensures { result ≡ count_at (arguments_of words.now) at }
 {
     if ends_at(words, at) {
         return Ok(1);

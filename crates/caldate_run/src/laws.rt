@@ -1,5 +1,5 @@
 //! Laws: a text has one answer, a line has one reply, a recurrence has one list, a record has its
-//! fields, an answer becomes one field, and all arguments have meanings.
+//! fields, and an answer becomes one field.
 ghost use Rattle.std.specs.List.{join_with_byte};
 ghost use Rattle.std.specs.Prelude.{◌≡◌, ◌+◌, ◌∷◌, ◌==◌, ◌<◌, ◌≤◌, ℕ, List, All, IsOk, Option, Result, Some, false, length, map, take, true};
 ghost use Rattle.caldate_run.specs.Answers.{Answer, IsAnswer};
@@ -8,20 +8,14 @@ ghost use Rattle.caldate_run.specs.Lines.{all_lines};
 ghost use Rattle.caldate_run.specs.Recurring.{ListsOccurrences};
 ghost use Rattle.caldate_run.specs.Records.{IsField, IsRecord, records_text};
 ghost use Rattle.caldate_run.specs.Replies.{AreAnswers, IsAnswerToPart, IsReplyTo};
-ghost use Rattle.caldate_run.specs.Meanings.{AreMeanings, Meanings};
-ghost use Rattle.caldate_run.specs.Requests.{arguments_of};
 ghost use Rattle.caldate_run.specs.Room.{longest_left, longest_text};
 ghost use Rattle.caldate_run.specs.Scans.{IsScanned, part_at};
 ghost use Rattle.caldate_run.specs.Targets.{IsAnswerAt};
-ghost use Rattle.caldate_run.specs.Zones.{AreOfFiles};
 ghost use Rattle.caldate_run.specs.declared.run.no_answer.NoAnswer.{NoAnswer};
 ghost use Rattle.caldate_run.specs.declared.run.run_error.RunError.{RunError};
 ghost use Rattle.caldate_run.specs.declared.run.tally.Tally.{Tally};
 
 use crate::answer::{LONGEST_TEXT, read_with};
-use crate::args::formats::format_of;
-use crate::args::options::cut_value;
-use crate::args::words::cut;
 use crate::input::fields::selected_text;
 use crate::output::buffer::Buffer;
 use crate::request::{Field, FieldNumbers, Filter, Occurrences, Span};
@@ -29,8 +23,7 @@ use crate::run::each::push_part;
 use crate::run::lines::cut_return;
 use crate::run::no_answer::NoAnswer;
 use crate::run::other::{other_field, read_other};
-use crate::zones::{DataFiles, zone_in};
-use cal_text::{DateOrMoment, parse_any};
+use cal_text::DateOrMoment;
 use cal_zone::laws::one_local;
 
 /// Proves that no text has two answers to the same request in the same reading.
@@ -183,30 +176,3 @@ pub fn answer_field(field: Field)
     ensures { (part words : List ℕ) → field.csv ≡ true
         → IsField field.separator (in_place_of field part words) }
 {}
-
-/// Proves that the words of all arguments have meanings.
-pub fn have_meanings(arguments: &[u8])
-    ensures { (meanings : Meanings)
-        × AreMeanings meanings (arguments_of arguments.now) }
-{
-    let (word, rest) = cut(arguments);
-    let value = cut_value(word).1;
-    let _found = parse_any(word);
-    let _items = format_of(word);
-    let _found = parse_any(value);
-    let _items = format_of(value);
-    if let Some(words) = rest {
-        have_meanings(words);
-    }
-}
-
-/// Proves that the words of all arguments have meanings, and that all names have zones, or a reason
-/// why not.
-pub fn have_zones(arguments: &[u8], files: &DataFiles<'_>)
-    ensures { (meanings : Meanings)
-        × AreMeanings meanings (arguments_of arguments.now) × AreOfFiles files.now meanings }
-{
-    have_meanings(arguments);
-    let _first = zone_in(files.first);
-    let _second = zone_in(files.second);
-}

@@ -5,6 +5,7 @@
 mod answer;
 pub mod args;
 pub mod clock;
+pub mod data_files;
 pub mod field_name;
 pub mod field_names;
 pub mod files;

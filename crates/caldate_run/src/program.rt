@@ -1,11 +1,10 @@
 //! The program, from its arguments to its status.
-ghost use Rattle.std.specs.Prelude.{◌≡◌, ℕ, Bool, false, List, Option, Some, None, Result, Ok, Err, unwrap_or, if◌then◌else◌};
+ghost use Rattle.std.specs.Prelude.{◌≡◌, ◌<◌, ℕ, length, Bool, false, List, Option, Some, None, Result, Ok, IfErr, IfOk, unwrap_or, if◌then◌else◌};
 ghost use Rattle.caldate_run.specs.Calls.{Reads, Writes, has_read_failure, most_reads, write_failure};
 ghost use Rattle.caldate_run.specs.Ending.{ReportsOutcome};
 ghost use Rattle.caldate_run.specs.Files.{FailsOrKeeps};
 ghost use Rattle.caldate_run.specs.Header.{EndsNamed};
-ghost use Rattle.caldate_run.specs.Lists.{Lists};
-ghost use Rattle.caldate_run.specs.Program.{GivesCommand, GivesCommandOnce, GivesNamedOnce, HasUsageMessage, given_text, given_word};
+ghost use Rattle.caldate_run.specs.Lists.{HasValidStep, Lists};
 ghost use Rattle.caldate_run.specs.Recurring.{ListsOccurrences};
 ghost use Rattle.caldate_run.specs.Runs.{IsRunResult, WritesPage};
 ghost use Rattle.caldate_run.specs.declared.run.ending.Ending.{Ending};
@@ -14,11 +13,10 @@ ghost use Rattle.caldate_run.specs.declared.request.Field.{Field};
 ghost use Rattle.caldate_run.specs.declared.request.Filter.{Filter};
 ghost use Rattle.caldate_run.specs.declared.request.Listing.{Listing};
 ghost use Rattle.caldate_run.specs.declared.request.Occurrences.{Occurrences};
-ghost use Rattle.caldate_run.specs.declared.args.usage_error.UsageError.{UsageError};
 
 use crate::args::clock_words::clock_text;
-use crate::args::parse_args;
-use crate::args::usage_message::{TOO_LONG, report_usage_error};
+use crate::args::usage_error::UsageError;
+use crate::args::usage_message::report_usage_error;
 use crate::args::words::word_at;
 use crate::files::Joined;
 use crate::files::named_files::NamedFiles;
@@ -33,7 +31,6 @@ use crate::run::run;
 use crate::run::run_error::RunError;
 use crate::streams::text::Text;
 use crate::streams::{Sink, Source};
-use crate::zones::DataFiles;
 use cal_datetime::PlainDateTime;
 use cal_time::ShortText;
 use std::env::Env;
@@ -43,36 +40,33 @@ use std::io::Read;
 /// The status for invalid arguments.
 const INVALID_ARGUMENTS: u8 = 2;
 
-/// Runs the command of the arguments, which have zero bytes between them, with the files of the
-/// zones that they name. The words `today` and `now` mean the date-time `now`, which is at UTC.
-/// Returns the status and the result of writing to standard error. If the arguments are invalid, or
-/// `None` because they are too long, this only writes one line to standard error, and the status is
-/// 2.
+/// Runs the command that the arguments ask for. The words `today` and `now` after `--date` mean the
+/// date-time `now`, which is at UTC. Returns the status and the result of writing to standard error.
+/// If the arguments are invalid, this only writes one line to standard error, and the status is 2.
 #[tactic(auto, using(crate::proofs::Calls::sent_all, crate::proofs::Reported::no_reads))]
 pub fn perform<R: Source, W: Sink, E: Sink>(
-    arguments: Option<&[u8]>,
+    asked: Result<Command<'_>, UsageError<'_>>,
+    arguments: &[u8],
     now: &Option<PlainDateTime>,
-    files: &DataFiles<'_>,
     reader: &mut R,
     writer: &mut W,
     errors: &mut E,
 ) -> Ending
-    ensures lines { (filter : Filter) → GivesCommand arguments.entry now.now files.now (Command.Lines filter)
-        → (outcome : Result Unit RunError)
+    requires { IfOk asked HasValidStep }
+    ensures lines { (filter : Filter) → asked.entry ≡ Ok (Command.Lines filter) → (outcome : Result Unit RunError)
         × IsRunResult filter outcome (R.remaining reader.old) (R.remaining reader.new)
         (W.contents writer.old) (W.contents writer.new)
         × Reads R.read_gives most_reads reader.old (has_read_failure outcome) reader.new
         × Writes W.write_gives writer.old (write_failure outcome) writer.new
         × ReportsOutcome outcome result (E.contents errors.old) (E.contents errors.new) }
-    ensures once { (filter : Filter) (text : List ℕ) → GivesCommandOnce arguments.entry now.now files.now filter text
-        → (reader.new ≡ reader.old) × ((outcome : Result Unit RunError) × (rest : Option (List ℕ))
+    ensures once { (filter : Filter) → asked.entry ≡ Ok (Command.Once filter)
+        → (reader.new ≡ reader.old) × ((text : List ℕ) × (outcome : Result Unit RunError) × (rest : Option (List ℕ))
         × IsRunResult filter outcome (Some text) rest (W.contents writer.old) (W.contents writer.new)
         × (has_read_failure outcome ≡ false)
         × Writes W.write_gives writer.old (write_failure outcome) writer.new
         × ReportsOutcome outcome result (E.contents errors.old) (E.contents errors.new)) }
     ensures named { (filter : Filter) (field : Field)
-        → GivesCommand arguments.entry now.now files.now (Command.Named filter field)
-        → EndsNamed filter field (R.remaining reader.old)
+        → asked.entry ≡ Ok (Command.Named filter field) → EndsNamed filter field (R.remaining reader.old)
         (λ own outcome. IsRunResult own outcome (R.remaining reader.old) (R.remaining reader.new)
         (W.contents writer.old) (W.contents writer.new)
         × Reads R.read_gives most_reads reader.old (has_read_failure outcome) reader.new
@@ -81,9 +75,8 @@ pub fn perform<R: Source, W: Sink, E: Sink>(
         (λ failed words. Reads R.read_gives most_reads reader.old failed reader.new
         × (writer.new ≡ writer.old) × (result.status ≡ 2)
         × WritesPage words result.reported (E.contents errors.old) (E.contents errors.new)) }
-    ensures named_once { (filter : Filter) (field : Field) (text : List ℕ)
-        → GivesNamedOnce arguments.entry now.now files.now filter field text
-        → (reader.new ≡ reader.old) × ((rest : Option (List ℕ))
+    ensures named_once { (filter : Filter) (field : Field) → asked.entry ≡ Ok (Command.NamedOnce filter field)
+        → (reader.new ≡ reader.old) × ((text : List ℕ) × (rest : Option (List ℕ))
         × EndsNamed filter field (Some text)
         (λ own outcome. IsRunResult own outcome (Some text) rest
         (W.contents writer.old) (W.contents writer.new)
@@ -92,39 +85,29 @@ pub fn perform<R: Source, W: Sink, E: Sink>(
         × ReportsOutcome outcome result (E.contents errors.old) (E.contents errors.new))
         (λ failed words. (failed ≡ false) × (writer.new ≡ writer.old) × (result.status ≡ 2)
         × WritesPage words result.reported (E.contents errors.old) (E.contents errors.new))) }
-    ensures list { (listing : Listing) → GivesCommand arguments.entry now.now files.now (Command.Dates listing)
-        → (reader.new ≡ reader.old) × ((outcome : Result Unit RunError)
+    ensures list { (listing : Listing) → asked.entry ≡ Ok (Command.Dates listing) → (reader.new ≡ reader.old) × ((outcome : Result Unit RunError)
         × Lists listing outcome (W.contents writer.old) (W.contents writer.new)
         × Writes W.write_gives writer.old (write_failure outcome) writer.new
         × ReportsOutcome outcome result (E.contents errors.old) (E.contents errors.new)) }
-    ensures recurring { (dates : Occurrences) → GivesCommand arguments.entry now.now files.now (Command.Recurring dates)
-        → (reader.new ≡ reader.old) × ((outcome : Result Unit RunError)
+    ensures recurring { (dates : Occurrences) → asked.entry ≡ Ok (Command.Recurring dates) → (reader.new ≡ reader.old) × ((outcome : Result Unit RunError)
         × ListsOccurrences dates outcome (W.contents writer.old) (W.contents writer.new)
         × Writes W.write_gives writer.old (write_failure outcome) writer.new
         × ReportsOutcome outcome result (E.contents errors.old) (E.contents errors.new)) }
-    ensures help { GivesCommand arguments.entry now.now files.now Command.Help
-        → (reader.new ≡ reader.old) × ((outcome : Result Unit RunError)
+    ensures help { asked.entry ≡ Ok Command.Help → (reader.new ≡ reader.old) × ((outcome : Result Unit RunError)
         × WritesPage HELP.now outcome (W.contents writer.old) (W.contents writer.new)
         × Writes W.write_gives writer.old (write_failure outcome) writer.new
         × ReportsOutcome outcome result (E.contents errors.old) (E.contents errors.new)) }
-    ensures version { GivesCommand arguments.entry now.now files.now Command.Version
-        → (reader.new ≡ reader.old) × ((outcome : Result Unit RunError)
+    ensures version { asked.entry ≡ Ok Command.Version → (reader.new ≡ reader.old) × ((outcome : Result Unit RunError)
         × WritesPage VERSION.now outcome (W.contents writer.old) (W.contents writer.new)
         × Writes W.write_gives writer.old (write_failure outcome) writer.new
         × ReportsOutcome outcome result (E.contents errors.old) (E.contents errors.new)) }
-    ensures usage_error { (words : List ℕ) → HasUsageMessage arguments.entry now.now files.now words
-        → (reader.new ≡ reader.old) × (writer.new ≡ writer.old) × (result.status ≡ 2)
-        × WritesPage words result.reported (E.contents errors.old) (E.contents errors.new) }
+    ensures usage_error { IfErr asked.entry (λ error. (reader.new ≡ reader.old) × (writer.new ≡ writer.old) × (result.status ≡ 2)
+        × ((words : List ℕ) × (0 < length words)
+        × WritesPage words result.reported (E.contents errors.old) (E.contents errors.new))) }
     ensures reads { (failed : Bool) × Reads R.read_gives most_reads reader.old failed reader.new }
     ensures reported { Writes E.write_gives errors.old (write_failure result.reported) errors.new }
 {
-    let Some(arguments) = arguments else {
-        return Ending {
-            status: INVALID_ARGUMENTS,
-            reported: write_all(errors, TOO_LONG),
-        };
-    };
-    match parse_args(arguments, *now, files) {
+    match asked {
         Ok(Command::Lines(filter)) => {
             let outcome = run(filter, reader, writer);
             end(outcome, errors)
@@ -149,7 +132,7 @@ pub fn perform<R: Source, W: Sink, E: Sink>(
         Ok(Command::Version) => end(write_all(writer, VERSION), errors),
         Err(usage_error) => Ending {
             status: INVALID_ARGUMENTS,
-            reported: report_usage_error(arguments, files, usage_error, errors),
+            reported: report_usage_error(arguments, usage_error, errors),
         },
     }
 }
@@ -157,25 +140,25 @@ pub fn perform<R: Source, W: Sink, E: Sink>(
 /// Performs the command as `perform` does, and reads the files as one input. Returns the ending of
 /// `perform`, with status 2 if a file couldn't be read.
 pub fn perform_on_files<S: Env + Files, I: Read + Drop, F: Sink + Drop, W: Sink, E: Sink>(
-    arguments: Option<&[u8]>,
+    asked: Result<Command<'_>, UsageError<'_>>,
+    arguments: &[u8],
     now: &Option<PlainDateTime>,
-    zones: &DataFiles<'_>,
     files: &mut Joined<NamedFiles<'_, S, I, F>>,
     writer: &mut W,
     errors: &mut E,
 ) -> Ending
+    requires { IfOk asked HasValidStep }
     ensures failed { FailsOrKeeps files.old.texts.has_failed files.new.texts.has_failed
         files.old.texts.errors files.new.texts.errors }
     ensures status { (own : Ending) × (result.reported ≡ own.reported)
         × (result.status ≡ (if files.new.texts.has_failed then 2 else own.status))
-        × ((filter : Filter) → GivesCommand arguments.entry now.now zones.now (Command.Lines filter)
-        → (outcome : Result Unit RunError)
+        × ((filter : Filter) → asked.entry ≡ Ok (Command.Lines filter) → (outcome : Result Unit RunError)
         × IsRunResult filter outcome None None (W.contents writer.old) (W.contents writer.new)
         × Writes W.write_gives writer.old (write_failure outcome) writer.new
         × ReportsOutcome outcome own (E.contents errors.old) (E.contents errors.new)) }
     ensures reported { Writes E.write_gives errors.old (write_failure result.reported) errors.new }
 {
-    let ending = perform(arguments, now, zones, files, writer, errors);
+    let ending = perform(asked, arguments, now, files, writer, errors);
     Ending {
         status: files.texts.status(ending.status),
         reported: ending.reported,
@@ -189,8 +172,7 @@ fn run_once<W: Sink>(
     now: Option<PlainDateTime>,
     writer: &mut W,
 ) -> Result<(), RunError>
-    ensures ended { (rest : Option (List ℕ)) × IsRunResult filter.entry result
-        (Some (given_text now filter.entry arguments.now)) rest (W.contents writer.old) (W.contents writer.new) }
+    ensures ended { (text : List ℕ) × (rest : Option (List ℕ)) × IsRunResult filter.entry result (Some text) rest (W.contents writer.old) (W.contents writer.new) }
     ensures read { has_read_failure result ≡ false }
     ensures writes { Writes W.write_gives writer.old (write_failure result) writer.new }
 {
@@ -209,9 +191,9 @@ fn run_named_once<W: Sink, E: Sink>(
     writer: &mut W,
     errors: &mut E,
 ) -> Ending
-    ensures ended { (rest : Option (List ℕ))
-        × EndsNamed filter.entry field (Some (given_text now filter.entry arguments.now))
-        (λ own outcome. IsRunResult own outcome (Some (given_text now filter.entry arguments.now)) rest
+    ensures ended { (text : List ℕ) × (rest : Option (List ℕ))
+        × EndsNamed filter.entry field (Some text)
+        (λ own outcome. IsRunResult own outcome (Some text) rest
         (W.contents writer.old) (W.contents writer.new)
         × (has_read_failure outcome ≡ false)
         × Writes W.write_gives writer.old (write_failure outcome) writer.new
@@ -237,9 +219,7 @@ fn text_or<'a>(text: &'a Option<ShortText>, word: &'a [u8]) -> &'a [u8]
 }
 
 /// Returns the word after `--date`, or an empty one.
-fn given_word(arguments: &[u8]) -> &[u8]
-    ensures { result.now ≡ given_word arguments.now }
-{
+fn given_word(arguments: &[u8]) -> &[u8] {
     match word_at(arguments, 1) {
         Some(text) => text,
         None => b"",

@@ -1,8 +1,8 @@
 //! Requests, and how they apply to the lines.
-ghost use Rattle.std.specs.Prelude.{◌≡◌, MatchOption, None, Some, is_some};
-ghost use Rattle.caldate_run.specs.Answers.{counts_workdays, keeps};
+ghost use Rattle.std.specs.Prelude.{◌≡◌, MatchOption, None, Some};
+ghost use Rattle.caldate_run.specs.Answers.{keeps};
 ghost use Rattle.caldate_run.specs.Fields.{with_numbers};
-ghost use Rattle.caldate_run.specs.Targets.{reads_other, target_fields, target_name};
+ghost use Rattle.caldate_run.specs.Targets.{target_fields, target_name};
 
 use crate::field_name::FieldName;
 use crate::field_names::FieldNames;
@@ -206,9 +206,7 @@ impl<'a> Request<'a> {
     }
 
     /// Returns whether the field that has TEXT has a name.
-    pub fn names_other(&self) -> bool
-        ensures { result ≡ is_some (target_name self.now) }
-    {
+    pub fn names_other(&self) -> bool {
         match self.target_name() {
             Some(_) => true,
             None => false,
@@ -216,9 +214,7 @@ impl<'a> Request<'a> {
     }
 
     /// Returns whether other fields of the line have TEXT.
-    pub fn reads_other(&self) -> bool
-        ensures { result ≡ reads_other self.now }
-    {
+    pub fn reads_other(&self) -> bool {
         match self.target_fields() {
             Some(_) => true,
             None => self.names_other(),
@@ -226,9 +222,7 @@ impl<'a> Request<'a> {
     }
 
     /// Returns whether this counts working days.
-    pub fn counts_workdays(&self) -> bool
-        ensures { result ≡ counts_workdays self.now }
-    {
+    pub fn counts_workdays(&self) -> bool {
         match self {
             Request::Move(DayMove::Workdays(_)) => true,
             Request::Until(_, Some(TimeUnit::Workdays)) => true,

@@ -1,50 +1,16 @@
 //! Time zones by name, from files.
-ghost use Rattle.std.specs.Prelude.{◌≡◌, [], is_none, None, not, position};
-ghost use Rattle.caldate_run.specs.Meanings.{Meanings};
-ghost use Rattle.caldate_run.specs.Zones.{AreOfFiles, IsZoneOf, file_named, is_named, is_letter, is_name_byte, is_zone_like, is_zone_name, name_in, zone_of};
+ghost use Rattle.std.specs.Prelude.{◌≡◌, is_none, not, position};
+ghost use Rattle.caldate_run.specs.Zones.{IsReadZone, is_letter, is_name_byte, is_zone_name};
 
 pub mod read_zone_error;
 pub mod zone_source;
 
 use crate::args::offset::offset_of;
-use crate::holidays::holiday_file::HolidayFile;
-use crate::run::lines::index_of;
-use crate::zones::read_zone_error::{FileError, ReadZoneError};
+use crate::streams::Source;
+use crate::zones::read_zone_error::ReadZoneError;
+use crate::zones::zone_source::{MAX_FILE_BYTES, read_whole};
 use cal_tzif::parse;
 use cal_zone::Zone;
-
-/// The file of a zone.
-#[derive(Clone, Copy)]
-pub struct ZoneFile<'a> {
-    /// The name, such as `Europe/Berlin`.
-    pub name: &'a [u8],
-    /// The bytes, or why they can't be read.
-    pub contents: Result<&'a [u8], FileError>,
-}
-
-/// A folder, up to two files of zones in it, and the file of the holidays.
-#[derive(Clone, Copy)]
-pub struct DataFiles<'a> {
-    /// The path of the folder, such as `/usr/share/zoneinfo`.
-    pub folder: &'a [u8],
-    pub first: Option<ZoneFile<'a>>,
-    pub second: Option<ZoneFile<'a>>,
-    pub holidays: Option<HolidayFile<'a>>,
-}
-
-impl DataFiles<'_> {
-    /// Creates a value without a folder and files.
-    pub fn none() -> DataFiles<'static>
-        ensures { (result.folder.now ≡ []) × (result.first ≡ None) × (result.second ≡ None) }
-    {
-        DataFiles {
-            folder: b"",
-            first: None,
-            second: None,
-            holidays: None,
-        }
-    }
-}
 
 /// Returns whether the word may be the name of a zone: letters, digits, `_`, `-`, `+` and `/`, of
 /// which the first is a letter. So its file lies in the folder.
@@ -94,79 +60,22 @@ fn is_name_byte(byte: u8) -> bool
 }
 
 /// Returns whether the word is read as the name of a zone, and not as an offset.
-pub fn is_zone_like(word: &[u8]) -> bool
-    ensures { result ≡ is_zone_like word.now }
-{
+pub fn is_zone_like(word: &[u8]) -> bool {
     is_zone_name(word) && offset_of(word).is_none()
 }
 
-/// Returns the name in `NAME` or `--zone=NAME`.
-#[tactic(auto, using(std::proofs::lemmas::List::take_rest))]
-pub fn name_in(word: &[u8]) -> &[u8]
-    ensures { result.now ≡ name_in word.now }
+/// Reads the file of a zone into the buffer, and returns the zone.
+pub(crate) fn read_zone<'a, R: Source>(
+    file: &mut R,
+    buffer: &'a mut [u8; MAX_FILE_BYTES],
+) -> Result<Zone<'a>, ReadZoneError>
+    ensures { IsReadZone (R.remaining file.old) (R.remaining file.new) result }
 {
-    match index_of(b'=', word) {
-        Some(at) => &word[at + 1..],
-        None => word,
-    }
-}
-
-fn is_named(name: &[u8], file: Option<ZoneFile<'_>>) -> bool
-    ensures { result ≡ is_named name.now file.entry }
-{
-    match file {
-        Some(file) => file.name == name,
-        None => false,
-    }
-}
-
-/// Returns the file with this name, if it is given.
-pub fn file_named<'a>(files: &DataFiles<'a>, name: &[u8]) -> Option<ZoneFile<'a>>
-    ensures { result ≡ file_named files.now name.now }
-{
-    if is_named(name, files.first) {
-        files.first
-    } else if is_named(name, files.second) {
-        files.second
-    } else {
-        None
-    }
-}
-
-/// Returns the zone of a file, or the reason why the file is not a zone.
-pub fn zone_in<'a>(file: Option<ZoneFile<'a>>) -> Result<Zone<'a>, ReadZoneError>
-    ensures { IsZoneOf file.entry result }
-{
-    let Some(file) = file else {
-        return Err(ReadZoneError::File(FileError::NotFound));
-    };
-    match file.contents {
-        Ok(bytes) => match parse(bytes) {
+    match read_whole(file, buffer) {
+        Ok(length) => match parse(&buffer[..length]) {
             Ok(zone) => Ok(zone),
             Err(error) => Err(ReadZoneError::Zone(error)),
         },
         Err(error) => Err(ReadZoneError::File(error)),
-    }
-}
-
-/// Returns the zone with this name, or the reason why it has none.
-pub fn zone_named<'a>(files: &DataFiles<'a>, name: &[u8]) -> Result<Zone<'a>, ReadZoneError>
-    ensures { (meanings : Meanings) → AreOfFiles files.now meanings
-        → result ≡ (meanings name.now).zone }
-{
-    zone_in(file_named(files, name))
-}
-
-/// Parses the name of a zone.
-pub fn zone_of<'a>(files: &DataFiles<'a>, word: &[u8]) -> Option<Zone<'a>>
-    ensures { (meanings : Meanings) → AreOfFiles files.now meanings
-        → result ≡ zone_of meanings word.now }
-{
-    if !is_zone_name(word) {
-        return None;
-    }
-    match zone_named(files, word) {
-        Ok(zone) => Some(zone),
-        Err(_) => None,
     }
 }

@@ -1,5 +1,6 @@
 //! What the rows in `tests/rows` can't show: readers and writers that fail, arguments without room,
 //! and values that the program doesn't print.
+use crate::tests::memory_files::MemoryFiles;
 use crate::tests::streams::Dripping;
 use caldate_run::args::parse_args;
 use caldate_run::list::list;
@@ -7,7 +8,6 @@ use caldate_run::request::Command;
 use caldate_run::run::ending::end;
 use caldate_run::run::run;
 use caldate_run::run::run_error::RunError;
-use caldate_run::zones::DataFiles;
 use std::alloc::{AllocError, Global};
 use std::fmt::Debug;
 use std::io::{ErrorKind, Read, Write};
@@ -17,6 +17,7 @@ mod arguments;
 mod clock;
 mod files;
 mod long;
+mod memory_files;
 mod named;
 mod one_answer;
 mod readings;
@@ -30,7 +31,7 @@ fn run_by<R: Read, W: Write>(
     reader: &mut R,
     writer: &mut W,
 ) -> Result<(), RunError> {
-    match parse_args(arguments, None, &DataFiles::none()) {
+    match parse_args(arguments, None, &mut MemoryFiles) {
         Ok(Command::Lines(filter)) => run(filter, reader, writer),
         Ok(Command::Dates(listing)) => list(&listing, writer),
         _ => Err(RunError::Write(ErrorKind::InvalidInput)),

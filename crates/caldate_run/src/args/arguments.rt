@@ -1,6 +1,5 @@
 //! The arguments of the program.
-ghost use Rattle.std.specs.Prelude.{◌≡◌, ◌≤◌, IfSome, length};
-ghost use Rattle.caldate_run.specs.Requests.{arguments_of, reads_input};
+ghost use Rattle.std.specs.Prelude.{◌≤◌, IfSome, length};
 
 use crate::args::spelling::command_of;
 use crate::args::words::cut;
@@ -65,8 +64,6 @@ fn has_arg<E: Env>(env: &E, i: usize) -> bool {
 }
 
 /// Returns whether the words may be a command that reads an input.
-fn reads_input(words: &[u8]) -> bool
-    ensures { result ≡ reads_input (arguments_of words.now) }
-{
+fn reads_input(words: &[u8]) -> bool {
     command_of(cut(words).0).is_none()
 }

@@ -1,8 +1,6 @@
 //! The bounds of `keep`.
-ghost use Rattle.std.specs.Prelude.{◌≡◌, ◌+◌, ◌<◌, ◌^◌, ℕ, List, Option, is_some};
+ghost use Rattle.std.specs.Prelude.{◌≡◌, ◌+◌, ◌<◌, ◌^◌, is_some};
 ghost use Rattle.caldate_run.specs.Bounds.{are_dates, is_after, is_before, is_within, lies_in};
-ghost use Rattle.caldate_run.specs.Meanings.{AreMeanings, Meanings, found_in};
-ghost use Rattle.caldate_run.specs.Requests.{arguments_of, bounds_at, only_at, range_at};
 
 use crate::answer::{is_date, moment_of};
 use crate::args::usage_error::{Expected, UsageError, usage_error_at};
@@ -12,10 +10,12 @@ use cal_datetime::OffsetDateTime;
 use cal_text::DateOrMoment;
 
 /// Parses `from A to B`, `after A` or `before B`.
-pub fn bounds_at(words: &[u8], at: usize, now: Option<OffsetDateTime>) -> Result<Bounds, UsageError>
+pub fn bounds_at(
+    words: &[u8],
+    at: usize,
+    now: Option<OffsetDateTime>,
+) -> Result<Bounds, UsageError<'static>>
     requires { at + 4 < 2 ^ 64 }
-    ensures { (meanings : Meanings) → AreMeanings meanings (arguments_of words.now)
-        → result ≡ bounds_at now meanings (arguments_of words.now) at }
 {
     let unbound = usage_error_at(at, Expected::Bounds);
     let word = word_at(words, at).ok_or(unbound)?;
@@ -34,20 +34,20 @@ fn bound_at(
     words: &[u8],
     at: usize,
     now: Option<OffsetDateTime>,
-) -> Result<DateOrMoment, UsageError>
+) -> Result<DateOrMoment, UsageError<'static>>
     requires { at + 1 < 2 ^ 64 }
-    ensures { (meanings : Meanings) → AreMeanings meanings (arguments_of words.now)
-        → result ≡ only_at (arguments_of words.now) at (found_in now meanings) Expected.Target }
 {
     let bound = found_at(words, at, Expected::Target, now)?;
     ended(words, at + 1, bound)
 }
 
 /// Parses `A to B`.
-fn range_at(words: &[u8], at: usize, now: Option<OffsetDateTime>) -> Result<Bounds, UsageError>
+fn range_at(
+    words: &[u8],
+    at: usize,
+    now: Option<OffsetDateTime>,
+) -> Result<Bounds, UsageError<'static>>
     requires { at + 3 < 2 ^ 64 }
-    ensures { (meanings : Meanings) → AreMeanings meanings (arguments_of words.now)
-        → result ≡ range_at now meanings (arguments_of words.now) at }
 {
     let first = found_at(words, at, Expected::Target, now)?;
     keyword_at(words, at + 1, b"to", Expected::UpTo)?;

@@ -1,8 +1,7 @@
 //! The words `today` and `now`, and the moment that they mean.
-ghost use Rattle.std.specs.Prelude.{◌≡◌, ◌≤◌, Some, length, option_and_then};
-ghost use Rattle.cal_datetime.specs.DateTime.{date_at};
 ghost use Rattle.cal_datetime.specs.OffsetDateTime.{instant};
-ghost use Rattle.caldate_run.specs.ClockWords.{clock_text, clock_word, moment_in, now_in, rfc3339_or_unix_text, zone_of_clock};
+ghost use Rattle.std.specs.Prelude.{Some, ◌≡◌, ◌≤◌, length};
+ghost use Rattle.caldate_run.specs.ClockWords.{moment_in, rfc3339_or_unix_text};
 
 use crate::request::Clock;
 use cal_datetime::{OffsetDateTime, PlainDateTime};
@@ -12,9 +11,7 @@ use cal_time::{Date, ShortText, SignedDuration};
 use cal_zone::Zone;
 
 /// Returns the moment at which the program started, at the offset of the zone, or at UTC.
-pub fn now_in(zone: &Option<Zone<'_>>, now: Option<PlainDateTime>) -> Option<OffsetDateTime>
-    ensures { result ≡ now_in zone.now now }
-{
+pub fn now_in(zone: &Option<Zone<'_>>, now: Option<PlainDateTime>) -> Option<OffsetDateTime> {
     let utc = now?;
     match zone {
         Some(zone) => Some(moment_in(zone, utc.assume_utc())),
@@ -33,9 +30,7 @@ pub(crate) fn moment_in(zone: &Zone<'_>, moment: OffsetDateTime) -> OffsetDateTi
 }
 
 /// Returns the moment for `now`, its date for `today`, and `None` for any other word.
-pub fn clock_word(word: &[u8], now: Option<OffsetDateTime>) -> Option<DateOrMoment>
-    ensures { result ≡ option_and_then (λ m. clock_word m word.now) now }
-{
+pub fn clock_word(word: &[u8], now: Option<OffsetDateTime>) -> Option<DateOrMoment> {
     let now = now?;
     if word == b"today".as_slice() {
         Some(DateOrMoment::Date(DateForm::Calendar, now.date()))
@@ -51,9 +46,7 @@ pub fn clock_text(
     word: &[u8],
     clock: &Option<Clock<'_>>,
     now: Option<PlainDateTime>,
-) -> Option<ShortText>
-    ensures { result ≡ option_and_then (λ z. clock_text clock.now z word.now) now }
-{
+) -> Option<ShortText> {
     let utc = now?;
     if word == b"today".as_slice() {
         Some(CalendarText(date_on(clock, utc)).text())
@@ -65,9 +58,7 @@ pub fn clock_text(
 }
 
 /// Returns the date that the clocks show at a date-time of UTC.
-fn date_on(clock: &Option<Clock<'_>>, utc: PlainDateTime) -> Date
-    ensures { result ≡ date_at (moment_in (zone_of_clock clock.now) utc).local }
-{
+fn date_on(clock: &Option<Clock<'_>>, utc: PlainDateTime) -> Date {
     match clock {
         Some(clock) => moment_in(&clock.zone, utc.assume_utc()).date(),
         None => utc.date(),

@@ -1,9 +1,6 @@
 //! Formats in the words of the arguments.
-ghost use Rattle.std.specs.Prelude.{◌≡◌, IfSome, IsTrue, List, None, Some, option_and_then};
+ghost use Rattle.std.specs.Prelude.{IfSome, IsTrue};
 ghost use Rattle.cal_format.specs.Reading.{are_moment_items};
-ghost use Rattle.cal_format.specs.declared.item.Item.{Item};
-ghost use Rattle.caldate_run.specs.Meanings.{IsItems, IsMeaning, Meanings, format_named, is_format};
-ghost use Rattle.caldate_run.specs.Requests.{form_of, items_of, reader_named, reader_of, reader_with, to_of, value_format_of};
 
 use crate::args::names::{FORMATS, FORMS, NamedReader, READERS, value_named};
 use crate::reading::Reading;
@@ -18,10 +15,7 @@ use std::str;
 const LONGEST_YEARLESS: usize = 62;
 
 /// Returns the text of a format that has a name, or the word itself.
-#[tactic(auto, unfolding(crate::specs::Meanings::format_named))]
-fn format_named(word: &[u8]) -> &[u8]
-    ensures { result.now ≡ format_named word.now }
-{
+fn format_named(word: &[u8]) -> &[u8] {
     match value_named(word, &FORMATS) {
         Some(text) => text.as_bytes(),
         None => word,
@@ -29,17 +23,13 @@ fn format_named(word: &[u8]) -> &[u8]
 }
 
 /// Returns whether the word contains a `%`, or is the name of a format.
-fn is_format(word: &[u8]) -> bool
-    ensures { result ≡ is_format word.now }
-{
+fn is_format(word: &[u8]) -> bool {
     index_of(b'%', format_named(word)).is_some()
 }
 
 /// Parses a format, or the name of one. A line has no zone, so `%Z` is not allowed.
 pub fn format_of(word: &[u8]) -> Option<Format>
-    ensures every { (items : List Item) → IsItems (format_named word.now) items
-        → result ≡ Some items }
-    ensures has { IfSome result (IsItems (format_named word.now)) }
+    ensures has { IfSome result (λ items. IsTrue (are_moment_items items)) }
 {
     match str::from_utf8(format_named(word)) {
         Ok(text) => match Format::new(text) {
@@ -57,10 +47,7 @@ pub fn format_of(word: &[u8]) -> Option<Format>
 }
 
 /// Parses the argument of `to`: the name of a form, or a format.
-pub fn to_of(word: &[u8]) -> Option<Request<'static>>
-    ensures { (meanings : Meanings) → IsMeaning meanings word.now
-        → result ≡ to_of meanings word.now }
-{
+pub fn to_of(word: &[u8]) -> Option<Request<'static>> {
     if is_format(word) {
         Some(Request::Print(format_of(word)?))
     } else {
@@ -69,19 +56,13 @@ pub fn to_of(word: &[u8]) -> Option<Request<'static>>
 }
 
 /// Parses the name of a form.
-#[tactic(auto, unfolding(crate::specs::Requests::form_of))]
-fn form_of(word: &[u8]) -> Option<Form>
-    ensures { result ≡ form_of word.now }
-{
+fn form_of(word: &[u8]) -> Option<Form> {
     value_named(word, &FORMS)
 }
 
 /// Parses the argument of `--read`: the name of a form, or a format that determines a date, a
 /// moment with its offset, or a moment without one, either itself or with a year after it.
-pub fn reader_of(word: &[u8]) -> Option<Reader>
-    ensures { (meanings : Meanings) → IsMeaning meanings word.now
-        → result ≡ reader_of meanings word.now }
-{
+pub fn reader_of(word: &[u8]) -> Option<Reader> {
     if is_format(word) {
         reader_with(word)
     } else {
@@ -90,12 +71,7 @@ pub fn reader_of(word: &[u8]) -> Option<Reader>
 }
 
 /// Returns the form of texts in a format.
-fn reader_with(word: &[u8]) -> Option<Reader>
-    ensures every { (items : List Item) → IsItems (format_named word.now) items
-        → result ≡ reader_with items }
-    ensures none { ((items : List Item) → ¬ IsItems (format_named word.now) items)
-        → result ≡ None }
-{
+fn reader_with(word: &[u8]) -> Option<Reader> {
     match value_format_of(word, false) {
         Some(format) => Some(Reader::Format(format)),
         None => match value_format_of(word, true) {
@@ -107,12 +83,7 @@ fn reader_with(word: &[u8]) -> Option<Reader>
 
 /// Parses a format, with ` %Y` after it if `dated` is `true`, and returns it if it determines a date
 /// or a moment.
-fn value_format_of(word: &[u8], dated: bool) -> Option<ValueFormat>
-    ensures every { (items : List Item) → IsItems (format_named word.now) items
-        → result ≡ option_and_then value_format_of (items_of dated items) }
-    ensures none { ((items : List Item) → ¬ IsItems (format_named word.now) items)
-        → result ≡ None }
-{
+fn value_format_of(word: &[u8], dated: bool) -> Option<ValueFormat> {
     if let Some(format) = format_with(word, dated)?.for_dates() {
         return Some(ValueFormat::Dates(format));
     }
@@ -126,13 +97,7 @@ fn value_format_of(word: &[u8], dated: bool) -> Option<ValueFormat>
 }
 
 /// Parses a format, and appends ` %Y` if `dated` is `true`.
-fn format_with(word: &[u8], dated: bool) -> Option<Format>
-    ensures every { (items : List Item) → IsItems (format_named word.now) items
-        → result ≡ items_of dated items }
-    ensures has { IfSome result (λ items. IsTrue (are_moment_items items)) }
-    ensures none { ((items : List Item) → ¬ IsItems (format_named word.now) items)
-        → result ≡ None }
-{
+fn format_with(word: &[u8], dated: bool) -> Option<Format> {
     let mut format = format_of(word)?;
     if !dated {
         return Some(format);
@@ -145,10 +110,7 @@ fn format_with(word: &[u8], dated: bool) -> Option<Format>
     Some(format)
 }
 
-#[tactic(auto, unfolding(crate::specs::Requests::reader_named))]
-fn reader_named(word: &[u8]) -> Option<Reader>
-    ensures { result ≡ reader_named word.now }
-{
+fn reader_named(word: &[u8]) -> Option<Reader> {
     match value_named(word, &READERS)? {
         NamedReader::Date(order) => Some(Reader::Named(Reading::Date(order))),
         NamedReader::Unix(unit) => Some(Reader::Named(Reading::Unix(unit))),

@@ -1,18 +1,14 @@
 //! The arguments of `list`.
-ghost use Rattle.std.specs.Prelude.{◌≡◌, ◌≤◌, ℕ, List, Option, IfOk, IfSome, false, slice_get};
-ghost use Rattle.std.specs.Option.{option_map_or};
+ghost use Rattle.std.specs.Prelude.{◌≤◌, IfOk, IfSome};
 ghost use Rattle.caldate_run.specs.Lists.{HasValidStep, IsStep};
-ghost use Rattle.caldate_run.specs.Meanings.{AreMeanings, Meanings};
-ghost use Rattle.caldate_run.specs.Requests.{arguments_of, date_at, date_in, is_rule_like, list_of, moment_at, moment_in, occurrences_of, rule_of, span_at, span_from, step_in, step_of};
-ghost use Rattle.caldate_run.specs.Zones.{AreOfFiles};
 
 use crate::args::spelling::{parse_u32, unit_of};
 use crate::args::usage_error::{Expected, UsageError, usage_error_at};
-use crate::args::words::{ended, ends_at, found_at, keyword_at, word_as, word_at};
+use crate::args::words::{ends_at, found_at, keyword_at, word_as, word_at};
 use crate::args::zone_at;
+use crate::data_files::DataFiles;
 use crate::request::{Command, Listing, Occurrences, Span, Step, StepUnit, TimeUnit};
 use crate::run::lines::index_of;
-use crate::zones::DataFiles;
 use cal_datetime::OffsetDateTime;
 use cal_recurrence::{Recurrence, parse};
 use cal_text::DateOrMoment;
@@ -20,16 +16,12 @@ use cal_time::Date;
 
 /// Parses `list from A to B`, `list from A to B by N UNIT` or `list from A to B by RULE`, perhaps
 /// with `at ZONE`.
-pub fn list_of<'a>(
-    words: &[u8],
+pub fn list_of<'a, D: DataFiles<'a>>(
+    words: &'a [u8],
     now: &Option<OffsetDateTime>,
-    files: &DataFiles<'a>,
-) -> Result<Command<'a>, UsageError>
+    files: &mut D,
+) -> Result<Command<'a>, UsageError<'a>>
     ensures steps { IfOk result HasValidStep }
-    ensures list { (meanings : Meanings)
-        → AreMeanings meanings (arguments_of words.now)
-        → AreOfFiles files.now meanings
-        → result ≡ list_of now.now meanings (arguments_of words.now) }
 {
     keyword_at(words, 1, b"from", Expected::From)?;
     if is_rule_like(words) {
@@ -43,15 +35,11 @@ pub fn list_of<'a>(
 }
 
 /// Parses `A to B by RULE`, where A and B are two dates or two moments, perhaps with `at ZONE`.
-fn occurrences_of<'a>(
-    words: &[u8],
+fn occurrences_of<'a, D: DataFiles<'a>>(
+    words: &'a [u8],
     now: &Option<OffsetDateTime>,
-    files: &DataFiles<'a>,
-) -> Result<Occurrences<'a>, UsageError>
-    ensures { (meanings : Meanings) → AreMeanings meanings (arguments_of words.now)
-        → AreOfFiles files.now meanings
-        → result ≡ occurrences_of now.now meanings (arguments_of words.now) }
-{
+    files: &mut D,
+) -> Result<Occurrences<'a>, UsageError<'a>> {
     let first = found_at(words, 2, Expected::Target, *now)?;
     keyword_at(words, 3, b"to", Expected::UpTo)?;
     let span = span_from(words, &first, now)?;
@@ -62,10 +50,11 @@ fn occurrences_of<'a>(
 }
 
 /// Parses `at ZONE` after two moments and RULE, or the end of the words.
-fn span_at<'a>(words: &[u8], span: Span<'a>, files: &DataFiles<'a>) -> Result<Span<'a>, UsageError>
-    ensures { (meanings : Meanings) → AreOfFiles files.now meanings
-        → result ≡ span_at meanings (arguments_of words.now) span.entry }
-{
+fn span_at<'a, D: DataFiles<'a>>(
+    words: &'a [u8],
+    span: Span<'a>,
+    files: &mut D,
+) -> Result<Span<'a>, UsageError<'a>> {
     if ends_at(words, 7) {
         return Ok(span);
     }
@@ -82,10 +71,7 @@ fn span_from(
     words: &[u8],
     first: &DateOrMoment,
     now: &Option<OffsetDateTime>,
-) -> Result<Span<'static>, UsageError>
-    ensures { (meanings : Meanings) → AreMeanings meanings (arguments_of words.now)
-        → result ≡ span_from now.now meanings (arguments_of words.now) first.now }
-{
+) -> Result<Span<'static>, UsageError<'static>> {
     match first {
         DateOrMoment::Date(_, date) => Ok(Span::Dates(*date, date_at(words, 4, now)?)),
         DateOrMoment::Moment(_, moment) => Ok(Span::Moments(*moment, moment_at(words, 4, now)?)),
@@ -93,17 +79,16 @@ fn span_from(
 }
 
 /// Parses the word at an index as a date.
-fn date_at(words: &[u8], at: usize, now: &Option<OffsetDateTime>) -> Result<Date, UsageError>
-    ensures { (meanings : Meanings) → AreMeanings meanings (arguments_of words.now)
-        → result ≡ date_at now.now meanings (arguments_of words.now) at }
-{
+fn date_at(
+    words: &[u8],
+    at: usize,
+    now: &Option<OffsetDateTime>,
+) -> Result<Date, UsageError<'static>> {
     let found = found_at(words, at, Expected::Date, *now)?;
     date_in(&found).ok_or(usage_error_at(at, Expected::Date))
 }
 
-fn date_in(found: &DateOrMoment) -> Option<Date>
-    ensures { result ≡ date_in found.now }
-{
+fn date_in(found: &DateOrMoment) -> Option<Date> {
     match found {
         DateOrMoment::Date(_, date) => Some(*date),
         DateOrMoment::Moment(_, _) => None,
@@ -115,17 +100,12 @@ fn moment_at(
     words: &[u8],
     at: usize,
     now: &Option<OffsetDateTime>,
-) -> Result<OffsetDateTime, UsageError>
-    ensures { (meanings : Meanings) → AreMeanings meanings (arguments_of words.now)
-        → result ≡ moment_at now.now meanings (arguments_of words.now) at }
-{
+) -> Result<OffsetDateTime, UsageError<'static>> {
     let found = found_at(words, at, Expected::Moment, *now)?;
     moment_in(&found).ok_or(usage_error_at(at, Expected::Moment))
 }
 
-fn moment_in(found: &DateOrMoment) -> Option<OffsetDateTime>
-    ensures { result ≡ moment_in found.now }
-{
+fn moment_in(found: &DateOrMoment) -> Option<OffsetDateTime> {
     match found {
         DateOrMoment::Date(_, _) => None,
         DateOrMoment::Moment(_, moment) => Some(*moment),
@@ -138,44 +118,49 @@ const EVERY_DAY: Step = Step {
 };
 
 /// Parses `by N UNIT` after the two dates. The default is every day.
-fn step_of(words: &[u8]) -> Result<Step, UsageError>
+fn step_of(words: &[u8]) -> Result<Step, UsageError<'static>>
     ensures steps { IfOk result IsStep }
-    ensures step { result ≡ step_of (arguments_of words.now) }
 {
     if ends_at(words, 5) {
         return Ok(EVERY_DAY);
     }
     keyword_at(words, 5, b"by", Expected::By)?;
-    let number = word_as(words, 6, parse_u32, Expected::Many)?;
-    let step = word_as(
-        words,
-        7,
-        |word| step_in(number, unit_of(word)?),
-        Expected::UnitOfDays,
-    )?;
-    ended(words, 8, step)
+    let number = number_at(words, 6)?;
+    let unit = word_as(words, 7, unit_of, Expected::UnitOfDays)?;
+    let Some(step) = step_in(number, unit) else {
+        return Err(usage_error_at(7, Expected::UnitOfDays));
+    };
+    if !ends_at(words, 8) {
+        return Err(usage_error_at(8, Expected::End));
+    }
+    Ok(step)
+}
+
+/// Parses the word at an index as a number from 1 to 4294967295.
+fn number_at(words: &[u8], at: usize) -> Result<u32, UsageError<'static>>
+    ensures { IfOk result (λ number. 1 ≤ number) }
+{
+    match word_at(words, at) {
+        Some(word) => parse_u32(word).ok_or(usage_error_at(at, Expected::Many)),
+        None => Err(usage_error_at(at, Expected::Many)),
+    }
 }
 
 /// Returns whether word 6 contains a `=`, as every recurrence does and no number does.
-fn is_rule_like(words: &[u8]) -> bool
-    ensures { result ≡ option_map_or is_rule_like (slice_get (arguments_of words.now) 6) false }
-{
+fn is_rule_like(words: &[u8]) -> bool {
     match word_at(words, 6) {
         Some(word) => index_of(b'=', word).is_some(),
         None => false,
     }
 }
 
-fn rule_of(text: &[u8]) -> Option<Recurrence>
-    ensures { result ≡ rule_of text.now }
-{
+fn rule_of(text: &[u8]) -> Option<Recurrence> {
     parse(text).ok()
 }
 
 /// Returns a step of `number` days, weeks, months or years, or `None` for any other unit.
 fn step_in(number: u32, unit: TimeUnit) -> Option<Step>
     ensures steps { 1 ≤ number → IfSome result IsStep }
-    ensures step { result ≡ step_in number unit }
 {
     let number = u64::from(number);
     let (every, unit) = match unit {

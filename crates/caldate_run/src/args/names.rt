@@ -1,8 +1,4 @@
 //! The names in the arguments, and their meanings.
-ghost use Rattle.std.specs.List.{find};
-ghost use Rattle.std.specs.Prelude.{◌≡◌, bytes_eq, option_map};
-ghost use Rattle.std.specs.Str.{str_eq_ignore_ascii_case};
-ghost use Rattle.caldate_run.specs.Names.{spells, spells_unit};
 
 use crate::on_invalid::OnInvalid;
 use crate::reading::DateOrder;
@@ -186,37 +182,25 @@ pub(crate) const PERIODS: [(&str, Period); 4] = [
 pub(crate) const ROUNDINGS: [(&str, u16); 3] = [("days", 1440), ("hours", 60), ("minutes", 1)];
 
 /// Returns the meaning of a name.
-pub fn value_named<T: Copy>(word: &[u8], table: &[(&str, T)]) -> Option<T>
-    ensures { result
-        ≡ option_map (λ row. row.1) (find (λ row. bytes_eq word.now row.0.now) table.now) }
-{
+pub fn value_named<T: Copy>(word: &[u8], table: &[(&str, T)]) -> Option<T> {
     let row = table.iter().find(|row| word == row.0.as_bytes());
     row.map(|row| row.1)
 }
 
 /// Returns the meaning of a unit. `month`, `MONTHS` and `mon` are the same.
-pub fn value_of_unit<T: Copy>(word: &[u8], table: &[(&str, T)]) -> Option<T>
-    ensures { result
-        ≡ option_map (λ row. row.1) (find (λ row. spells_unit word.now row.0.now) table.now) }
-{
+pub fn value_of_unit<T: Copy>(word: &[u8], table: &[(&str, T)]) -> Option<T> {
     let row = table.iter().find(|row| spells_unit(word, row.0.as_bytes()));
     row.map(|row| row.1)
 }
 
 /// Returns whether the word is the name or its first three letters, ignoring ASCII case.
-#[tactic(auto, unfolding(crate::specs::Names::spells))]
-pub fn spells(word: &[u8], name: &[u8]) -> bool
-    ensures { result ≡ spells word.now name.now }
-{
+pub fn spells(word: &[u8], name: &[u8]) -> bool {
     let length = if name.len() < 3 { name.len() } else { 3 };
     is_alike(word, name) || is_alike(word, &name[..length])
 }
 
 /// Returns whether the word is the unit in plural, singular or its first three letters.
-#[tactic(auto, unfolding(crate::specs::Names::spells_unit))]
-pub fn spells_unit(word: &[u8], many: &[u8]) -> bool
-    ensures { result ≡ spells_unit word.now many.now }
-{
+pub fn spells_unit(word: &[u8], many: &[u8]) -> bool {
     let one = match many {
         [one @ .., _] => one,
         [] => many,
@@ -224,8 +208,6 @@ pub fn spells_unit(word: &[u8], many: &[u8]) -> bool
     is_alike(word, many) || spells(word, one)
 }
 
-fn is_alike(word: &[u8], name: &[u8]) -> bool
-    ensures { result ≡ str_eq_ignore_ascii_case word.now name.now }
-{
+fn is_alike(word: &[u8], name: &[u8]) -> bool {
     word.eq_ignore_ascii_case(name)
 }

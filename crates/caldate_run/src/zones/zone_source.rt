@@ -1,24 +1,12 @@
 //! The files of zones, as the system has them.
-ghost use Rattle.std.specs.IoError.{error_kind};
 ghost use Rattle.std.specs.Io.KnownBytes.{Consumes, IsAtEnd};
-ghost use Rattle.std.specs.Prelude.{◌≡◌, ◌≤◌, ◌<◌, IfErr, IfOk, IfSome, MatchOption, None, Some, SomeIff, pos, Err, length, take, true};
-ghost use Rattle.caldate_run.specs.Meanings.{AreMeanings, Meanings};
-ghost use Rattle.caldate_run.specs.MissingZones.{is_zone_expected, missing_name, name_without_file};
-ghost use Rattle.caldate_run.specs.ReadZoneErrors.{file_error};
-ghost use Rattle.caldate_run.specs.Requests.{arguments_of, parse_args};
-ghost use Rattle.caldate_run.specs.Zones.{AreOfFiles, file_named, is_zone_name, path_in};
+ghost use Rattle.std.specs.Prelude.{◌≡◌, ◌≤◌, ◌<◌, IfErr, IfOk, IfSome, SomeIff, Err, length, take, true};
+ghost use Rattle.caldate_run.specs.Zones.{is_zone_name, path_in};
 
-use crate::args::parse_args;
-use crate::args::usage_error::{Expected, UsageError};
-use crate::args::words::word_at;
 use crate::input::read_some;
-use crate::request::Command;
 use crate::streams::Source;
 use crate::zones::read_zone_error::FileError;
-use crate::zones::{DataFiles, ZoneFile, file_named, is_zone_name, name_in};
-use cal_date::day_number::to_date;
-use cal_datetime::midnight;
-use std::env::Env;
+use std::env::{Env, FillError};
 use std::fs::Files;
 use std::io::{Error, ErrorKind};
 use std::{fs, str};
@@ -32,120 +20,52 @@ pub const MAX_FILE_BYTES: usize = 8192;
 /// The folder, unless the variable `TZDIR` has another one.
 const FOLDER: &[u8] = b"/usr/share/zoneinfo";
 
-/// Writes the path of the folder of the zones to the front of the buffer, and returns its length.
-/// This is the variable `TZDIR`, if it has 1 to 1024 bytes, or else `/usr/share/zoneinfo`. No
-/// clause says which, since contracts know nothing about variables.
-pub fn find_folder<E: Env>(env: &E, buffer: &mut [u8; MAX_PATH_BYTES]) -> usize
-    ensures some { 0 < result }
-    ensures fits { result ≤ 1024 }
-{
+/// Returns the path of the folder of the zones: the variable `TZDIR`, which is written to the
+/// buffer, or if it is missing or empty `/usr/share/zoneinfo`. Returns `None` if the variable has
+/// more than 1024 bytes. No clause says which, since contracts know nothing about variables.
+pub fn find_folder<'a, E: Env>(env: &E, buffer: &'a mut [u8; MAX_PATH_BYTES]) -> Option<&'a [u8]> {
     match env.var("TZDIR", buffer) {
-        Ok(length) if length > 0 => length,
-        _ => {
-            buffer[..FOLDER.len()].copy_from_slice(FOLDER);
-            FOLDER.len()
-        }
+        Ok(0) | Err(FillError::NotPresent) => Some(FOLDER),
+        Ok(length) => Some(&buffer[..length]),
+        Err(FillError::TooLong) => None,
     }
 }
 
-/// Reads the file of the first zone in the arguments whose file is not given, and returns it.
-/// No clause says what is read, since contracts know nothing about the files of the system.
-pub fn read_missing<'a, F: Files>(
-    system: &F,
-    arguments: &'a [u8],
-    files: &DataFiles<'_>,
-    buffer: &'a mut [u8; MAX_FILE_BYTES],
-) -> Option<ZoneFile<'a>>
-    ensures name { (meanings : Meanings) → AreMeanings meanings (arguments_of arguments.now)
-        → AreOfFiles files.now meanings → MatchOption result
-        (missing_name meanings files.now (arguments_of arguments.now) ≡ None)
-        (λ file. missing_name meanings files.now (arguments_of arguments.now) ≡ Some file.name.now) }
-{
-    let Some(name) = missing_name(arguments, files) else {
-        return None;
-    };
-    match read_file(system, files.folder, name, buffer) {
-        Ok(length) => Some(ZoneFile {
-            name,
-            contents: Ok(&buffer[..length]),
-        }),
-        Err(error) => Some(ZoneFile {
-            name,
-            contents: Err(error),
-        }),
-    }
-}
-
-/// Parses arguments at a date-time, so that `now` doesn't hide a zone after it.
-fn parse_anytime<'a>(arguments: &'a [u8], files: &DataFiles<'a>) -> Result<Command<'a>, UsageError>
-    ensures value { (meanings : Meanings) → AreMeanings meanings (arguments_of arguments.now)
-        → AreOfFiles files.now meanings
-        → result ≡ parse_args (Some (pos 0)) meanings (arguments_of arguments.now) }
-{
-    parse_args(arguments, Some(midnight(to_date(0))), files)
-}
-
-/// Returns the name of the first zone in the arguments whose file is not given.
-pub fn missing_name<'a>(arguments: &'a [u8], files: &DataFiles<'_>) -> Option<&'a [u8]>
-    ensures name { IfSome result (λ name. is_zone_name name.now ≡ true) }
-    ensures missing { IfSome result (λ name. file_named files.now name.now ≡ None) }
-    ensures value { (meanings : Meanings) → AreMeanings meanings (arguments_of arguments.now)
-        → AreOfFiles files.now meanings → MatchOption result
-        (missing_name meanings files.now (arguments_of arguments.now) ≡ None)
-        (λ name. missing_name meanings files.now (arguments_of arguments.now) ≡ Some name.now) }
-{
-    let Err(usage_error) = parse_anytime(arguments, files) else {
-        return None;
-    };
-    if !is_zone_expected(usage_error.expected) {
-        return None;
-    }
-    let Some(word) = word_at(arguments, usage_error.index) else {
-        return None;
-    };
-    name_without_file(files, name_in(word))
-}
-
-fn is_zone_expected(expected: Expected) -> bool
-    ensures { result ≡ is_zone_expected expected }
-{
-    expected == Expected::Zone
-}
-
-/// Returns the name, if it can be the name of a zone and its file is not given.
-fn name_without_file<'a>(files: &DataFiles<'_>, name: &'a [u8]) -> Option<&'a [u8]>
-    ensures name { IfSome result (λ name. is_zone_name name.now ≡ true) }
-    ensures missing { IfSome result (λ name. file_named files.now name.now ≡ None) }
-    ensures value { MatchOption result (name_without_file files.now name.now ≡ None)
-        (λ found. name_without_file files.now name.now ≡ Some found.now) }
-{
-    if is_zone_name(name) && file_named(files, name).is_none() {
-        Some(name)
-    } else {
-        None
-    }
-}
-
-/// Reads a file in a folder to the front of the buffer, and returns its length.
-fn read_file<F: Files>(
-    system: &F,
+/// Opens the file of a zone in a folder.
+pub(crate) fn open_zone<S: Files>(
+    system: &S,
     folder: &[u8],
     name: &[u8],
-    buffer: &mut [u8; MAX_FILE_BYTES],
-) -> Result<usize, FileError>
+) -> Result<S::File, FileError>
     requires { is_zone_name name.now ≡ true }
-    ensures fits { IfOk result (λ length. length ≤ 8192) }
     ensures long { 1024 < length (path_in folder.now name.now) → result ≡ Err FileError.TooLong }
 {
     let mut path = [0u8; MAX_PATH_BYTES];
-    let Some(end) = join_path(folder, name, &mut path) else {
-        return Err(FileError::TooLong);
-    };
-    let Ok(path) = str::from_utf8(&path[..end]) else {
+    match join_path(folder, name, &mut path) {
+        Some(end) => open_file(system, &path[..end]),
+        None => Err(FileError::TooLong),
+    }
+}
+
+/// Opens a regular file, or returns the reason why it can't be opened, such as `NotFound`. Any other
+/// file isn't opened, since a FIFO could wait for ever. A path that isn't UTF-8 is `Failed`.
+pub(crate) fn open_file<S: Files>(system: &S, path: &[u8]) -> Result<S::File, FileError> {
+    let Ok(path) = str::from_utf8(path) else {
         return Err(FileError::Failed);
     };
+    check_file(system, path)?;
     match fs::open(system, path) {
-        Ok(mut file) => read_whole(&mut file, buffer),
+        Ok(file) => Ok(file),
+        Err(error) => Err(file_error(&error)),
+    }
+}
+
+/// Checks that there is a regular file at a path.
+fn check_file<S: Files>(system: &S, path: &str) -> Result<(), FileError> {
+    match fs::metadata(system, path) {
+        Ok(metadata) if metadata.is_file() => Ok(()),
+        Ok(metadata) if metadata.is_dir() => Err(FileError::Folder),
+        Ok(_) => Err(FileError::Irregular),
         Err(error) => Err(file_error(&error)),
     }
 }
@@ -190,7 +110,7 @@ pub(crate) fn read_whole<R: Source>(file: &mut R, buffer: &mut [u8]) -> Result<u
 
 /// Returns the reason for an error of the system.
 pub(crate) fn file_error(error: &Error) -> FileError
-    ensures { result ≡ file_error (error_kind error.now) }
+    ensures { result ≡ FileError.TooLong → ⊥ }
 {
     match error.kind() {
         ErrorKind::NotFound => FileError::NotFound,

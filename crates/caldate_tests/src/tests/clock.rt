@@ -1,10 +1,11 @@
 //! The words `today` and `now`, whose meaning rows can't show: here the clock stands still. The
 //! answers are those of GNU `date` and of the moves in `tests/rows`.
 use crate::tests::holds;
+use crate::tests::memory_files::MemoryFiles;
 use cal_datetime::PlainDateTime;
+use caldate_run::args::asked_by;
 use caldate_run::clock::read_clock;
 use caldate_run::program::perform;
-use caldate_run::zones::{DataFiles, ZoneFile};
 use std::io::{self, ErrorKind};
 use std::process::Abort;
 use std::time::{Clock, Duration};
@@ -32,10 +33,6 @@ fn evening() -> Option<PlainDateTime> {
     })
 }
 
-/// The file of the zone `Etc/GMT-1`, which is an hour ahead of UTC.
-const GMT_1: &[u8] =
-    b"TZif2\0\0\0\0\0\0\0\0\0\0\0\0\0\0\0\0\0\0\0\0\0\0\0\0\0\0\0\0\0\0\0\0\0\0\x01\0\0\0\x04\0\0\x0e\x10\0\0+01\0TZif2\0\0\0\0\0\0\0\0\0\0\0\0\0\0\0\0\0\0\0\0\0\0\0\0\0\0\0\0\0\0\0\0\0\0\x01\0\0\0\x04\0\0\x0e\x10\0\0+01\0\n<+01>-1\n";
-
 /// Checks the status of a call that starts at `now`, its output and its message.
 fn check_call<H: Abort + AllocGlobal>(
     rt: &H,
@@ -44,21 +41,12 @@ fn check_call<H: Abort + AllocGlobal>(
     mut input: &[u8],
     (status, written, reported): (u8, &[u8], &[u8]),
 ) {
-    let files = DataFiles {
-        folder: b"zones",
-        first: Some(ZoneFile {
-            name: b"Etc/GMT-1",
-            contents: Ok(GMT_1),
-        }),
-        second: None,
-        holidays: None,
-    };
     let mut output = Vec::new(rt.alloc());
     let mut words = Vec::new(rt.alloc());
     let ending = perform(
-        Some(arguments),
+        asked_by(Some(arguments), now, &mut MemoryFiles),
+        arguments,
         &now,
-        &files,
         &mut input,
         &mut output,
         &mut words,

@@ -1,10 +1,11 @@
 //! Runs whose field has a name, over readers that give few bytes in each call, are interrupted or
 //! fail.
+use crate::tests::memory_files::MemoryFiles;
 use crate::tests::reads::first_lines;
 use crate::tests::streams::Dripping;
 use crate::tests::{holds_at, repeated};
+use caldate_run::args::asked_by;
 use caldate_run::program::perform;
-use caldate_run::zones::DataFiles;
 use std::io::ErrorKind;
 use std::process::Abort;
 use std::test::Fail;
@@ -26,9 +27,9 @@ fn check_named<H: Abort + AllocGlobal>(
     let mut output = Vec::new(rt.alloc());
     let mut words = Vec::new(rt.alloc());
     let ending = perform(
-        Some(arguments),
+        asked_by(Some(arguments), None, &mut MemoryFiles),
+        arguments,
         &None,
-        &DataFiles::none(),
         &mut reader,
         &mut output,
         &mut words,

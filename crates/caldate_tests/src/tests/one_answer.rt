@@ -1,6 +1,5 @@
 //! A run has one answer: two complete runs over the same input leave the same output. So do two
-//! lists, in steps or by a rule. The arguments give one command, since their words have
-//! meanings.
+//! lists, in steps or by a rule.
 ghost use Rattle.std.specs.Prelude.{◌≡◌, List, ℕ, All, Some, IsOk};
 ghost use Rattle.caldate_run.specs.Lines.{split_input};
 ghost use Rattle.caldate_run.specs.Lists.{IsStep};
@@ -8,19 +7,15 @@ ghost use Rattle.caldate_run.specs.Replies.{IsReplyTo};
 ghost use Rattle.caldate_run.specs.Runs.{IsComplete};
 ghost use Rattle.caldate_run.specs.declared.run.tally.Tally.{Tally};
 
-use cal_datetime::PlainDateTime;
-use caldate_run::args::parse_args;
-use caldate_run::args::usage_error::UsageError;
-use caldate_run::laws::{have_zones, one_list, one_reply};
+use caldate_run::laws::{one_list, one_reply};
 use caldate_run::list::list;
 use caldate_run::list::recurring::list_occurrences;
-use caldate_run::request::{Command, Filter, Listing, Occurrences};
+use caldate_run::request::{Filter, Listing, Occurrences};
 use caldate_run::run::lines::next_line;
 use caldate_run::run::quoting::Quoting;
 use caldate_run::run::run;
 use caldate_run::run::run_error::RunError;
 use caldate_run::streams::{Sink, Source};
-use caldate_run::zones::DataFiles;
 
 /// Proves that each line of the input has one reply.
 fn one_reply_each(filter: &Filter<'_>, input: &[u8])
@@ -84,22 +79,5 @@ fn occurrences<W: Sink>(
     (
         list_occurrences(asked, writer),
         list_occurrences(twin, other),
-    )
-}
-
-fn asks<'a>(
-    arguments: &'a [u8],
-    now: &Option<PlainDateTime>,
-    files: &DataFiles<'a>,
-) -> (
-    Result<Command<'a>, UsageError>,
-    Result<Command<'a>, UsageError>,
-)
-    ensures { result.0 ≡ result.1 }
-{
-    have_zones(arguments, files);
-    (
-        parse_args(arguments, *now, files),
-        parse_args(arguments, *now, files),
     )
 }

@@ -1,6 +1,8 @@
 //! Runs over writers that take one byte in each call, are interrupted or fail.
+use crate::tests::memory_files::MemoryFiles;
 use crate::tests::streams::{Dripping, Sipping};
 use crate::tests::{holds, holds_at, repeated, run_by};
+use caldate_run::args::asked_by;
 use caldate_run::program::perform;
 use caldate_run::run::ending::end;
 use caldate_run::run::excerpt::Excerpt;
@@ -8,7 +10,6 @@ use caldate_run::run::no_answer::NoAnswer;
 use caldate_run::run::run_error::RunError;
 use caldate_run::run::tally::Tally;
 use caldate_run::run::unanswered::UnansweredLine;
-use caldate_run::zones::DataFiles;
 use std::io::ErrorKind;
 use std::process::Abort;
 use std::test::Fail;
@@ -205,9 +206,9 @@ fn check_kind<H: Abort + AllocGlobal>(rt: &H, arguments: &[u8], kind: ErrorKind)
     };
     let mut reported = Vec::new(rt.alloc());
     let ending = perform(
-        Some(arguments),
+        asked_by(Some(arguments), None, &mut MemoryFiles),
+        arguments,
         &None,
-        &DataFiles::none(),
         &mut INPUT,
         &mut writer,
         &mut reported,

@@ -6,12 +6,10 @@ use Rattle.caldate_run.proofs.program.run_named_once.Goals as goal
 
 pub returns-clause-ended : goal.returns-clause-ended
 returns-clause-ended g c =
-    let text = rw (c.clock_text-written.ensures, c.given_word-word.ensures) at c.text_or.ensures in
     let short : length c.text_or.result.now < most_reads = omega (arith, c.text_or.type_inv) in
-    let few = rw text at short in
-    let named = rw c.new-text.ensures at c.run_named.ensures.ended in
-    let run = rw text at named in (
+    let named = rw c.new-text.ensures at c.run_named.ensures.ended in (
+      _,
       Some c.run_named.new.reader,
-      named_weaker _ _ _ _ _ _ _ (λ own outcome h. (h.0, never_fails _ _ _ _ few h.1, h.2, h.3))
-          (λ failed words h. (never_fails _ _ _ _ few h.0, h.1, h.2, h.3)) run,
+      named_weaker _ _ _ _ _ _ _ (λ own outcome h. (h.0, never_fails _ _ _ _ short h.1, h.2, h.3))
+          (λ failed words h. (never_fails _ _ _ _ short h.0, h.1, h.2, h.3)) named,
     )

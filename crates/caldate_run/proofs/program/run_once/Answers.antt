@@ -3,10 +3,7 @@ use Rattle.caldate_run.proofs.Takes.{never_fails}
 use Rattle.caldate_run.proofs.program.run_once.Goals as goal
 
 pub returns-clause-ended : goal.returns-clause-ended
-returns-clause-ended g c =
-    let text = rw (c.clock_text-written.ensures, c.given_word-word.ensures) at c.text_or.ensures in
-    let run = rw c.new-text.ensures at c.run.ensures.ended in
-    (_, rw text at run)
+returns-clause-ended g c = let run = rw c.new-text.ensures at c.run.ensures.ended in (_, _, run)
 
 pub returns-clause-read : goal.returns-clause-read
 returns-clause-read g c = never_fails _ _ _ _ (omega (arith, ap length c.new-text.ensures, c.text_or.type_inv)) c.run.ensures.reads

@@ -3,7 +3,6 @@ use Rattle.std.specs.Prelude.{OnErr}
 use Rattle.std.specs.Io.KnownBytes.{Appends}
 use Rattle.caldate_run.specs.Replies.{IsReplyTo}
 use Rattle.caldate_run.specs.Runs.{AppendsFront}
-use Rattle.caldate_run.specs.Excerpts.{excerpt_of}
 use Rattle.caldate_run.specs.RunStates.{NoEnd, passed, quoting_in, quoting_of}
 use Rattle.caldate_run.specs.declared.run.run_error.RunError.{RunError}
 use Rattle.caldate_run.proofs.Splits.{passes_front}
@@ -41,5 +40,4 @@ returns-in_ok-pass_on-clause-advances g c = λ input start s.
     discard_long_line (IsReplyTo filter) filter.on_invalid filter.field input start _ _ c.args.input.now c.keep_last.new.self c.args.progress.now _ c.requires
     (subst (λ (bytes : List ℕ). Appends (g.W.Sink.contents c.args.writer.now) (g.W.Sink.contents c.pass_on.new.writer) (passed filter.on_invalid (take (length bytes - 1) bytes)))
     c.as_bytes-bytes.ensures.value c.in_ok-pass_on.ensures.ok)
-    (omega (arith, c.if-len-gt-MAX_KEPT.true, c.len.ensures)) c.keep_last.ensures state (λ e. c.excerpt_of-progress.ensures.whole e ∙ ap excerpt_of c.as_bytes.ensures.value)
-    c.excerpt_of-progress.ensures.long refl refl s
+    (omega (arith, c.if-len-gt-MAX_KEPT.true, c.len.ensures)) c.keep_last.ensures state refl refl s

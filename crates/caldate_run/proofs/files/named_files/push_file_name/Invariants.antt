@@ -1,8 +1,6 @@
-use Rattle.std.proofs.Common.{◌≡◌, ◌++◌, take}
-use Rattle.std.specs.Prelude.{map}
-use Rattle.caldate_run.specs.Excerpts.{printable}
+use Rattle.std.proofs.Common.{◌≡◌, ◌+◌, length}
 use Rattle.caldate_run.proofs.files.named_files.push_file_name.Given as goal
 
--- the bytes before the position are shown
+-- a byte is shown for each before the position
 abbrev pub invariant-loop-i : goal.invariant-loop-i
-invariant-loop-i l = l.line ≡ l.fn.line ++ map printable (take l.i l.name)
+invariant-loop-i l = length l.line ≡ length l.fn.line + l.i

@@ -1,8 +1,8 @@
 use Rattle.std.proofs.Common.{◌≡◌, ℕ, List, Err, Ok, true, false, inl, inr, refl, subst}
 use Rattle.caldate_run.specs.Calls.Reads.{no_more}
 use Rattle.caldate_run.specs.Ending.{ReportsOutcome}
-use Rattle.caldate_run.specs.Header.{header_error, header_of, numbers_in}
-use Rattle.caldate_run.specs.Runs.{IsRunResult, WritesPage}
+use Rattle.caldate_run.specs.Header.{header_of, numbers_in}
+use Rattle.caldate_run.specs.Runs.{IsRunResult}
 use Rattle.caldate_run.specs.declared.request.Filter.{Filter}
 use Rattle.caldate_run.proofs.Named.{says}
 use Rattle.caldate_run.proofs.run.named.run_named.Goals as goal
@@ -15,7 +15,7 @@ returns-in-Err-clause-ended g c =
       front = front.0;
       left = g.R.Source.remaining c.read_header.new.reader;
       given = front.1;
-      ends = inl (front.2, (c.in-Err.ensures.failed, refl, reported.0, reported.1));
+      ends = inl (front.2, (reported.1.0, reported.1.1, (c.in-Err.ensures.failed, refl, reported.0, reported.1.2)));
     }
 
 pub returns-in-Err-numbers_in-clause-ended : goal.returns-in-Err-numbers_in-clause-ended
@@ -31,10 +31,9 @@ returns-in-Err-numbers_in-clause-ended g c =
       ends = inr (
         c.in-Ok.ensures.header,
         says _ (Err name) _ _ lacking (
-          c.in-Ok.ensures.reads false _ (no_more _ _),
-          refl,
-          refl,
-          subst (λ (h : List ℕ). WritesPage (header_error c.args.field name h) c.report_header_error.result (g.E.Sink.contents c.args.errors.now) (g.E.Sink.contents c.report_header_error.new.writer)) header c.report_header_error.ensures.message,
+          c.report_header_error.ensures.words.0,
+          c.report_header_error.ensures.words.1,
+          (c.in-Ok.ensures.reads false _ (no_more _ _), refl, refl, c.report_header_error.ensures.words.2),
         ),
       );
     }

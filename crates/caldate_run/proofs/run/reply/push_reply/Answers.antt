@@ -7,10 +7,10 @@ held_none : (b : Bool) (kept line : List ℕ) → b ≡ false → IsDroppedFront
 held_none b kept line e h = subst (λ b. IsDroppedFront b kept line) e h
 
 pub returns-in-Ok-clause-replied : goal.returns-in-Ok-clause-replied
-returns-in-Ok-clause-replied c = λ kept before held front number.
+returns-in-Ok-clause-replied c = λ kept before held number.
     let line = c.args.line.now in
     replied c.args.filter.now before kept line c.args.buffer.now c.push_line.new.buffer c.push_end.new.buffer c.in-Ok.goes_out _
-    c.args.progress.now.tally c.count.new.self (held_none _ kept line c.in-Ok.ensures.whole held) (c.in-Ok.ensures.answered line c.cut_return-has_return.ensures.text kept before held front number)
+    c.args.progress.now.tally c.count.new.self (held_none _ kept line c.in-Ok.ensures.whole held) (c.in-Ok.ensures.answered line c.cut_return-has_return.ensures.text kept before held number)
     c.cut_return-has_return.ensures.cut c.push_end.ensures c.count.ensures
 
 pub push_unanswered-requires-clause-goes_on : goal.push_unanswered-requires-clause-goes_on
@@ -23,6 +23,6 @@ returns-else-stops-clause-replied c =
     (c.in-Err.ensures.answered c.args.line.now c.cut_return-has_return.ensures.text) c.push_unanswered.ensures.replied
 
 pub returns-then-stops-clause-ends : goal.returns-then-stops-clause-ends
-returns-then-stops-clause-ends c = λ kept before held front number.
-    let put = c.in-Err.ensures.answered c.args.line.now c.cut_return-has_return.ensures.text kept before held front number in
+returns-then-stops-clause-ends c = λ kept before held number.
+    let put = c.in-Err.ensures.answered c.args.line.now c.cut_return-has_return.ensures.text kept before held number in
     (sym c.stops.ensures ∙ c.if-stops.true, put.1)
