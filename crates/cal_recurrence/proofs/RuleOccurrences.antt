@@ -14,10 +14,10 @@ use Rattle.cal_recurrence.specs.DateTimeRule.{DateTimeParts, is_not_after, is_oc
 use Rattle.cal_recurrence.specs.TimeSearch.{NoneIn, IsFirst, IsNext, selects}
 use Rattle.cal_recurrence.proofs.FirstNumbers.{first-of_list, list-first, list-none}
 
-le-true : (a b : ℤ) → int_le a b ≡ true → a ≤ℤ b
+pub le-true : (a b : ℤ) → int_le a b ≡ true → a ≤ℤ b
 le-true a b e = grind (arith, ints)
 
-true-le : (a b : ℤ) → a ≤ℤ b → int_le a b ≡ true
+pub true-le : (a b : ℤ) → a ≤ℤ b → int_le a b ≡ true
 true-le a b e = grind (arith, ints)
 
 later-no : (until : Option ℤ) (x k : ℕ) → is_not_after until (pos x) ≡ false → x ≤ k → is_not_after until (pos k) ≡ false

@@ -48,8 +48,7 @@ same-past rule ps n = refl
 
 pub same-with : (rule : DateTimeParts) (ps : List ℤ) (n k : ℕ) → passes_with (with_positions rule ps) n k ≡ passes_with (day_rule rule) n k
 same-with rule ps n k =
-    ap (λ u. (period_index u k == period_index u n) && passes (with_positions rule ps) k) (same-unit rule ps)
-    ∙ ap (λ b. (period_index (unit_of (day_rule rule)) k == period_index (unit_of (day_rule rule)) n) && b) (same-passes rule ps k)
+    rw (same-unit rule ps, same-passes rule ps k) refl
 
 regroup : (a b c p m : Bool) → (a && (b && (c && (p && m)))) ≡ ((a && (b && (c && (p && true)))) && m)
 regroup false b c p m = refl
@@ -68,14 +67,7 @@ day-split : (rule : DateTimeParts) (ps : List ℤ) (n : ℕ)
 unfolding date.is_occurrence
 day-split rule ps n =
     let r = with_positions rule ps in
-    let d = day_rule rule in
-    let a = nat_le (date_at rule.start) n in
-    let b = matches_until r.until n in
-    let m = matches_positions r n in
-    regroup a b (periods_past r n == 0) (passes r n) m
-    ∙ ap (λ past. (a && (b && ((past == 0) && (passes r n && true)))) && m) (same-past rule ps n)
-    ∙ ap (λ on. (a && (b && ((periods_past d n == 0) && (on && true)))) && m) (same-passes rule ps n)
-    ∙ ap (λ all. (a && (b && ((periods_past d n == 0) && (passes d n && all)))) && m) (sym (all-positions d n refl))
+    rw (all-positions (day_rule rule) n refl, ← same-past rule ps n, ← same-passes rule ps n) (regroup (nat_le (date_at rule.start) n) (matches_until r.until n) (periods_past r n == 0) (passes r n) (matches_positions r n))
 
 pub day-on : (rule : DateTimeParts) (ps : List ℤ) (n : ℕ) → date.is_occurrence (with_positions rule ps) n ≡ true → date.is_occurrence (day_rule rule) n ≡ true
 day-on rule ps n on = (and_parts (date.is_occurrence (day_rule rule) n) (matches_positions (with_positions rule ps) n) (sym (day-split rule ps n) ∙ on)).0
@@ -211,12 +203,7 @@ selected-day rule n t most below on time has =
     (λ p hit. maps-nth size (ahead - 1) (count_before (times rule) t) (back - 1) p ranks.index hit) ps
     (sym (position-is rule n t ahead back most below on time refl refl) ∙ has) in
     let tests : passes_with days n ≡ outer = λ i k. same-with rule (map (day_position size) ps) n k i in
-    day-split rule (map (day_position size) ps) n
-    ∙ ap (λ b. b && matches_positions days n) on
-    ∙ ap (λ test. allows (λ k. is_nth k (count_before test (n + 1)) (weekdays.count_from test n)) (map (day_position size) ps)) tests
-    ∙ ap (λ a. allows (λ k. is_nth k a back) (map (day_position size) ps)) ahead_some
-    ∙ ap (λ b. allows (λ k. is_nth k (ahead - 1 + 1) b) (map (day_position size) ps)) back_some
-    ∙ mapped
+    rw (day-split rule (map (day_position size) ps) n, on, tests, ahead_some, back_some) mapped
 
 -- What a rule selects passes by its day, its time and its position.
 record Selects (rule : DateTimeParts) (k : ℕ) : Type 0 where

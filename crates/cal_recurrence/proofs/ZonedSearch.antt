@@ -94,11 +94,10 @@ IsUnique zone = (z : ℤ) (a b : Local) → IsLocalOf zone z a → IsLocalOf zon
 pub means-one : (zone : Timeline) → IsUnique zone → (z : ℤ) (m k : LocalAndOffset) → IsMeant zone z m → IsMeant zone z k → k ≡ m
 means-one zone one z m k h g = compatible-one h.local m k h.selected (subst (λ local. IsCompatible local (Some k)) (one z g.local h.local g.shown h.shown) g.selected)
 
-pub nothing-meant : (zone : Timeline) → IsUnique zone → (y : ℤ) (local : Local) → IsLocalOf zone y local → IsCompatible local None → (k : LocalAndOffset) → ¬ IsMeant zone y k
-nothing-meant zone one y local shown none k g = compatible-none local k none (subst (λ other. IsCompatible other (Some k)) (one y g.local local g.shown shown) g.selected)
-
 pub means-none : (set : ZonedSet) → IsUnique set.zone.now → (y x : ℤ) (local : Local) → IsLocalOf set.zone.now y local → IsCompatible local None → NoneAfter (MeansAt set y) x
-means-none set one y x local shown none z k h = absurd (nothing-meant set.zone.now one y local shown none k (subst (λ w. IsMeant set.zone.now w k) h.1 h.0.meant))
+means-none set one y x local shown none z k h =
+    let g : IsMeant set.zone.now y k = rw h.1 at h.0.meant in
+    absurd (compatible-none local k none (rw (one y g.local local g.shown shown) at g.selected))
 
 -- The date-time that a reading means is the first one of this reading.
 same-moment : (set : ZonedSet) → IsUnique set.zone.now → (y : ℤ) (m : LocalAndOffset) → IsMeant set.zone.now y m → (z : ℤ) (k : LocalAndOffset) → MeansAt set y z k → instant k ≡ instant m
@@ -113,11 +112,8 @@ only set one y x m means late = record {
       (let e = same-moment set one y m means.meant z k h in omega (arith, ints, e), λ e. omega (arith, ints, h.1));
 }
 
-all-true : (a b c : Bool) → a ≡ true → b ≡ true → c ≡ true → (a && (b && c)) ≡ true
-all-true a b c e f g = rw (e, f, g) refl
-
 selected : (set : ZonedSet) (z : ℤ) (m : LocalAndOffset) → Means set z m → is_selected set z (instant m) ≡ true
-selected set z m h = all-true _ _ _ h.on h.in_time h.kept
+selected set z m h = rw (h.on, h.in_time, h.kept) refl
 
 pub means-it : (set : ZonedSet) (z : ℤ) (m : LocalAndOffset) → IsDateTime z → IsMeant set.zone.now z m → is_selected set z (instant m) ≡ true → Means set z m
 means-it set z m range meant e =
@@ -489,12 +485,6 @@ next-one set one x (Some m) None h g = let most = g h.place m h.is in absurd (om
 next-one set one x (Some m) (Some k) h g = ap Some (first-one set one x m k h g)
 
 -- ---- an instant of the set
-pub eq-same : (a b : ℤ) → int_eq a b ≡ true → a ≡ b
-eq-same a b e = grind (arith, ints)
-
-pub same-eq : (a b : ℤ) → a ≡ b → int_eq a b ≡ true
-same-eq a b e = grind (arith, ints)
-
 pub has : (set : ZonedSet) (x : ℤ) (m : LocalAndOffset) → IsFirstAfter (Occurs set) (x -ℤ pos 1) m → instant m ≡ x → HasInstant set x
 has set x m h e = record { place = h.place; moment = m; occurs = h.is; same = e }
 
