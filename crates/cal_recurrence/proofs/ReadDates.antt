@@ -121,10 +121,7 @@ spelled y m d n date e f g small few less =
     let number = (y * 100 + m) * 100 + d in
     let year : year_text (year_at n) ≡ digits_at_least 4 y = ap year_text e ∙ ap (λ sign. sign ++ digits_at_least 4 y) (plain-year y small) in
     let word = digits_at_least 4 y ++ digits_at_least 2 m ++ digits_at_least 2 d in
-    let same : day_text n ≡ word =
-    ap (λ first. first ++ digits_at_least 2 (month_at n) ++ digits_at_least 2 (day_of_month_at n)) year
-    ∙ ap (λ second. digits_at_least 4 y ++ digits_at_least 2 second ++ digits_at_least 2 (day_of_month_at n)) f
-    ∙ ap (λ last. digits_at_least 4 y ++ digits_at_least 2 m ++ digits_at_least 2 last) g in
+    let same : day_text n ≡ word = rw (year, f, g) refl in
     let are : AreDigits 8 number word =
     four-more 4 y m d _ (filled 4 y (lit< tt) (omega (arith, small)) (omega (arith, small))) few less in
     let year_is : y ≡ number / 10000 = omega (arith, few, less) in
@@ -155,10 +152,7 @@ day-then n ds rest h =
     let long : nat_lt (length word) 8 ≡ false = grind (arith, nat_tests, h.size, length-append ds rest) in
     let front : first_bytes 8 word ≡ ds = take-append-le 8 ds rest (omega (arith, h.size)) ∙ take_all 8 ds (omega (arith, h.size)) in
     let after : bytes_after 8 word ≡ rest = drop-append-le 8 ds rest (omega (arith, h.size)) ∙ ap (λ bytes. bytes ++ rest) (drop_all 8 ds (omega (arith, h.size))) in
-    ap (λ b. cond b None (option_and_then (with_time (bytes_after 8 word)) (option_and_then day_with (number_of (first_bytes 8 word))))) long
-    ∙ ap (λ r. option_and_then (with_time r) (option_and_then day_with (number_of (first_bytes 8 word)))) after
-    ∙ ap (λ w. option_and_then (with_time rest) (option_and_then day_with (number_of w))) front
-    ∙ ap (option_and_then (with_time rest)) h.day
+    rw (long, after, front, h.day) refl
 
 -- ---- the time of day
 abbrev clock_digits : ℕ → List ℕ
@@ -211,12 +205,7 @@ time-then n t ds zone h =
     let long : nat_lt (length (84 ∷ clock)) 7 ≡ false = grind (arith, nat_tests, h.size, size) in
     let front : first_bytes 6 clock ≡ ds = take-append-le 6 ds zone (omega (arith, h.size)) ∙ take_all 6 ds (omega (arith, h.size)) in
     let after : bytes_after 6 clock ≡ zone = drop-append-le 6 ds zone (omega (arith, h.size)) ∙ ap (λ bytes. bytes ++ zone) (drop_all 6 ds (omega (arith, h.size))) in
-    let reading : List ℕ → List ℕ → Option DateOrTime = λ zone w. option_and_then (λ t. with_zone zone (date_time n t)) (option_and_then time_with (number_of w)) in
-    ap (λ b. cond b (Some (Date n)) (cond (nat_lt (length (84 ∷ clock)) 7) None (reading (bytes_after 6 clock) (first_bytes 6 clock)))) some
-    ∙ ap (λ b. cond b None (reading (bytes_after 6 clock) (first_bytes 6 clock))) long
-    ∙ ap (λ z. reading z (first_bytes 6 clock)) after
-    ∙ ap (reading zone) front
-    ∙ ap (option_and_then (λ t. with_zone zone (date_time n t))) h.time
+    rw (some, long, after, front, h.time) refl
 
 -- ---- the whole word
 split-reading : (ds a b c : List ℕ) → ds ++ codes "T" ++ a ++ b ++ c ≡ ds ++ (84 ∷ (a ++ b ++ c))

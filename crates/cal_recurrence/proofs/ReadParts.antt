@@ -61,19 +61,14 @@ one-part : (draft more : Draft) (text rest : List ℕ) (r : Recurrence) → IsPl
 one-part draft more text rest r plain put h = record {
   feed = avoids-cons 10 59 (text ++ rest) refl (avoids-append 10 text rest plain.feed h.feed);
   cut = λ first clean. cut-here 59 first (text ++ rest) clean;
-  reads = λ at.
-      ap (read_on at draft) (h.cut text plain.semicolon)
-      ∙ ap (and_on at (λ next. read_on (at + length text + 1) next (parts_after rest))) put
-      ∙ h.reads (at + length text + 1);
+  reads = λ at. rw (h.cut text plain.semicolon, put) (h.reads (at + length text + 1));
 }
 
 -- a value of a part that was not given before
 given : {X : Type 0} (draft : Draft) (at : RulePart) (value : List ℕ) (meaning : List ℕ → Option X) (x : X) (to : X → Draft)
     → IsValue meaning x value → is_given draft at ≡ false → put draft at value ≡ option_map to (meaning value) → put_value draft value at ≡ Ok (to x)
 given draft at value meaning x to h new e =
-    ap (λ b. cond (not b) (Err (TooMany at)) (cond (is_given draft at) (Err (Twice at)) (option_map_or Ok (put draft at value) (Err (Value at))))) h.few
-    ∙ ap (λ b. cond b (Err (Twice at)) (option_map_or Ok (put draft at value) (Err (Value at)))) new
-    ∙ ap (λ o. option_map_or Ok o (Err (Value at))) (e ∙ ap (option_map to) h.means)
+    rw (h.few, new, e, h.means) refl
 
 -- ---- the parts in their order, each of which may be left out, and the draft after each
 abbrev draft_of : Pattern → TimesOfDay → RuleEnd → Bool → Bool → Draft

@@ -181,8 +181,7 @@ pub position-is : (rule : DateTimeParts) (n t ahead back : ℕ) → n ≤ last_d
 unfolding reading.matches_positions
 position-is rule n t ahead back most below on time is_ahead is_back =
     let ranks = has-ranks rule n t ahead back most below on time is_ahead is_back in
-    ap (λ a. allows (λ k. is_nth k a (reading.count_from (reading.passes_with rule (pos (n * day + t))) (n * day + t))) rule.pattern.set_positions) ranks.ahead_is
-    ∙ ap (λ b. allows (λ k. is_nth k ((ahead - 1) * per_day rule + count_before (times rule) t + 1) b) rule.pattern.set_positions) ranks.back_is
+    simp (ranks.ahead_is, ranks.back_is)
 
 -- The day of a reading that a rule selects is one of the rule with the positions of days.
 selected-day : (rule : DateTimeParts) (n t : ℕ) → n ≤ last_day → t < day → date.is_occurrence (day_rule rule) n ≡ true → times rule t ≡ true
@@ -247,6 +246,4 @@ pub selects-on : (rule : DateTimeParts) (n t : ℕ) → t < day → date.is_occu
 selects-on rule n t below on has =
     let quotient : (n * day + t) / day ≡ n = omega arith in
     let remainder : (n * day + t) % day ≡ t = omega arith in
-    ap (λ d. date.is_occurrence (day_rule rule) d && (times rule ((n * day + t) % day) && reading.matches_positions rule (pos (n * day + t)))) quotient
-    ∙ ap (λ b. b && (times rule ((n * day + t) % day) && reading.matches_positions rule (pos (n * day + t)))) on
-    ∙ ap (λ s. times rule s && reading.matches_positions rule (pos (n * day + t))) remainder ∙ has
+    rw (quotient, remainder, on) has

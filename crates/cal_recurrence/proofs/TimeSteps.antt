@@ -51,7 +51,7 @@ splits-off test outer inner size n h off = false_from_ne_true _ (λ on. off (and
 
 splits-on : (test outer inner : ℕ → Bool) (size a b n : ℕ) → Splits test outer inner size → HasParts size a b n → outer a ≡ true → inner b ≡ true → test n ≡ true
 splits-on test outer inner size a b n h parts out inn =
-    h.at n ∙ ap (λ m. outer m && inner (n % size)) parts.quotient ∙ ap (λ on. on && inner (n % size)) out ∙ ap inner parts.remainder ∙ inn
+    rw (h.at n, parts.quotient, parts.remainder, out) inn
 
 -- No number from q on with the quotient a passes.
 abbrev pub NoneBeside : (ℕ → Bool) → ℕ → ℕ → ℕ → Type 0

@@ -17,8 +17,7 @@ pub by-minute : (times : TimesOfDay) (own s : ℕ) (values : List ℕ) → s ≡
     → Splits (matches_second times own) (matches_minute times own) (allows_or_start s values) 60
 by-minute times own s values e f = record {
   some = omega arith;
-  at = λ n. ap (λ list. matches_minute times own (n / 60) && allows_or_start (second_of own) list (n % 60)) (sym f)
-      ∙ ap (λ value. matches_minute times own (n / 60) && allows_or_start value values (n % 60)) (sym e);
+  at = λ n. rw (e, f) refl;
 }
 
 regroup : (a b c d : Bool) → (a && (b && (c && d))) ≡ (((a && b) && c) && d)
@@ -168,8 +167,5 @@ pub by-hour : (times : TimesOfDay) (own h m : ℕ) (hours minutes : List ℕ) �
     → Splits (matches_minute times own) (allows_or_start h hours) (allows_or_start m minutes) 60
 by-hour times own h m hours minutes e f g i = record {
   some = omega arith;
-  at = λ n. ap (λ list. allows_or_start (hour_of own) list (n / 60) && allows_or_start (minute_of own) times.minutes (n % 60)) (sym f)
-      ∙ ap (λ value. allows_or_start value hours (n / 60) && allows_or_start (minute_of own) times.minutes (n % 60)) (sym e)
-      ∙ ap (λ list. allows_or_start h hours (n / 60) && allows_or_start (minute_of own) list (n % 60)) (sym i)
-      ∙ ap (λ value. allows_or_start h hours (n / 60) && allows_or_start value minutes (n % 60)) (sym g);
+  at = λ n. rw (e, f, g, i) refl;
 }
