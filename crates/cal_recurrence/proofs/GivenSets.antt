@@ -7,6 +7,7 @@ use Rattle.std.specs.Result.{result_err, result_ok}
 use Rattle.std.proofs.lemmas.Bool.{false≢true}
 use Rattle.std.proofs.lemmas.List.Elements.{All-append, All-cons, All-nil}
 use Rattle.std.proofs.lemmas.List.Folds.{list_any-append}
+use Rattle.std.proofs.lemmas.Option.{IfSome_then}
 use Rattle.cal_recurrence.specs.DateWords.{date_or_time_of}
 use Rattle.cal_recurrence.specs.Days.{excluded, ranks_alone}
 use Rattle.cal_recurrence.specs.SetText.{all_allow, all_ignored, error_after, first_zone, has_value, if_allowed, is_local, is_zone_name, kind_of, lines_of, once, parameters_on, parts_from, parts_of, recurrence_on, value_error, value_of, value_on, values_on, with_line, with_value, with_zone, zone_error, AreValid, SaysSet}
@@ -29,7 +30,7 @@ use Rattle.cal_recurrence.proofs.Avoided.{parts_at-some}
 use Rattle.cal_recurrence.proofs.FirstNumbers.{first_one, other_one}
 use Rattle.cal_recurrence.proofs.GivenNames.{no-zone, zone-if}
 use Rattle.cal_recurrence.specs.declared.set_parts.SetParts.{SetParts}
-use Rattle.cal_recurrence.proofs.GivenParts.{dates, guarded, if_there, read_is_spelled}
+use Rattle.cal_recurrence.proofs.GivenParts.{dates, each-is, guarded, if_there, read_is_spelled}
 use Rattle.cal_recurrence.proofs.SaidLines.{error-here, first-none, local_start, no-value, parts-more, passes, second-none, some_local}
 
 -- ---- recurrences
@@ -89,18 +90,9 @@ record AreGiven (ps : List (List ℕ)) (vs : List DateOrTime) : Type 0 where
   all : All IsDateOrTime vs
   local : (zone : List ℕ) → first_zone ps ≡ Some zone → (is_zone_name zone ≡ true) × (list_any is_local vs ≡ true)
 
-each-is : (ps texts : List (List ℕ)) → IfSome (each (value_of ps) texts) (All IsDateOrTime)
-each-is ps [] = All-nil IsDateOrTime
-each-is ps (text ∷ texts) = both (value_of ps text) (each (value_of ps) texts) (value-is ps text) (each-is ps texts)
-  where
-    both : (o : Option DateOrTime) (p : Option (List DateOrTime)) → IfSome o (IsAllowed ps) → IfSome p (All IsDateOrTime)
-        → IfSome (option_map (λ pair. pair.0 ∷ pair.1) (option_zip o p)) (All IsDateOrTime)
-    both None p h k = tt
-    both (Some v) None h k = tt
-    both (Some v) (Some vs) h k = All-cons IsDateOrTime v vs h.0 k
-
 some-given : (ps : List (List ℕ)) (text : List ℕ) (texts : List (List ℕ)) → IfSome (each (value_of ps) (text ∷ texts)) (AreGiven ps)
-some-given ps text texts = both (value_of ps text) (each (value_of ps) texts) (value-is ps text) (each-is ps texts)
+some-given ps text texts =
+    both (value_of ps text) (each (value_of ps) texts) (value-is ps text) (each-is IsDateOrTime (value_of ps) (λ word. IfSome_then (value_of ps word) (value-is ps word) (λ v h. h.0)) texts)
   where
     both : (o : Option DateOrTime) (p : Option (List DateOrTime)) → IfSome o (IsAllowed ps) → IfSome p (All IsDateOrTime)
         → IfSome (option_map (λ pair. pair.0 ∷ pair.1) (option_zip o p)) (AreGiven ps)

@@ -210,7 +210,7 @@ time-then n t ds zone h =
 -- ---- the whole word
 split-reading : (ds a b c : List ℕ) → ds ++ codes "T" ++ a ++ b ++ c ≡ ds ++ (84 ∷ (a ++ b ++ c))
 split-reading ds a b c =
-    ap (λ w. (w ++ b) ++ c) (append_assoc ds (codes "T") a) ∙ ap (λ w. w ++ c) (append_assoc ds (84 ∷ a) b) ∙ append_assoc ds (84 ∷ (a ++ b)) c
+    simp append_assoc
 
 reading-split : (z : ℤ) → reading_text z ≡ day_text (date_at z) ++ (84 ∷ clock_digits (time_at z))
 reading-split z = split-reading (day_text (date_at z)) (digits_at_least 2 (hour_of (time_at z))) (digits_at_least 2 (minute_of (time_at z))) (digits_at_least 2 (second_of (time_at z)))
@@ -247,8 +247,6 @@ date-back (Utc z) h = reading-back z (codes "Z") h
 
 pub date-word : (value : DateOrTime) → IsDateOrTime value → IsWord date_or_time_of value (date_or_time_text value)
 date-word value h = record {
-  feed = date-avoids 10 value (inl (lit< tt)) refl refl h;
-  comma = date-avoids 44 value (inl (lit< tt)) refl refl h;
-  semicolon = date-avoids 59 value (inr (lit< tt)) refl refl h;
+  apart = (date-avoids 10 value (inl (lit< tt)) refl refl h, date-avoids 44 value (inl (lit< tt)) refl refl h, date-avoids 59 value (inr (lit< tt)) refl refl h);
   means = date-back value h;
 }

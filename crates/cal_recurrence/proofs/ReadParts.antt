@@ -2,8 +2,9 @@
 use Rattle.std.proofs.Common.{◌≡◌, ℕ, suc, ◌+◌, ◌≤◌, Bool, true, false, cond, eqb, List, [], ◌∷◌, ◌++◌, append-nil, append_assoc, length, Option, Ok, Err, ℤ, refl, sym, ap, subst, ◌∙◌, arith, inl, inr, lit<}
 use Rattle.std.specs.Prelude.{codes, decimal, nat_le, not, option_map, ◌&&◌}
 use Rattle.std.specs.List.{All}
-use Rattle.std.proofs.lemmas.Bool.{cases_Bool, eqb-true}
+use Rattle.std.proofs.lemmas.Bool.{and_right, cases_Bool, eqb-true}
 use Rattle.std.proofs.lemmas.Bool.Decides.{nat_tests}
+use Rattle.std.proofs.lemmas.List.Elements.{All-head, All-tail}
 use Rattle.cal_time.specs.declared.Month.{Month}
 use Rattle.cal_time.specs.declared.Weekday.{Weekday}
 use Rattle.cal_time.specs.declared.Weekday.TheVariants as weekday
@@ -166,16 +167,10 @@ all-said r i s = record {
 }
 
 -- ---- lists
-first-one : {X : Type 0} (P : X → Type 0) (x : X) (xs : List X) → All P (x ∷ xs) → P x
-first-one P x xs h = h 0 x (omega arith)
-
-other-ones : {X : Type 0} (P : X → Type 0) (x : X) (xs : List X) → All P (x ∷ xs) → All P xs
-other-ones P x xs h = λ k d less. h (suc k) d (omega (arith, less))
-
 words : {X : Type 0} (P : X → Type 0) (meaning : List ℕ → Option X) (text : X → List ℕ) → ((x : X) → P x → IsWord meaning x (text x))
     → (xs : List X) → All P xs → AreWords meaning text xs
 words P meaning text word [] h = tt
-words P meaning text word (x ∷ xs) h = (word x (first-one P x xs h), words P meaning text word xs (other-ones P x xs h))
+words P meaning text word (x ∷ xs) h = (word x (All-head P x xs h), words P meaning text word xs (All-tail P x xs h))
 
 month-words : (xs : List Month) → AreWords month_of month_text xs
 month-words [] = tt
@@ -200,11 +195,7 @@ grouped a b c d e f g h j k l m n =
 
 no-name : (r : Recurrence) → has_name (text_of r) ≡ false
 unfolding first_bytes
-no-name r = and-false (nat_le 6 (length (text_of r)))
-  where
-    and-false : (b : Bool) → b && false ≡ false
-    and-false true = refl
-    and-false false = refl
+no-name r = and_right (nat_le 6 (length (text_of r))) false refl
 
 -- no list has more values than its part may have
 pub record AreFew (r : Recurrence) : Type 0 where
@@ -275,14 +266,10 @@ said r few h =
 says-it : (at : ℕ) (r : Recurrence) → AreFew r → IsSpelled r → parts_say at (parts_at 59 (text_of r)) ≡ Ok r
 says-it at r few h =
     let texts = parts_at 59 (text_of r) in
-    ap (checked at texts) ((said r few h).reads at)
-    ∙ ap (λ o. option_map_or (λ both. Err (later_of at texts both)) o
-    (cond (ranks_alone r) (Err (fault (place_of (codes "BYSETPOS") at texts) (Alone part.Positions))) (Ok r))) h.allowed
-    ∙ ap (λ b. cond b (Err (fault (place_of (codes "BYSETPOS") at texts) (Alone part.Positions))) (Ok r)) h.ranked
+    rw ((said r few h).reads at, h.allowed, h.ranked) refl
 
 unnamed : (r : Recurrence) → AreFew r → IsSpelled r → recurrence_of (text_of r) ≡ Ok r
-unnamed r few h =
-    ap (λ b. cond b (parts_say 6 (parts_at 59 (bytes_after 6 (text_of r)))) (parts_say 0 (parts_at 59 (text_of r)))) (no-name r) ∙ says-it 0 r few h
+unnamed r few h = rw (no-name r) (says-it 0 r few h)
 
 pub after-name : (text : List ℕ) → recurrence_of (codes "RRULE:" ++ text) ≡ parts_say 6 (parts_at 59 text)
 unfolding first_bytes bytes_after

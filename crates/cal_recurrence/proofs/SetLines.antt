@@ -4,7 +4,7 @@ use Rattle.std.specs.Prelude.{◌⊎◌, ⊤, codes, bytes_eq, nat_le, nat_lt, s
 use Rattle.std.specs.List.{All, list_any}
 use Rattle.std.specs.Option.{option_map_or, option_or}
 use Rattle.std.specs.Result.{result_err, result_ok}
-use Rattle.std.proofs.lemmas.Bool.{and_from, and_parts, cases_Bool, false≢true, ne_eqb}
+use Rattle.std.proofs.lemmas.Bool.{and_from, and_parts, and_right, cases_Bool, false≢true, ne_eqb}
 use Rattle.std.proofs.lemmas.Bool.Decides.{nat_tests}
 use Rattle.std.proofs.lemmas.List.{get_or_at, take_at}
 use Rattle.std.proofs.lemmas.List.Folds.{list_any-append}
@@ -49,8 +49,7 @@ without-return text =
     let whole = text ++ 13 ∷ [] in
     let size : length whole - 1 ≡ length text = omega (arith, length-append text (13 ∷ [])) in
     let last : slice_index whole (length whole - 1) ≡ 13 = ap (slice_index whole) size ∙ get_or_at text 13 [] 0 (length text) refl in
-    ap (λ b. cond b (first_bytes (length whole - 1) whole) whole) (ap (λ n. eqb n 13) last)
-    ∙ ap (λ n. first_bytes n whole) size ∙ take_at text (13 ∷ []) (length text) refl
+    rw (last, size) (take_at text (13 ∷ []) (length text) refl)
 
 one-line : (draft more : SetDraft) (text rest : List ℕ) (p : SetParts) → avoids 10 text ≡ true → put_line draft text ≡ Ok more → Reads more rest p
     → Reads draft (text ++ 13 ∷ 10 ∷ rest) p
@@ -102,18 +101,12 @@ bare-zone : (tzid : List ℕ) → is_zone_name tzid ≡ true → unquoted tzid �
 bare-zone [] h = refl
 bare-zone (x ∷ xs) h =
     let whole = x ∷ xs in
-    let last = eqb (slice_index whole (length whole - 1)) 34 in
     let first : eqb x 34 ≡ false = plain (eqb x 34) (avoids 34 xs) (zone-name whole h).mark in
-    ap (λ t. cond (nat_le 2 (length whole) && (t && last)) (take (length whole - 2) xs) whole) first
-    ∙ ap (λ t. cond t (take (length whole - 2) xs) whole) (and-false (nat_le 2 (length whole)))
+    rw (first, and_right (nat_le 2 (length whole)) false refl) refl
   where
     plain : (a b : Bool) → cond a false b ≡ true → a ≡ false
     plain true b e = absurd (false≢true e)
     plain false b e = refl
-
-    and-false : (b : Bool) → b && false ≡ false
-    and-false true = refl
-    and-false false = refl
 
 -- the parameters of a line with such a value
 abbrev parameters : Option (List ℕ) → DateOrTime → List (List ℕ)
@@ -176,8 +169,8 @@ line-by name head value its texts h is =
     let front = front-outside 58 head value h.colon h.mark in
     record {
       some = ne_eqb (length whole) 0 (λ e. omega (arith, e, length-append head (58 ∷ value)));
-      kind = ap (λ f. line_of (front_outside 59 f)) front ∙ ap line_of h.named ∙ is;
-      parameters = ap parameters_of front ∙ h.parameters;
+      kind = rw (front, h.named) is;
+      parameters = rw front h.parameters;
       rest = rest-outside 58 head value h.colon h.mark;
     }
 
@@ -267,12 +260,7 @@ kind-word : (tzid : Option (List ℕ)) (v w : DateOrTime) → IsZone tzid → is
     → IsWord (value_of (parameters tzid v)) w (date_or_time_text w)
 kind-word tzid v w z same is =
     let word = date-word w is in
-    record {
-      feed = word.feed;
-      comma = word.comma;
-      semicolon = word.semicolon;
-      means = ap (option_and_then (if_allowed (parameters tzid v))) word.means ∙ ap (λ b. cond b (Some w) None) (allowed tzid v w z same);
-    }
+    record { apart = word.apart; means = rw (word.means, allowed tzid v w z same) refl }
 
 -- the values of a line after the first, v
 abbrev IsRun : Option (List ℕ) → DateOrTime → List DateOrTime → Type 0
@@ -287,13 +275,12 @@ list-and : {X : Type 0} (text : X → List ℕ) (xs : List X) (x : X)
     → list_text (codes ",") text (xs ++ x ∷ []) ≡ list_text (codes ",") text xs ++ (codes "," ++ text x)
 list-and text [] x = append-nil (44 ∷ text x)
 list-and text (y ∷ ys) x =
-    ap (λ more. (44 ∷ text y) ++ more) (list-and text ys x) ∙ sym (append_assoc (44 ∷ text y) (list_text (codes ",") text ys) (44 ∷ text x))
+    rw (list-and text ys x) (simp append_assoc)
 
 joined-and : (v : DateOrTime) (ws : List DateOrTime) (w : DateOrTime)
     → joined date_or_time_text v (ws ++ w ∷ []) ≡ joined date_or_time_text v ws ++ (codes "," ++ date_or_time_text w)
 joined-and v ws w =
-    ap (λ more. date_or_time_text v ++ more) (list-and date_or_time_text ws w)
-    ∙ sym (append_assoc (date_or_time_text v) (list_text (codes ",") date_or_time_text ws) (44 ∷ date_or_time_text w))
+    rw (list-and date_or_time_text ws w) (simp append_assoc)
 
 -- ---- the lines of a list
 -- the drafts with more values of a list
@@ -328,8 +315,7 @@ line-put name its to h tzid s v ws ds z known run few =
     let texts = parameters tzid v in
     let is = line-by name (head_of name tzid v) value its texts (head-is name tzid v h.plain z) h.means in
     let values : values_on whole ≡ Some (v ∷ ws) =
-    ap (λ ps. list_of (value_of ps) (rest_outside 58 whole)) is.parameters ∙ ap (list_of (value_of texts)) is.rest
-    ∙ (list-value (value_of texts) date_or_time_text v ws run (omega (arith, few))).means in
+    rw (is.parameters, is.rest) (list-value (value_of texts) date_or_time_text v ws run (omega (arith, few))).means in
     let puts = h.puts ds (v ∷ ws) s whole (ap (has_room (length ds)) is.rest ∙ room-for tzid v ws (length ds) run few) values in
     let zones = h.zoned (ds ++ v ∷ ws) s (zone_after tzid s v) in
     line-done (to ds s) (to (ds ++ v ∷ ws) s) whole its texts value s (zone_after tzid s v) is (h.zoned ds s s).0 zones.0 puts.0 puts.1 (zone-put its tzid s v z known)
@@ -377,8 +363,7 @@ same-local (Utc y) (Utc z) h = refl
 
 head-line : (name : List ℕ) (tzid : Option (List ℕ)) (v : DateOrTime) → head_text name tzid v ≡ line_with name tzid v []
 head-line name tzid v =
-    append_assoc (head_of name tzid v) (codes ":") (date_or_time_text v)
-    ∙ ap (λ text. head_of name tzid v ++ 58 ∷ text) (sym (append-nil (date_or_time_text v)))
+    simp (append_assoc, append-nil)
 
 lines-read : (name : List ℕ) (its : SetLine) (to : List DateOrTime → Option (List ℕ) → SetDraft) → IsList name its to
     → (tzid : Option (List ℕ)) → IsZone tzid → (rest : List ℕ) (p : SetParts) (all : List DateOrTime)
@@ -402,11 +387,9 @@ lines-read name its to h tzid z rest p all (w ∷ vs) s v ws ds known run kinds 
     elim (cases_Bool (is_same_kind v w)) as (λ _. Reads (to ds s) ((line ++ more_text name tzid v (w ∷ vs)) ++ rest) p) [
       | inl alike ↦
           let grown : line ++ (44 ∷ date_or_time_text w) ≡ line_with name tzid v (ws ++ w ∷ []) =
-          append_assoc (head_of name tzid v) (58 ∷ joined date_or_time_text v ws) (44 ∷ date_or_time_text w)
-          ∙ ap (λ more. head_of name tzid v ++ 58 ∷ more) (sym (joined-and v ws w)) in
+          rw (joined-and v ws w) (simp append_assoc) in
           let longer : line_with name tzid v (ws ++ w ∷ []) ++ more_text name tzid v vs ≡ line ++ more_text name tzid v (w ∷ vs) =
-          ap (λ front. front ++ more_text name tzid v vs) (sym grown) ∙ append_assoc line (44 ∷ date_or_time_text w) (more_text name tzid v vs)
-          ∙ ap (λ b. line ++ text b) (sym alike) in
+          ap (λ front. front ++ more_text name tzid v vs) (sym grown) ∙ rw alike (simp append_assoc) in
           let same_more : (ds ++ v ∷ (ws ++ w ∷ [])) ++ vs ≡ all =
           append_assoc ds (v ∷ (ws ++ w ∷ [])) vs ∙ ap (λ more. ds ++ v ∷ more) (append_assoc ws (w ∷ []) vs) ∙ sym (append_assoc ds (v ∷ ws) (w ∷ vs)) ∙ same in
           subst (λ front. Reads (to ds s) (front ++ rest) p) longer
@@ -492,8 +475,7 @@ start-put tzid start z is =
     let whole = line_with name tzid start [] in
     let word = kind-word tzid start start z (same-kind start) is in
     let split = line-by name (head_of name tzid start) value line.Start texts (head-is name tzid start (list_named name refl refl refl refl) z) refl in
-    let means : value_on whole ≡ Some start =
-    ap (λ ps. value_of ps (rest_outside 58 whole)) split.parameters ∙ ap (value_of texts) (split.rest ∙ append-nil (date_or_time_text start)) ∙ word.means in
+    let means : value_on whole ≡ Some start = rw (split.parameters, split.rest, append-nil) word.means in
     line-done (parts_of []) (draft_of (Some start) None [] [] None) whole line.Start texts value None (zone_after tzid None start) split refl refl
     (ap (λ o. error_unless (is_some o) (Value line.Start)) means) (ap (λ o. draft_of o None [] [] None) means) (first-zone line.Start tzid start z)
 
