@@ -173,9 +173,7 @@ time-back h m s t few some less e =
     let minutes : nat_lt (number / 100 % 100) 60 ≡ true = grind (arith, nat_tests, minute, some) in
     let seconds : nat_le (number % 100) 60 ≡ true = grind (arith, nat_tests, second, less) in
     let plain : min (number % 100) 59 ≡ s = grind (arith, nat_tests, second, less) in
-    cond-true _ (Some (time_of (number / 10000) (number / 100 % 100) (min (number % 100) 59) 0)) None (and_from _ _ hours (and_from _ _ minutes seconds))
-    ∙ ap Some (ap (λ k. time_of k (number / 100 % 100) (min (number % 100) 59) 0) hour ∙ ap (λ k. time_of h k (min (number % 100) 59) 0) minute
-    ∙ ap (λ k. time_of h m k 0) plain ∙ e)
+    rw (hours, minutes, seconds, hour, minute, plain, e) refl
 
 time-spelled : (t : ℕ) → t < day → nanosecond_of t ≡ 0 → SpellsTime t (clock_digits t)
 time-spelled t below none =

@@ -16,6 +16,7 @@ use Rattle.cal_recurrence.specs.DateTimeRule.{DateTimeParts, day_rule}
 use Rattle.cal_recurrence.specs.TimesOfDay.{matches_time}
 use Rattle.cal_recurrence.specs.TimeSearch.{NoneIn, IsFirst, IsNextReading, reading_number, selects, selects_time}
 use Rattle.cal_recurrence.specs.declared.times_of_day.TimesOfDay.{TimesOfDay}
+use Rattle.cal_recurrence.proofs.FirstNumbers.{joined, later-first}
 use Rattle.cal_recurrence.proofs.TimeCounts.{count-stays}
 use Rattle.cal_recurrence.proofs.TimePositions.{day-on, day-with, off-day, off-time, per_day, position-is, ranked, same-with, selects-on, times}
 
@@ -102,17 +103,6 @@ days-none rule a b most none = λ k low high. off-day rule (k / day) k (omega ar
 
 pub day-none : (rule : DateTimeParts) (n first : ℕ) → n ≤ last_day → date.is_occurrence (ranked rule) n ≡ false → NoneIn (selects rule) (n * day + first) ((n + 1) * day)
 day-none rule n first most off = λ k low high. off-day rule n k most off (omega arith)
-
-pub joined : (test : ℕ → Bool) (a b c : ℕ) → NoneIn test a b → NoneIn test b c → NoneIn test a c
-joined test a b c first second = λ k low high. elim (cases_lt k b) as (λ _. test k ≡ false) [ inl less ↦ first k low less | inr most ↦ second k most high ]
-
-pub later-first : (test : ℕ → Bool) (a b e x : ℕ) → a ≤ b → NoneIn test a b → IsFirst test b e x → IsFirst test a e x
-later-first test a b e x h none found = record {
-  not_before = omega (arith, found.not_before);
-  below = found.below;
-  passes = found.passes;
-  none_before = joined test a b x none found.none_before;
-}
 
 pub carry-on : (rule : DateTimeParts) (m p : ℕ) (r : Option (ℕ × ℕ)) → m ≤ p → NoneIn (selects rule) m p → IsNextReading rule p r → IsNextReading rule m r
 carry-on rule m p None h none next = joined (selects rule) m p (last_date_time + 1) none next

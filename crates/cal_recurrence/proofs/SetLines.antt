@@ -65,11 +65,8 @@ one-line draft more text rest p plain put h before valid is =
 
 -- ---- the head of a line
 -- the bytes that end lines, heads and parameters are not in the text
-record IsName (text : List ℕ) : Type 0 where
-  feed : avoids 10 text ≡ true
-  mark : avoids 34 text ≡ true
-  colon : avoids 58 text ≡ true
-  semicolon : avoids 59 text ≡ true
+abbrev IsName : List ℕ → Type 0
+IsName text = (avoids 10 text ≡ true) × (avoids 34 text ≡ true) × (avoids 58 text ≡ true) × (avoids 59 text ≡ true)
 
 abbrev IsZone : Option (List ℕ) → Type 0
 IsZone None = ⊤
@@ -82,15 +79,12 @@ avoided byte (x ∷ xs) other h =
     avoids-cons byte x xs (other x both.0) (avoided byte xs other both.1)
 
 zone-name : (tzid : List ℕ) → is_zone_name tzid ≡ true → IsName tzid
-zone-name tzid h = record {
-  feed = avoided 10 tzid (λ x e. (others (eqb x 10) (eqb x 34) (eqb x 58) (eqb x 59) e).0) h;
-  mark = avoided 34 tzid (λ x e. (others (eqb x 10) (eqb x 34) (eqb x 58) (eqb x 59) e).1.0) h;
-  colon = avoided 58 tzid (λ x e. (others (eqb x 10) (eqb x 34) (eqb x 58) (eqb x 59) e).1.1.0) h;
-  semicolon = avoided 59 tzid (λ x e. (others (eqb x 10) (eqb x 34) (eqb x 58) (eqb x 59) e).1.1.1) h;
-}
+zone-name tzid h =
+    let each = λ (x : ℕ). others (eqb x 10) (eqb x 34) (eqb x 58) (eqb x 59) in
+    (avoided 10 tzid (λ x e. (each x e).0) h, avoided 34 tzid (λ x e. (each x e).1) h, avoided 58 tzid (λ x e. (each x e).2) h, avoided 59 tzid (λ x e. (each x e).3) h)
   where
-    others : (a b c d : Bool) → not a && (not b && (not c && not d)) ≡ true → (a ≡ false) × ((b ≡ false) × ((c ≡ false) × (d ≡ false)))
-    others false false false false e = (refl, (refl, (refl, refl)))
+    others : (a b c d : Bool) → not a && (not b && (not c && not d)) ≡ true → (a ≡ false) × (b ≡ false) × (c ≡ false) × (d ≡ false)
+    others false false false false e = (refl, refl, refl, refl)
     others false false false true e = absurd (false≢true e)
     others false false true d e = absurd (false≢true e)
     others false true c d e = absurd (false≢true e)
@@ -101,7 +95,7 @@ bare-zone : (tzid : List ℕ) → is_zone_name tzid ≡ true → unquoted tzid �
 bare-zone [] h = refl
 bare-zone (x ∷ xs) h =
     let whole = x ∷ xs in
-    let first : eqb x 34 ≡ false = plain (eqb x 34) (avoids 34 xs) (zone-name whole h).mark in
+    let first : eqb x 34 ≡ false = plain (eqb x 34) (avoids 34 xs) (zone-name whole h).1 in
     rw (first, and_right (nat_le 2 (length whole)) false refl) refl
   where
     plain : (a b : Bool) → cond a false b ≡ true → a ≡ false
@@ -124,36 +118,22 @@ record IsHead (name head : List ℕ) (its : List (List ℕ)) : Type 0 where
 
 one-parameter : (name parameter : List ℕ) → IsName name → IsName parameter → IsHead name (name ++ 59 ∷ parameter) (parameter ∷ [])
 one-parameter name parameter h p = record {
-  feed = avoids-append 10 name (59 ∷ parameter) h.feed (avoids-cons 10 59 parameter refl p.feed);
-  mark = avoids-append 34 name (59 ∷ parameter) h.mark (avoids-cons 34 59 parameter refl p.mark);
-  colon = avoids-append 58 name (59 ∷ parameter) h.colon (avoids-cons 58 59 parameter refl p.colon);
-  named = front-outside 59 name parameter h.semicolon h.mark;
-  parameters = ap after_first_part (cut-outside 59 name parameter h.semicolon h.mark ∙ ap (λ texts. name ∷ texts) (cut-plain 59 parameter p.semicolon p.mark));
+  feed = avoids-append 10 name (59 ∷ parameter) h.0 p.0;
+  mark = avoids-append 34 name (59 ∷ parameter) h.1 p.1;
+  colon = avoids-append 58 name (59 ∷ parameter) h.2 p.2;
+  named = front-outside 59 name parameter h.3 h.1;
+  parameters = ap after_first_part (cut-outside 59 name parameter h.3 h.1 ∙ ap (λ texts. name ∷ texts) (cut-plain 59 parameter p.3 p.1));
 }
 
 no-parameter : (name : List ℕ) → IsName name → IsHead name (name ++ []) []
 no-parameter name h =
-    subst (λ head. IsHead name head []) (sym (append-nil name)) (record {
-      feed = h.feed;
-      mark = h.mark;
-      colon = h.colon;
-      named = front-plain 59 name h.semicolon h.mark;
-      parameters = ap after_first_part (cut-plain 59 name h.semicolon h.mark);
-    })
-
-in-zone : (tzid : List ℕ) → IsName tzid → IsName (codes "TZID=" ++ tzid)
-in-zone tzid h = record {
-  feed = avoids-append 10 (codes "TZID=") tzid refl h.feed;
-  mark = avoids-append 34 (codes "TZID=") tzid refl h.mark;
-  colon = avoids-append 58 (codes "TZID=") tzid refl h.colon;
-  semicolon = avoids-append 59 (codes "TZID=") tzid refl h.semicolon;
-}
+    rw append-nil (record { feed = h.0; mark = h.1; colon = h.2; named = front-plain 59 name h.3 h.1; parameters = ap after_first_part (cut-plain 59 name h.3 h.1) })
 
 head-is : (name : List ℕ) (tzid : Option (List ℕ)) (v : DateOrTime) → IsName name → IsZone tzid
     → IsHead name (name ++ parameter_text tzid v) (parameters tzid v)
-head-is name tzid (Date n) h z = one-parameter name (codes "VALUE=DATE") h (record { feed = refl; mark = refl; colon = refl; semicolon = refl })
+head-is name tzid (Date n) h z = one-parameter name (codes "VALUE=DATE") h (refl, refl, refl, refl)
 head-is name None (Local y) h z = no-parameter name h
-head-is name (Some tzid) (Local y) h z = one-parameter name (codes "TZID=" ++ tzid) h (in-zone tzid (zone-name tzid z))
+head-is name (Some tzid) (Local y) h z = one-parameter name (codes "TZID=" ++ tzid) h (zone-name tzid z)
 head-is name tzid (Utc y) h z = no-parameter name h
 
 -- a line by its head and its value
@@ -423,9 +403,6 @@ list-read name its to h tzid z rest p (v ∷ vs) s known are few reads =
     (All-tail IsDateOrTime v vs are) refl few reads)
 
 -- ---- the whole
-list_named : (name : List ℕ) → avoids 10 name ≡ true → avoids 34 name ≡ true → avoids 58 name ≡ true → avoids 59 name ≡ true → IsName name
-list_named name feed mark colon semicolon = record { feed = feed; mark = mark; colon = colon; semicolon = semicolon }
-
 list-clean : (filled : ℕ) (whole : List ℕ) (its : SetLine) (ws : List DateOrTime) → has_room filled (rest_outside 58 whole) ≡ true → values_on whole ≡ Some ws
     → list_error filled whole its ≡ None
 list-clean filled whole its ws room values =
@@ -444,7 +421,7 @@ last-false false false false e h k = k
 
 dates-list : (start : DateOrTime) (r : Recurrence) → IsList (codes "RDATE") line.Dates (λ ds s. draft_of (Some start) (Some r) ds [] s)
 dates-list start r = record {
-  plain = list_named (codes "RDATE") refl refl refl refl;
+  plain = (refl, refl, refl, refl);
   means = refl;
   puts = λ ds ws s whole room values. (list-clean (length ds) whole line.Dates ws room values, ap (λ o. draft_of (Some start) (Some r) (ds ++ unwrap_or o []) [] s) values);
   zoned = λ ds s t. (refl, refl);
@@ -455,7 +432,7 @@ dates-list start r = record {
 exceptions-list : (start : DateOrTime) (r : Recurrence) (dates : List DateOrTime)
     → IsList (codes "EXDATE") line.Exceptions (λ ds s. draft_of (Some start) (Some r) dates ds s)
 exceptions-list start r dates = record {
-  plain = list_named (codes "EXDATE") refl refl refl refl;
+  plain = (refl, refl, refl, refl);
   means = refl;
   puts = λ ds ws s whole room values.
       (list-clean (length ds) whole line.Exceptions ws room values, ap (λ o. draft_of (Some start) (Some r) dates (ds ++ unwrap_or o []) s) values);
@@ -474,7 +451,7 @@ start-put tzid start z is =
     let value = joined date_or_time_text start [] in
     let whole = line_with name tzid start [] in
     let word = kind-word tzid start start z (same-kind start) is in
-    let split = line-by name (head_of name tzid start) value line.Start texts (head-is name tzid start (list_named name refl refl refl refl) z) refl in
+    let split = line-by name (head_of name tzid start) value line.Start texts (head-is name tzid start (refl, refl, refl, refl) z) refl in
     let means : value_on whole ≡ Some start = rw (split.parameters, split.rest, append-nil) word.means in
     line-done (parts_of []) (draft_of (Some start) None [] [] None) whole line.Start texts value None (zone_after tzid None start) split refl refl
     (ap (λ o. error_unless (is_some o) (Value line.Start)) means) (ap (λ o. draft_of o None [] [] None) means) (first-zone line.Start tzid start z)
@@ -543,7 +520,7 @@ set-reads p h back few less =
     let dates = values_text (codes "RDATE") tzid p.dates in
     let exceptions = values_text (codes "EXDATE") tzid p.exceptions in
     let run : IsRun tzid p.start [] = (kind-word tzid p.start p.start z (same-kind p.start) h.start, tt) in
-    let name = list_named start refl refl refl refl in
+    let name : IsName start = (refl, refl, refl, refl) in
     let excepted = λ (s : Option (List ℕ)) (known : IsKnown tzid (draft_of (Some p.start) (Some p.recurrence) p.dates [] s)). list-read (codes "EXDATE") line.Exceptions (λ ds s. draft_of (Some p.start) (Some p.recurrence) p.dates ds s) (exceptions-list p.start p.recurrence p.dates) tzid z [] p p.exceptions s
     known h.each_exception less (λ t last. all-read p t (zone-found p tzid t h.zone last)) in
     let dated = list-read (codes "RDATE") line.Dates (λ ds s. draft_of (Some p.start) (Some p.recurrence) ds [] s) (dates-list p.start p.recurrence) tzid z (exceptions ++ []) p p.dates first
