@@ -1,11 +1,10 @@
 -- Splitting a text whose first bytes avoid the separator.
-use Rattle.std.proofs.Common.{◌≡◌, ℕ, ◌+◌, Bool, true, false, cond, eqb, not, List, [], ◌∷◌, ◌++◌, append_assoc, take, drop, length, length-append, subst, inl, inr, refl, sym, ap, ◌∙◌, arith}
-use Rattle.std.specs.List.{All, onto_first, position_or_len}
+use Rattle.std.proofs.Common.{◌≡◌, ℕ, Bool, true, false, cond, eqb, List, [], ◌∷◌, ◌++◌, subst, inl, inr, refl, sym, ap, ◌∙◌}
+use Rattle.std.specs.List.{All, onto_first}
 use Rattle.std.proofs.lemmas.Bool.{cases_Bool, eq-eqb, false≢true, ne_eqb}
-use Rattle.std.proofs.lemmas.List.{drop_at, take_at, take_all}
 use Rattle.std.proofs.lemmas.List.Elements.{All-cons, All-head, All-nil, All-tail}
 use Rattle.std.proofs.lemmas.List.Splits.{slice_split-cons_yes, slice_split-cons_no}
-use Rattle.cal_recurrence.specs.Words.{front_at, parts_at, rest_at}
+use Rattle.cal_recurrence.specs.Words.{parts_at}
 
 -- the bytes avoid this byte
 abbrev pub avoids : ℕ → List ℕ → Bool

@@ -1,5 +1,5 @@
 -- The first number that passes a test, and the first number of a list.
-use Rattle.std.proofs.Common.{◌≡◌, ℕ, ◌+◌, ◌-◌, ◌≤◌, inl, inr, sym, ap, ◌∙◌, arith, Bool, true, false, refl, [], ◌∷◌, filter, slice_get, Option, Some, None}
+use Rattle.std.proofs.Common.{◌≡◌, ℕ, ◌+◌, ◌-◌, ◌≤◌, inl, inr, sym, ap, ◌∙◌, arith, Bool, false, [], ◌∷◌, filter, slice_get, Option, Some, None}
 use Rattle.std.proofs.lemmas.Bool.{cases_lt}
 use Rattle.cal_time.specs.Filters.{filter-first, filter-none, first_matching, none_matching}
 use Rattle.cal_time.specs.Occurrences.{days_from}

@@ -1,6 +1,6 @@
 -- The parts of a text that was written, read back one after another.
-use Rattle.std.proofs.Common.{◌≡◌, ℕ, suc, ◌+◌, ◌≤◌, Bool, true, false, cond, eqb, List, [], ◌∷◌, ◌++◌, append-nil, append_assoc, length, Option, Ok, Err, ℤ, refl, sym, ap, subst, ◌∙◌, arith, inl, inr, lit<}
-use Rattle.std.specs.Prelude.{codes, decimal, nat_le, not, option_map, ◌&&◌}
+use Rattle.std.proofs.Common.{◌≡◌, ℕ, ◌+◌, ◌≤◌, Bool, true, false, cond, eqb, List, [], ◌∷◌, ◌++◌, append-nil, append_assoc, length, Option, Ok, ℤ, refl, sym, ap, subst, ◌∙◌, arith, inl, inr, lit<}
+use Rattle.std.specs.Prelude.{codes, decimal, nat_le, option_map, ◌&&◌}
 use Rattle.std.specs.List.{All}
 use Rattle.std.proofs.lemmas.Bool.{and_right, cases_Bool, eqb-true}
 use Rattle.std.proofs.lemmas.Bool.Decides.{nat_tests}
@@ -12,18 +12,15 @@ use Rattle.cal_schedule.specs.declared.rule.rule.Frequency.{Frequency}
 use Rattle.cal_schedule.specs.declared.rule.rule.ByDay.{ByDay}
 use Rattle.cal_schedule.specs.Pattern.{every}
 use Rattle.cal_schedule.specs.declared.rule.pattern.Pattern.{Pattern}
-use Rattle.std.specs.Option.{option_map_or}
 use Rattle.cal_recurrence.specs.DateWords.{date_or_time_of}
-use Rattle.cal_recurrence.specs.Days.{ranks_alone}
 use Rattle.cal_recurrence.specs.Spelled.{IsCount, IsMonthDay, IsByDay, IsHour, IsMinute, IsPosition, IsSecond, IsWeek, IsEnd, IsSpelled}
-use Rattle.cal_recurrence.specs.Text.{checked, fault, later_of, list_of, is_given, parts_say, place_of, put, put_value, put_part, and_on, read_on, nothing, recurrence_of, ReadsBack}
+use Rattle.cal_recurrence.specs.Text.{list_of, is_given, parts_say, put, put_value, put_part, read_on, nothing, recurrence_of, ReadsBack}
 use Rattle.cal_recurrence.specs.TimesOfDay.{no_times}
 use Rattle.cal_recurrence.specs.Words.{bytes_after, first_bytes, has_name, parts_at, frequency_of, weekday_of, count_of, month_of, month_day_of, week_of, by_day_of, by_hour_of, by_minute_of, by_second_of, position_of}
 use Rattle.cal_recurrence.specs.Written.{frequency_text, weekday_text, month_text, by_day_text, position_text, date_or_time_text, interval_text, end_text, list_text, week_start_text, text_of}
 use Rattle.cal_recurrence.specs.declared.draft.Draft.{Draft}
 use Rattle.cal_recurrence.specs.declared.fault.RulePart.{RulePart}
 use Rattle.cal_recurrence.specs.declared.fault.RulePart.TheVariants as part
-use Rattle.cal_recurrence.specs.declared.fault.ParseRuleErrorKind.TheVariants.{Alone, TooMany, Twice, Value}
 use Rattle.cal_recurrence.specs.declared.recurrence.Recurrence.{Recurrence}
 use Rattle.cal_recurrence.specs.declared.recurrence.RuleEnd.{RuleEnd}
 use Rattle.cal_recurrence.specs.declared.recurrence.RuleEnd.TheVariants.{Never, Until, Count}

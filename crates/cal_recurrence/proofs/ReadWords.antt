@@ -1,7 +1,6 @@
 -- The numbers and the names of a text, read back.
-use Rattle.std.proofs.Common.{◌≡◌, ℕ, suc, ◌-◌, ◌<◌, ◌≤◌, ◌^◌, true, false, cond, eqb, List, [], ◌∷◌, ◌++◌, length, take, drop, Option, Some, None, ℤ, pos, negsuc, inl, inr, refl, ap, ◌∙◌, arith, lit<}
+use Rattle.std.proofs.Common.{◌≡◌, ℕ, suc, ◌-◌, ◌<◌, ◌≤◌, ◌^◌, true, false, eqb, List, [], ◌∷◌, ◌++◌, length, take, drop, Some, None, ℤ, pos, negsuc, inl, inr, refl, ap, ◌∙◌, arith, lit<}
 use Rattle.std.specs.Prelude.{◌⊎◌, decimal, min, neg_ℤ, nat_le, slice_index, option_map, option_and_then, ◌&&◌}
-use Rattle.std.specs.Option.{option_zip}
 use Rattle.std.specs.Fmt.{signed_decimal}
 use Rattle.std.specs.Str.{all_ascii_digits}
 use Rattle.std.specs.Str.Parse.{digits_value}
@@ -20,7 +19,7 @@ use Rattle.cal_schedule.specs.declared.rule.rule.Frequency.TheVariants as freque
 use Rattle.cal_schedule.specs.declared.rule.rule.ByDay.{ByDay}
 use Rattle.cal_schedule.specs.declared.rule.rule.ByDay.TheVariants.{Every, Nth}
 use Rattle.cal_recurrence.specs.Spelled.{IsCount, IsIndex, IsByDay}
-use Rattle.cal_recurrence.specs.Words.{is_number, number_of, from_one_to, up_to, clock_value_of, count_of, short_count_of, index_of, frequency_of, weekday_of, month_of, month_day_of, week_of, position_of, by_day_of}
+use Rattle.cal_recurrence.specs.Words.{is_number, number_of, from_one_to, clock_value_of, count_of, short_count_of, index_of, frequency_of, weekday_of, month_of, month_day_of, week_of, position_of, by_day_of}
 use Rattle.cal_recurrence.specs.Written.{frequency_text, weekday_text, month_text, position_text, by_day_text}
 use Rattle.cal_recurrence.proofs.Avoided.{avoids, avoids-append, avoids-cons}
 use Rattle.cal_recurrence.proofs.Numbers.{digits, numeral_is}

@@ -14,7 +14,7 @@ use Rattle.cal_recurrence.specs.Buffers.{IsPut}
 use Rattle.cal_recurrence.specs.SetText.{after_first_part, all_allow, all_name, error_after, error_unless, first_zone, has_room, if_allowed, is_local, is_name_byte, is_zone_name, kind_of, line_of, lines_of, list_error, parameters_of, parameters_on, parts_from, parts_of, recurrence_on, unless_error, unquoted, value_error, value_of, value_on, values_on, with_line, with_value, with_zone, without_return, zone_error, zone_on, AreValid, SaysSet}
 use Rattle.cal_recurrence.specs.SetWritten.{head_text, is_same_kind, line_end, more_text, parameter_text, set_text, values_text, IsSpelledSet, IsZoneOf}
 use Rattle.cal_recurrence.specs.Spelled.{IsDateOrTime, IsSpelled}
-use Rattle.cal_recurrence.specs.Text.{fault, list_of, parts_say, ReadsBack}
+use Rattle.cal_recurrence.specs.Text.{fault, parts_say, ReadsBack}
 use Rattle.cal_recurrence.specs.Words.{first_bytes, front_outside, parts_at, rest_outside}
 use Rattle.cal_recurrence.specs.Written.{date_or_time_text, list_text, text_of}
 use Rattle.cal_recurrence.specs.declared.date_or_time.DateOrTime.{DateOrTime}

@@ -1,4 +1,4 @@
-use Rattle.std.proofs.Common.{ℕ, List, [], ◌∷◌, Some, ◌++◌, ◌∙◌, ◌≡◌, ap, arith, length, refl, sym}
+use Rattle.std.proofs.Common.{ℕ, List, [], ◌∷◌, Some, ◌++◌, ◌≡◌, ap, arith, length, refl}
 use Rattle.std.specs.Prelude.{codes}
 use Rattle.cal_recurrence.specs.Buffers.{IsPut}
 use Rattle.cal_recurrence.specs.SetWritten.{line_end, set_text, values_text}
