@@ -1,6 +1,6 @@
 -- The lines of a set that was written, read back one after another.
 use Rattle.std.proofs.Common.{◌≡◌, ℕ, ◌+◌, ◌-◌, ◌<◌, ◌≤◌, Bool, true, false, cond, eqb, not, List, [], ◌∷◌, ◌++◌, append-nil, append_assoc, length, length-append, map, take, Option, Some, None, Result, Ok, Err, inl, inr, refl, sym, ap, subst, ◌∙◌, arith}
-use Rattle.std.specs.Prelude.{◌⊎◌, ⊤, codes, bytes_eq, nat_le, nat_lt, slice_index, is_some, unwrap_or, IfSome, option_map, option_and_then, ◌&&◌, ◌||◌}
+use Rattle.std.specs.Prelude.{◌⊎◌, ⊤, codes, bytes_eq, nat_le, nat_lt, slice_index, is_some, unwrap_or, IfSome, option_map, ◌&&◌, ◌||◌}
 use Rattle.std.specs.List.{All, list_any}
 use Rattle.std.specs.Option.{option_map_or, option_or}
 use Rattle.std.specs.Result.{result_err, result_ok}
@@ -11,7 +11,7 @@ use Rattle.std.proofs.lemmas.List.Folds.{list_any-append}
 use Rattle.std.proofs.lemmas.List.Elements.{All-head, All-tail}
 use Rattle.std.proofs.lemmas.Slice.Eq.{bytes_eq-Decides}
 use Rattle.cal_recurrence.specs.Buffers.{IsPut}
-use Rattle.cal_recurrence.specs.SetText.{after_first_part, all_allow, all_name, error_after, error_unless, first_zone, has_room, if_allowed, is_local, is_name_byte, is_zone_name, kind_of, line_of, lines_of, list_error, parameters_of, parameters_on, parts_from, parts_of, recurrence_on, unless_error, unquoted, value_error, value_of, value_on, values_on, with_line, with_value, with_zone, without_return, zone_error, zone_on, AreValid, SaysSet}
+use Rattle.cal_recurrence.specs.SetText.{after_first_part, all_allow, all_name, error_after, error_unless, first_zone, has_room, is_local, is_name_byte, is_zone_name, kind_of, line_of, lines_of, list_error, parameters_of, parameters_on, parts_from, parts_of, recurrence_on, unless_error, unquoted, value_error, value_of, value_on, values_on, with_line, with_value, without_return, AreValid, SaysSet}
 use Rattle.cal_recurrence.specs.SetWritten.{head_text, is_same_kind, line_end, more_text, parameter_text, set_text, values_text, IsSpelledSet, IsZoneOf}
 use Rattle.cal_recurrence.specs.Spelled.{IsDateOrTime, IsSpelled}
 use Rattle.cal_recurrence.specs.Text.{fault, parts_say, ReadsBack}
@@ -22,7 +22,7 @@ use Rattle.cal_recurrence.specs.declared.date_or_time.DateOrTime.TheVariants.{Da
 use Rattle.cal_recurrence.specs.declared.fault.ParseRuleErrorKind.TheVariants.{Unknown as UnknownPart}
 use Rattle.cal_recurrence.specs.declared.recurrence.Recurrence.{Recurrence}
 use Rattle.cal_recurrence.specs.declared.set_fault.ParseSetErrorKind.{ParseSetErrorKind}
-use Rattle.cal_recurrence.specs.declared.set_fault.ParseSetErrorKind.TheVariants.{OtherZone, Rule, TooMany, Unknown, Value}
+use Rattle.cal_recurrence.specs.declared.set_fault.ParseSetErrorKind.TheVariants.{OtherZone, Rule, TooMany, Value}
 use Rattle.cal_recurrence.specs.declared.set_fault.SetLine.{SetLine}
 use Rattle.cal_recurrence.specs.declared.set_fault.SetLine.TheVariants as line
 use Rattle.cal_recurrence.specs.declared.set_draft.SetDraft.{SetDraft}
@@ -161,17 +161,7 @@ line-done : (d e : SetDraft) (whole : List ℕ) (its : SetLine) (texts : List (L
     → value_error d whole its ≡ None → with_value d whole its ≡ e → (zone_error_in s texts its ≡ None) × (option_or s (first_zone texts) ≡ t)
     → put_line d whole ≡ Ok (record e { zone = t })
 line-done d e whole its texts value s t is zone same none next zones =
-    let by : Option SetLine → Option ParseSetErrorKind = λ o. option_map_or (λ k. option_or (value_error d whole k) (zone_error d whole k)) o (Some Unknown) in
-    let with : Option SetLine → SetDraft = λ o. option_map_or (λ k. with_zone (with_value d whole k) whole) o d in
-    let clean : zone_error d whole its ≡ None = ap (λ z. zone_error_in z (parameters_on whole) its) zone ∙ ap (λ ps. zone_error_in s ps its) is.parameters ∙ zones.0 in
-    let zoned : with_zone e whole ≡ record e { zone = t } =
-    ap (λ z. record e { zone = option_or z (zone_on whole) }) same ∙ ap (λ ps. record e { zone = option_or s (first_zone ps) }) is.parameters ∙ ap (λ z. record e { zone = z }) zones.1 in
-    ap (λ b. unless_error (cond b None (by (kind_of whole))) (cond b d (with (kind_of whole)))) is.some
-    ∙ ap (λ o. unless_error (by o) (with o)) is.kind
-    ∙ ap (λ o. unless_error (option_or o (zone_error d whole its)) (with_zone (with_value d whole its) whole)) none
-    ∙ ap (λ o. unless_error o (with_zone (with_value d whole its) whole)) clean
-    ∙ ap (λ x. Ok (with_zone x whole)) next
-    ∙ ap Ok zoned
+    rw (is.some, is.kind, none, next, zone, is.parameters, zones.0, same, zones.1) refl
 
 -- ---- the zone of the lines so far
 -- no line named the zone, or one did
