@@ -132,13 +132,11 @@ get-here (x ∷ xs) y ys = get-here xs y ys
 
 pub error-before : (done rest : List (List ℕ)) (k : ℕ) → k < length done → error_at (done ++ rest) k ≡ error_at done k
 error-before done rest k less =
-    ap (λ lines. option_and_then (error_after (parts_of lines)) (slice_get (done ++ rest) k)) (take-append-le k done rest (omega (arith, less)))
-    ∙ ap (option_and_then (error_after (parts_of (take k done)))) (get-before done rest k less)
+    rw (take-append-le k done rest (omega (arith, less)), get-before done rest k less) refl
 
 pub error-here : (done : List (List ℕ)) (text : List ℕ) (rest : List (List ℕ)) → error_at (done ++ text ∷ rest) (length done) ≡ error_after (parts_of done) text
 error-here done text rest =
-    ap (λ lines. option_and_then (error_after (parts_of lines)) (slice_get (done ++ text ∷ rest) (length done))) (take_at done (text ∷ rest) (length done) refl)
-    ∙ ap (option_and_then (error_after (parts_of done))) (get-here done text rest)
+    rw (take_at done (text ∷ rest) (length done) refl, get-here done text rest) refl
 
 pub valid-more : (done : List (List ℕ)) (text : List ℕ) → AreValid done → error_after (parts_of done) text ≡ None → AreValid (done ++ text ∷ [])
 valid-more done text h e k =

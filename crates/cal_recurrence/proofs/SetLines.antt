@@ -1,9 +1,8 @@
 -- The lines of a set that was written, read back one after another.
 use Rattle.std.proofs.Common.{◌≡◌, ℕ, ◌+◌, ◌-◌, ◌<◌, ◌≤◌, Bool, true, false, cond, eqb, not, List, [], ◌∷◌, ◌++◌, append-nil, append_assoc, length, length-append, map, take, Option, Some, None, Result, Ok, Err, inl, inr, refl, sym, ap, subst, ◌∙◌, arith}
-use Rattle.std.specs.Prelude.{◌⊎◌, ⊤, codes, bytes_eq, nat_le, nat_lt, slice_index, is_some, unwrap_or, IfSome, option_map, ◌&&◌, ◌||◌}
+use Rattle.std.specs.Prelude.{◌⊎◌, ⊤, codes, bytes_eq, nat_le, nat_lt, slice_index, IfSome, ◌&&◌, ◌||◌}
 use Rattle.std.specs.List.{All, list_any}
 use Rattle.std.specs.Option.{option_map_or, option_or}
-use Rattle.std.specs.Result.{result_err, result_ok}
 use Rattle.std.proofs.lemmas.Bool.{and_from, and_parts, and_right, cases_Bool, false≢true, ne_eqb}
 use Rattle.std.proofs.lemmas.Bool.Decides.{nat_tests}
 use Rattle.std.proofs.lemmas.List.{get_or_at, take_at}
@@ -11,7 +10,7 @@ use Rattle.std.proofs.lemmas.List.Folds.{list_any-append}
 use Rattle.std.proofs.lemmas.List.Elements.{All-head, All-tail}
 use Rattle.std.proofs.lemmas.Slice.Eq.{bytes_eq-Decides}
 use Rattle.cal_recurrence.specs.Buffers.{IsPut}
-use Rattle.cal_recurrence.specs.SetText.{after_first_part, all_allow, all_name, error_after, error_unless, first_zone, has_room, is_local, is_name_byte, is_zone_name, kind_of, line_of, lines_of, list_error, parameters_of, parameters_on, parts_from, parts_of, recurrence_on, unless_error, unquoted, value_error, value_of, value_on, values_on, with_line, with_value, without_return, AreValid, SaysSet}
+use Rattle.cal_recurrence.specs.SetText.{after_first_part, all_allow, all_name, error_after, error_unless, first_zone, has_room, is_local, is_name_byte, is_zone_name, kind_of, line_of, lines_of, parameters_of, parameters_on, parts_from, parts_of, recurrence_on, unless_error, unquoted, value_error, value_of, value_on, values_on, with_line, with_value, without_return, AreValid, SaysSet}
 use Rattle.cal_recurrence.specs.SetWritten.{head_text, is_same_kind, line_end, more_text, parameter_text, set_text, values_text, IsSpelledSet, IsZoneOf}
 use Rattle.cal_recurrence.specs.Spelled.{IsDateOrTime, IsSpelled}
 use Rattle.cal_recurrence.specs.Text.{fault, parts_say, ReadsBack}
@@ -22,7 +21,7 @@ use Rattle.cal_recurrence.specs.declared.date_or_time.DateOrTime.TheVariants.{Da
 use Rattle.cal_recurrence.specs.declared.fault.ParseRuleErrorKind.TheVariants.{Unknown as UnknownPart}
 use Rattle.cal_recurrence.specs.declared.recurrence.Recurrence.{Recurrence}
 use Rattle.cal_recurrence.specs.declared.set_fault.ParseSetErrorKind.{ParseSetErrorKind}
-use Rattle.cal_recurrence.specs.declared.set_fault.ParseSetErrorKind.TheVariants.{OtherZone, Rule, TooMany, Value}
+use Rattle.cal_recurrence.specs.declared.set_fault.ParseSetErrorKind.TheVariants.{OtherZone}
 use Rattle.cal_recurrence.specs.declared.set_fault.SetLine.{SetLine}
 use Rattle.cal_recurrence.specs.declared.set_fault.SetLine.TheVariants as line
 use Rattle.cal_recurrence.specs.declared.set_draft.SetDraft.{SetDraft}
@@ -393,11 +392,6 @@ list-read name its to h tzid z rest p (v ∷ vs) s known are few reads =
     (All-tail IsDateOrTime v vs are) refl few reads)
 
 -- ---- the whole
-list-clean : (filled : ℕ) (whole : List ℕ) (its : SetLine) (ws : List DateOrTime) → has_room filled (rest_outside 58 whole) ≡ true → values_on whole ≡ Some ws
-    → list_error filled whole its ≡ None
-list-clean filled whole its ws room values =
-    ap (λ b. option_or (error_unless b (TooMany its)) (error_unless (is_some (values_on whole)) (Value its))) room ∙ ap (λ o. error_unless (is_some o) (Value its)) values
-
 more-false : (a b c e : Bool) → a || (b || e) ≡ false → c ≡ false → a || ((b || c) || e) ≡ false
 more-false true b c e h k = h
 more-false false true c e h k = h
@@ -413,7 +407,7 @@ dates-list : (start : DateOrTime) (r : Recurrence) → IsList (codes "RDATE") li
 dates-list start r = record {
   plain = (refl, refl, refl, refl);
   means = refl;
-  puts = λ ds ws s whole room values. (list-clean (length ds) whole line.Dates ws room values, ap (λ o. draft_of (Some start) (Some r) (ds ++ unwrap_or o []) [] s) values);
+  puts = λ ds ws s whole room values. (rw (room, values) refl, rw values refl);
   zoned = λ ds s t. (refl, refl);
   locals = λ ds ws s t none plain.
       ap (λ b. is_local start || (b || false)) (list_any-append is_local ds ws) ∙ more-false (is_local start) (list_any is_local ds) (list_any is_local ws) false none plain;
@@ -424,8 +418,7 @@ exceptions-list : (start : DateOrTime) (r : Recurrence) (dates : List DateOrTime
 exceptions-list start r dates = record {
   plain = (refl, refl, refl, refl);
   means = refl;
-  puts = λ ds ws s whole room values.
-      (list-clean (length ds) whole line.Exceptions ws room values, ap (λ o. draft_of (Some start) (Some r) dates (ds ++ unwrap_or o []) s) values);
+  puts = λ ds ws s whole room values. (rw (room, values) refl, rw values refl);
   zoned = λ ds s t. (refl, refl);
   locals = λ ds ws s t none plain.
       ap (λ b. is_local start || (list_any is_local dates || b)) (list_any-append is_local ds ws)
@@ -444,7 +437,7 @@ start-put tzid start z is =
     let split = line-by name (head_of name tzid start) value line.Start texts (head-is name tzid start (refl, refl, refl, refl) z) refl in
     let means : value_on whole ≡ Some start = rw (split.parameters, split.rest, append-nil) word.means in
     line-done (parts_of []) (draft_of (Some start) None [] [] None) whole line.Start texts value None (zone_after tzid None start) split refl refl
-    (ap (λ o. error_unless (is_some o) (Value line.Start)) means) (ap (λ o. draft_of o None [] [] None) means) (first-zone line.Start tzid start z)
+    (rw means refl) (rw means refl) (first-zone line.Start tzid start z)
 
 -- the recurrence
 rule-put : (start : DateOrTime) (s : Option (List ℕ)) (r : Recurrence) (text : List ℕ) → parts_say 6 (parts_at 59 text) ≡ Ok r
@@ -455,8 +448,7 @@ rule-put start s r text says =
     let is = line-by name name text line.Rule [] (record { feed = refl; mark = refl; colon = refl; named = refl; parameters = refl }) refl in
     let read : recurrence_on whole ≡ Ok r =
     ap (λ t. cond (t && true) (parts_say 6 (parts_at 59 text)) (Err (fault 0 UnknownPart))) (longer text) ∙ says in
-    line-done (draft_of (Some start) None [] [] s) (draft_of (Some start) (Some r) [] [] s) whole line.Rule [] text s s is refl refl
-    (ap (λ o. option_map Rule (result_err o)) read) (ap (λ o. draft_of (Some start) (result_ok o) [] [] s) read) (no-zone s)
+    line-done (draft_of (Some start) None [] [] s) (draft_of (Some start) (Some r) [] [] s) whole line.Rule [] text s s is refl refl (rw read refl) (rw read refl) (no-zone s)
   where
     no-zone : (s : Option (List ℕ)) → (zone_error_in s [] line.Rule ≡ None) × (option_or s None ≡ s)
     no-zone None = (refl, refl)
@@ -493,11 +485,7 @@ all-read p s e before valid is =
 
 in-lines : (head rule dates exceptions : List ℕ)
     → (head ++ line_end) ++ (rule ++ line_end) ++ dates ++ exceptions ≡ head ++ 13 ∷ 10 ∷ (rule ++ 13 ∷ 10 ∷ (dates ++ (exceptions ++ [])))
-in-lines head rule dates exceptions =
-    append_assoc ((head ++ line_end) ++ (rule ++ line_end)) dates exceptions
-    ∙ append_assoc (head ++ line_end) (rule ++ line_end) (dates ++ exceptions)
-    ∙ append_assoc head line_end ((rule ++ line_end) ++ (dates ++ exceptions))
-    ∙ ap (λ rest. head ++ 13 ∷ 10 ∷ rest) (append_assoc rule line_end (dates ++ exceptions) ∙ ap (λ last. rule ++ 13 ∷ 10 ∷ (dates ++ last)) (sym (append-nil exceptions)))
+in-lines head rule dates exceptions = simp (append_assoc, append-nil)
 
 set-reads : (p : SetParts) → IsSpelledSet p → ReadsBack p.recurrence (text_of p.recurrence) → length p.dates ≤ 62 → length p.exceptions ≤ 62
     → SaysSet (lines_of (set_text p)) p
