@@ -176,19 +176,7 @@ month-words (x ∷ xs) = (month-word x, month-words xs)
 -- ---- the whole
 grouped : (a b c d e f g h j k l m n : List ℕ)
     → a ++ b ++ c ++ d ++ e ++ f ++ g ++ h ++ j ++ k ++ l ++ m ++ n ≡ a ++ (b ++ (c ++ (d ++ (e ++ (f ++ (g ++ (h ++ (j ++ (k ++ (l ++ (m ++ (n ++ []))))))))))))
-grouped a b c d e f g h j k l m n =
-    append_assoc (a ++ b ++ c ++ d ++ e ++ f ++ g ++ h ++ j ++ k ++ l) m n
-    ∙ append_assoc (a ++ b ++ c ++ d ++ e ++ f ++ g ++ h ++ j ++ k) l (m ++ n)
-    ∙ append_assoc (a ++ b ++ c ++ d ++ e ++ f ++ g ++ h ++ j) k (l ++ (m ++ n))
-    ∙ append_assoc (a ++ b ++ c ++ d ++ e ++ f ++ g ++ h) j (k ++ (l ++ (m ++ n)))
-    ∙ append_assoc (a ++ b ++ c ++ d ++ e ++ f ++ g) h (j ++ (k ++ (l ++ (m ++ n))))
-    ∙ append_assoc (a ++ b ++ c ++ d ++ e ++ f) g (h ++ (j ++ (k ++ (l ++ (m ++ n)))))
-    ∙ append_assoc (a ++ b ++ c ++ d ++ e) f (g ++ (h ++ (j ++ (k ++ (l ++ (m ++ n))))))
-    ∙ append_assoc (a ++ b ++ c ++ d) e (f ++ (g ++ (h ++ (j ++ (k ++ (l ++ (m ++ n)))))))
-    ∙ append_assoc (a ++ b ++ c) d (e ++ (f ++ (g ++ (h ++ (j ++ (k ++ (l ++ (m ++ n))))))))
-    ∙ append_assoc (a ++ b) c (d ++ (e ++ (f ++ (g ++ (h ++ (j ++ (k ++ (l ++ (m ++ n)))))))))
-    ∙ append_assoc a b (c ++ (d ++ (e ++ (f ++ (g ++ (h ++ (j ++ (k ++ (l ++ (m ++ n))))))))))
-    ∙ ap (λ last. a ++ (b ++ (c ++ (d ++ (e ++ (f ++ (g ++ (h ++ (j ++ (k ++ (l ++ (m ++ (last))))))))))))) (sym (append-nil n))
+grouped a b c d e f g h j k l m n = simp (append_assoc, append-nil)
 
 no-name : (r : Recurrence) → has_name (text_of r) ≡ false
 unfolding first_bytes

@@ -1,7 +1,6 @@
 -- A list of words with commas between them, read back.
 use Rattle.std.proofs.Common.{◌≡◌, ℕ, ◌≤◌, true, List, [], ◌∷◌, ◌++◌, append-nil, map, length, Option, Some, refl, ap, ◌∙◌, arith}
-use Rattle.std.specs.Prelude.{⊤, codes, nat_le, option_map}
-use Rattle.std.specs.Option.{option_zip}
+use Rattle.std.specs.Prelude.{⊤, codes, nat_le}
 use Rattle.std.proofs.lemmas.Bool.Decides.{nat_tests}
 use Rattle.cal_recurrence.specs.Text.{each, list_of, has_few_words}
 use Rattle.cal_schedule.specs.Values.{most_values}
@@ -62,8 +61,7 @@ each-word : {X : Type 0} (meaning : List ℕ → Option X) (text : X → List �
     → each meaning (map text xs) ≡ Some xs
 each-word meaning text [] h = refl
 each-word meaning text (x ∷ xs) h =
-    ap (λ o. option_map (λ both. both.0 ∷ both.1) (option_zip o (each meaning (map text xs)))) h.0.means
-    ∙ ap (λ o. option_map (λ both. both.0 ∷ both.1) (option_zip (Some x) o)) (each-word meaning text xs h.1)
+    rw (h.0.means, each-word meaning text xs h.1) refl
 
 pub length-map : {X : Type 0} (text : X → List ℕ) (xs : List X) → length (map text xs) ≡ length xs
 length-map text [] = refl

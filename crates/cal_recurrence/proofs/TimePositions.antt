@@ -1,6 +1,6 @@
 -- The positions of readings, by the positions of their days.
 use Rattle.std.proofs.Common.{◌≡◌, refl, ℕ, zero, suc, max, ◌+◌, ◌-◌, ◌*◌, ◌/◌, ◌%◌, ◌<◌, ◌≤◌, sym, ap, ◌∙◌, arith, Bool, true, false, inl, inr, List, [], ◌∷◌, map, ℤ, pos, negsuc, Option}
-use Rattle.std.specs.Prelude.{◌&&◌, ◌==◌, nat_le, option_map}
+use Rattle.std.specs.Prelude.{◌&&◌, ◌==◌, nat_le}
 use Rattle.std.specs.List.{list_any}
 use Rattle.std.proofs.lemmas.Bool.{and_parts, eq-eqb, eqb-true, false_from_ne_true, false≢true, or_cases, or_left, or_right}
 use Rattle.cal_time.specs.Date.{last_day}
@@ -8,7 +8,6 @@ use Rattle.cal_time.specs.IsoWeekDate.{count_before}
 use Rattle.cal_time.specs.SignedDuration.{day}
 use Rattle.cal_datetime.specs.DateTime.{last_date_time, date_at, time_at}
 use Rattle.cal_schedule.specs.declared.rule.rule.Rule.{Rule}
-use Rattle.cal_schedule.specs.Pattern.{rule_of}
 use Rattle.cal_schedule.specs.Ranks.{count-less, count-yes, length-from}
 use Rattle.cal_schedule.specs.Rule.{allows, is_nth, matches_days, matches_months, matches_positions, matches_until, matches_weeks, passes, passes_with, period_index, periods_past, unit_of}
 use Rattle.cal_schedule.specs.Rule as date
@@ -224,9 +223,7 @@ ranked rule = with_positions rule (map (day_position (per_day rule)) rule.patter
 pub days-are : (start : ℤ) (until : Option ℤ) (days : Rule) (times : TimesOfDay) (positions : List ℤ) (size : ℕ) (has : Bool) → IsInside start until days times positions size has
     → days ≡ ranked (parts_of start until days times positions)
 days-are start until days times positions size has h =
-    h.days_are
-    ∙ ap (λ ps. rule_of (record days.pattern { set_positions = ps }) (date_at start) (option_map date_at until)) h.ranks_are
-    ∙ ap (λ s. rule_of (record days.pattern { set_positions = map (day_position s) positions }) (date_at start) (option_map date_at until)) h.count_is
+    h.days_are ∙ rw (h.ranks_are, h.count_is) refl
 
 -- A day that isn't one of the rule with the positions of days has no reading.
 pub off-day : (rule : DateTimeParts) (n k : ℕ) → n ≤ last_day → date.is_occurrence (ranked rule) n ≡ false → k / day ≡ n → selects rule k ≡ false
