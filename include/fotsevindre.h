@@ -95,6 +95,7 @@ typedef struct fots_recurrence {
     int8_t month_days[FOTS_MAX_VALUES];
     fots_rule_weekday weekdays[FOTS_MAX_VALUES];
     int16_t set_positions[FOTS_MAX_VALUES];
+    uint16_t unused; /* 0, so that equal recurrences have equal bytes */
 } fots_recurrence;
 
 /* The maximum number of holidays, and of the dates and the exceptions of a rule or a set. */
@@ -107,7 +108,7 @@ typedef struct fots_workdays {
     uint32_t weekmask;
     uint32_t holidays_length;
     fots_date holidays[FOTS_MAX_HOLIDAYS]; /* in ascending order, then zeros */
-    uint16_t marked_before[1025]; /* the holidays before each index that are days of the weekmask */
+    uint16_t marked_before[1026]; /* the holidays before each index that are days of the weekmask, then 0 */
 } fots_workdays;
 
 /* The maximum number of items of a format, and the bytes that the text of each takes at most. */

@@ -64,6 +64,7 @@ parts_of r = record {
   month_days = filled (pos 0) r.pattern.month_days;
   weekdays = filled no_weekday (map parts_of_weekday r.pattern.weekdays);
   set_positions = filled (pos 0) r.pattern.set_positions;
+  unused = 0;
 }
 
 -- The parts for an error.
@@ -86,6 +87,7 @@ no_parts = record {
   month_days = replicate 62 (pos 0);
   weekdays = replicate 62 no_weekday;
   set_positions = replicate 62 (pos 0);
+  unused = 0;
 }
 
 -- The result of parsing: the parts of the recurrence, or the first wrong part of the text.

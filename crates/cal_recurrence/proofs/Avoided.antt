@@ -1,18 +1,17 @@
 -- Splitting a text whose first bytes avoid the separator.
-use Rattle.std.proofs.Common.{◌≡◌, ℕ, ◌+◌, Bool, true, false, cond, eqb, not, List, [], ◌∷◌, ◌++◌, append_assoc, take, drop, length, length-append, subst, inl, inr, refl, sym, ap, ◌∙◌, arith}
-use Rattle.std.specs.List.{All, onto_first, position_or_len}
+use Rattle.std.proofs.Common.{◌≡◌, ℕ, Bool, true, false, cond, eqb, List, [], ◌∷◌, ◌++◌, subst, inl, inr, refl, sym, ap, ◌∙◌}
+use Rattle.std.specs.List.{All, onto_first}
 use Rattle.std.proofs.lemmas.Bool.{cases_Bool, eq-eqb, false≢true, ne_eqb}
-use Rattle.std.proofs.lemmas.List.{drop_at, take_at, take_all}
 use Rattle.std.proofs.lemmas.List.Elements.{All-cons, All-head, All-nil, All-tail}
 use Rattle.std.proofs.lemmas.List.Splits.{slice_split-cons_yes, slice_split-cons_no}
-use Rattle.cal_recurrence.specs.Words.{front_at, parts_at, rest_at}
+use Rattle.cal_recurrence.specs.Words.{parts_at}
 
 -- the bytes avoid this byte
 abbrev pub avoids : ℕ → List ℕ → Bool
 avoids byte [] = true
 avoids byte (x ∷ xs) = cond (eqb x byte) false (avoids byte xs)
 
-parts : (a b : Bool) → cond a false b ≡ true → (a ≡ false) × (b ≡ true)
+pub parts : (a b : Bool) → cond a false b ≡ true → (a ≡ false) × (b ≡ true)
 parts true b h = absurd (false≢true h)
 parts false b h = (refl, h)
 
@@ -36,31 +35,6 @@ cut-nowhere byte [] h = refl
 cut-nowhere byte (x ∷ xs) h =
     let both = parts _ _ h in
     slice_split-cons_no (λ b. eqb b byte) x xs both.0 ∙ ap (onto_first x) (cut-nowhere byte xs both.1)
-
--- ---- the bytes before and after the first separator
-first-place : (byte : ℕ) (xs ys : List ℕ) → avoids byte xs ≡ true → position_or_len (λ b. eqb b byte) (xs ++ byte ∷ ys) ≡ length xs
-first-place byte [] ys h = ap (λ t. cond (not t) (1 + position_or_len (λ b. eqb b byte) ys) 0) (eq-eqb byte byte refl)
-first-place byte (x ∷ xs) ys h =
-    let both = parts _ _ h in
-    ap (λ t. cond (not t) (1 + position_or_len (λ b. eqb b byte) (xs ++ byte ∷ ys)) 0) both.0 ∙ omega (arith, first-place byte xs ys both.1)
-
-pub front-here : (byte : ℕ) (xs ys : List ℕ) → avoids byte xs ≡ true → front_at byte (xs ++ byte ∷ ys) ≡ xs
-front-here byte xs ys h = ap (λ n. take n (xs ++ byte ∷ ys)) (first-place byte xs ys h) ∙ take_at xs (byte ∷ ys) (length xs) refl
-
-pub rest-here : (byte : ℕ) (xs ys : List ℕ) → avoids byte xs ≡ true → rest_at byte (xs ++ byte ∷ ys) ≡ ys
-rest-here byte xs ys h =
-    ap (λ n. drop (n + 1) (xs ++ byte ∷ ys)) (first-place byte xs ys h)
-    ∙ ap (drop (length xs + 1)) (sym (append_assoc xs (byte ∷ []) ys)) ∙ drop_at (xs ++ byte ∷ []) ys (length xs + 1) (length-append xs (byte ∷ []))
-
--- no separator
-all-places : (byte : ℕ) (xs : List ℕ) → avoids byte xs ≡ true → position_or_len (λ b. eqb b byte) xs ≡ length xs
-all-places byte [] h = refl
-all-places byte (x ∷ xs) h =
-    let both = parts _ _ h in
-    ap (λ t. cond (not t) (1 + position_or_len (λ b. eqb b byte) xs) 0) both.0 ∙ omega (arith, all-places byte xs both.1)
-
-pub front-nowhere : (byte : ℕ) (xs : List ℕ) → avoids byte xs ≡ true → front_at byte xs ≡ xs
-front-nowhere byte xs h = ap (λ n. take n xs) (all-places byte xs h) ∙ take_all (length xs) xs (omega arith)
 
 -- ---- the same of each byte
 pub from-all : (byte : ℕ) (xs : List ℕ) → All (λ x. ¬ (x ≡ byte)) xs → avoids byte xs ≡ true

@@ -24,15 +24,10 @@ use Rattle.cal_recurrence.specs.declared.recurrence.RuleEnd.{RuleEnd}
 use Rattle.cal_recurrence.specs.declared.recurrence.RuleEnd.TheVariants.{Never, Until, Count}
 use Rattle.cal_recurrence.specs.declared.zoned_set.ZonedSet.{ZonedSet}
 use Rattle.cal_recurrence.proofs.DateTimeSets.{found, is-found, IsFound}
+use Rattle.cal_recurrence.proofs.RuleOccurrences.{le-true, true-le}
 use Rattle.cal_recurrence.proofs.ZonedSearch.{compared, near}
 
 -- ---- readings that ascend
-le-true : (a b : ℤ) → int_le a b ≡ true → a ≤ℤ b
-le-true a b e = grind (arith, ints)
-
-true-le : (a b : ℤ) → a ≤ℤ b → int_le a b ≡ true
-true-le a b e = grind (arith, ints)
-
 -- A reading up to the end isn't after the last of the readings that are left.
 not-after : (end : Option ℤ) (left : List ℤ) (z : ℤ) → ascend_from end left ≡ true → is_not_after end z ≡ true → is_not_after (last_or end left) z ≡ true
 not-after end [] z order by = by

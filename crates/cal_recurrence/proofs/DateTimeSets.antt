@@ -2,7 +2,7 @@
 use Rattle.std.proofs.Common.{◌≡◌, ℕ, suc, ◌+◌, ◌-◌, ◌≤◌, refl, sym, ap, ◌∙◌, arith, Bool, true, false, ◌&&◌, not, filter, map, slice_get, subst, Option, Some, None, ℤ, pos}
 use Rattle.std.specs.Prelude.{◌||◌, nat_le, option_map, unsigned_abs}
 use Rattle.std.specs.Ordering.{int_cmp, int_eq}
-use Rattle.std.proofs.lemmas.Bool.{false≢true}
+use Rattle.std.proofs.lemmas.Bool.{false_from_ne_true, false≢true}
 use Rattle.std.proofs.lemmas.Int.{ints}
 use Rattle.std.proofs.lemmas.Option.{slice_get-map}
 use Rattle.cal_time.specs.Occurrences.{days_from}
@@ -127,18 +127,18 @@ from-next test z h miss =
     ∙ ap (map pos) (from-no (λ k. test (pos k)) n (last_date_time - n) (ap test (number-is z h) ∙ miss))
     ∙ ap (λ c. map pos (filter (λ k. test (pos k)) (days_from (n + 1) c))) less
 
-same-test : (z : ℤ) → IsDateTime z → int_eq z z ≡ true
-same-test z h = grind (arith, ints)
+pub eq-same : (a b : ℤ) → int_eq a b ≡ true → a ≡ b
+eq-same a b e = grind (arith, ints)
 
-other-test : (z y : ℤ) → ¬ (z ≡ y) → int_eq z y ≡ false
-other-test z y h = grind (arith, ints)
+pub same-eq : (a b : ℤ) → a ≡ b → int_eq a b ≡ true
+same-eq a b e = grind (arith, ints)
 
 -- A reading passes a test if it is the first one from itself on that passes.
 is-first-at : (test : ℤ → Bool) (y z : ℤ) (b : Bool) → test z ≡ b → IsDateTime z → Some y ≡ slice_get (readings_from test (unsigned_abs z)) 0 → int_eq y z ≡ test z
-is-first-at test y z true on h e = let same : Some y ≡ Some z = e ∙ sym (from-here test z h on) in let is : y ≡ z = cc in ap (λ w. int_eq w z) is ∙ same-test z h ∙ sym on
+is-first-at test y z true on h e = let same : Some y ≡ Some z = e ∙ sym (from-here test z h on) in let is : y ≡ z = cc in same-eq y z is ∙ sym on
 is-first-at test y z false off h e =
     let first : IsFound test (unsigned_abs z) y = found test (unsigned_abs z) y e in
-    other-test y z (λ is. false≢true (sym off ∙ ap test (sym is ∙ first.is) ∙ first.first.passes)) ∙ sym off
+    false_from_ne_true _ (λ e. false≢true (sym off ∙ ap test (sym (eq-same y z e) ∙ first.is) ∙ first.first.passes)) ∙ sym off
 
 pub is-first : (test : ℤ → Bool) (y z : ℤ) → IsDateTime z → Some y ≡ slice_get (readings_from test (unsigned_abs z)) 0 → int_eq y z ≡ test z
 is-first test y z h e = is-first-at test y z (test z) refl h e

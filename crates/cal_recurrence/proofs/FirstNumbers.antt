@@ -1,17 +1,25 @@
 -- The first number that passes a test, and the first number of a list.
-use Rattle.std.proofs.Common.{◌≡◌, ℕ, ◌+◌, ◌-◌, sym, ap, ◌∙◌, arith, Bool, true, false, refl, [], ◌∷◌, filter, slice_get, Option, Some, None}
-use Rattle.std.specs.Prelude.{◌||◌}
+use Rattle.std.proofs.Common.{◌≡◌, ℕ, ◌+◌, ◌-◌, ◌≤◌, inl, inr, sym, ap, ◌∙◌, arith, Bool, false, [], ◌∷◌, filter, slice_get, Option, Some, None}
+use Rattle.std.proofs.lemmas.Bool.{cases_lt}
 use Rattle.cal_time.specs.Filters.{filter-first, filter-none, first_matching, none_matching}
 use Rattle.cal_time.specs.Occurrences.{days_from}
 use Rattle.cal_recurrence.specs.TimeSearch.{NoneIn, IsFirst, IsNext}
 
--- ---- one of two tests
-pub first_one : (a b : Bool) → a ≡ true → (a || b) ≡ true
-first_one a b p = rw p refl
+-- ---- a search that begins earlier
+pub joined : (test : ℕ → Bool) (a b c : ℕ) → NoneIn test a b → NoneIn test b c → NoneIn test a c
+joined test a b c first second = λ k low high. elim (cases_lt k b) as (λ _. test k ≡ false) [ inl less ↦ first k low less | inr most ↦ second k most high ]
 
-pub other_one : (a b : Bool) → b ≡ true → (a || b) ≡ true
-other_one true b p = refl
-other_one false b p = p
+pub later-first : (test : ℕ → Bool) (a b e x : ℕ) → a ≤ b → NoneIn test a b → IsFirst test b e x → IsFirst test a e x
+later-first test a b e x h none found = record {
+  not_before = omega (arith, found.not_before);
+  below = found.below;
+  passes = found.passes;
+  none_before = joined test a b x none found.none_before;
+}
+
+pub extended : (test : ℕ → Bool) (a b e : ℕ) (r : Option ℕ) → a ≤ b → NoneIn test a b → IsNext test b e r → IsNext test a e r
+extended test a b e None h none next = joined test a b e none next
+extended test a b e (Some x) h none next = later-first test a b e x h none next
 
 -- ---- the first number of a list
 pub list-none : (test : ℕ → Bool) (m e : ℕ) → NoneIn test m e → filter test (days_from m (e - m)) ≡ []

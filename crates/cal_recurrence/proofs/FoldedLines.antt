@@ -1,7 +1,7 @@
 -- A text that is copied with folds, step by step, and unfolded again.
 use Rattle.std.proofs.Common.{◌≡◌, ℕ, ◌+◌, ◌<◌, ◌≤◌, Bool, true, false, cond, eqb, not, List, [], ◌∷◌, ◌++◌, append-nil, append_assoc, length, length-append, take, drop, slice_index_or, Some, inl, inr, refl, sym, ap, subst, ◌∙◌, arith}
 use Rattle.std.specs.Prelude.{◌⊎◌, ◌↔◌, ◌&&◌, nat_le, slice_index}
-use Rattle.std.proofs.lemmas.Bool.{and_parts, cases_Bool, eqb-true, true≢false}
+use Rattle.std.proofs.lemmas.Bool.{and_parts, and_right, cases_Bool, eqb-true, true≢false}
 use Rattle.std.proofs.lemmas.List.{drop_all}
 use Rattle.cal_recurrence.specs.Buffers.{IsPut}
 use Rattle.cal_recurrence.specs.Folding.{fold_length, is_blank, is_line_end, IsUnfolded}
@@ -86,10 +86,6 @@ all_folded text old new filled index column h all =
     subst (λ t. IsPut 0 t old new (Some filled)) whole h.put
 
 -- ---- unfolding
-and-false : (b : Bool) → b && false ≡ false
-and-false true = refl
-and-false false = refl
-
 and-both : (a b c : Bool) → a && b ≡ false → a && (b && c) ≡ false
 and-both true true c h = absurd (true≢false h)
 and-both true false c h = refl
@@ -97,12 +93,11 @@ and-both false b c h = refl
 
 no-fold : (b : ℕ) (bs : List ℕ) → eqb b 10 ≡ false → eqb b 13 && eqb (slice_index bs 0) 10 ≡ false → fold_length (b ∷ bs) ≡ 0
 no-fold b bs e f =
-    ap (λ t. cond (t && is_blank (slice_index bs 0)) 2 (cond (eqb b 13 && (eqb (slice_index bs 0) 10 && is_blank (slice_index bs 1))) 3 0)) e
-    ∙ ap (λ t. cond t 3 0) (and-both (eqb b 13) (eqb (slice_index bs 0) 10) (is_blank (slice_index bs 1)) f)
+    rw (e, and-both (eqb b 13) (eqb (slice_index bs 0) 10) (is_blank (slice_index bs 1)) f) refl
 
 -- a line feed begins a line, before which no fold comes
 pub line-stays : (column : ℕ) (bs : List ℕ) → fold_before column (10 ∷ bs) ≡ false
-line-stays column bs = and-false (nat_le 75 column)
+line-stays column bs = and_right (nat_le 75 column) false refl
 
 pub stays : (column b : ℕ) (bs : List ℕ) → fold_before column (b ∷ bs) ≡ false → folded_after column (b ∷ bs) ≡ b ∷ folded_after (column_after column (b ∷ bs)) bs
 stays column b bs e = ap (λ t. cond t (13 ∷ 10 ∷ 32 ∷ b ∷ []) (b ∷ []) ++ folded_after (column_after column (b ∷ bs)) bs) e
@@ -142,7 +137,7 @@ after-other b n (c ∷ cs) other e =
                 ∙ after-return n cs (sym (ap (λ x. fold_length (x ∷ c ∷ cs)) same ∙ ap (λ x. fold_length (13 ∷ x ∷ cs)) ten) ∙ e)
             | inr plain ↦ no-fold b (folded_after n (c ∷ cs)) other (ap (λ t. t && eqb (slice_index (folded_after n (c ∷ cs)) 0) 10) plain)
           ]
-      | inr plain ↦ no-fold b (folded_after n (c ∷ cs)) other (ap (λ t. eqb b 13 && t) (first-other n c cs plain) ∙ and-false (eqb b 13))
+      | inr plain ↦ no-fold b (folded_after n (c ∷ cs)) other (ap (λ t. eqb b 13 && t) (first-other n c cs plain) ∙ and_right (eqb b 13) false refl)
     ]
 
 after-byte : (column b : ℕ) (bs : List ℕ) → fold_length (b ∷ bs) ≡ 0 → fold_length (b ∷ folded_after (column_after column (b ∷ bs)) bs) ≡ 0
@@ -169,7 +164,7 @@ two-stay column c cs blank =
 
 three-stay : (column c : ℕ) (cs : List ℕ) → is_blank c ≡ true → Stays column (13 ∷ 10 ∷ c ∷ cs) 3
 three-stay column c cs blank =
-    let plain : fold_before column (13 ∷ 10 ∷ c ∷ cs) ≡ false = and-false (nat_le 75 column) in
+    let plain : fold_before column (13 ∷ 10 ∷ c ∷ cs) ≡ false = and_right (nat_le 75 column) false refl in
     let n = column_after column (13 ∷ 10 ∷ c ∷ cs) in
     let three : cond (is_blank c) 3 0 ≡ 3 = ap (λ t. cond t 3 0) blank in
     let whole : folded_after column (13 ∷ 10 ∷ c ∷ cs) ≡ 13 ∷ 10 ∷ c ∷ folded_after (column_after 0 (c ∷ cs)) cs =
@@ -179,8 +174,7 @@ three-stay column c cs blank =
 fold-stays : (column : ℕ) (text : List ℕ) → 0 < fold_length text → Stays column text (fold_length text)
 fold-stays column [] some = absurd (omega (arith, some))
 fold-stays column (b ∷ []) some =
-    let none : fold_length (b ∷ []) ≡ 0 =
-    ap (λ t. cond t 2 (cond (eqb b 13 && false) 3 0)) (and-false (eqb b 10)) ∙ ap (λ t. cond t 3 0) (and-false (eqb b 13)) in
+    let none : fold_length (b ∷ []) ≡ 0 = rw (and_right (eqb b 10) false refl, and_right (eqb b 13) false refl) refl in
     absurd (omega (arith, some, none))
 fold-stays column (b ∷ c ∷ cs) some =
     let text = b ∷ c ∷ cs in
@@ -195,8 +189,7 @@ fold-stays column (b ∷ c ∷ cs) some =
             found 3 (subst (λ x. Stays column (x ∷ c ∷ cs) 3) (sym (eqb-true b 13 both.0))
             (subst (λ x. Stays column (13 ∷ x ∷ cs) 3) (sym (eqb-true c 10 last.0)) (after cs last.1)))
         | inr none ↦
-            let plain : fold_length text ≡ 0 =
-            ap (λ t. cond t 2 (cond (eqb b 13 && (eqb c 10 && is_blank (slice_index cs 0))) 3 0)) other ∙ ap (λ t. cond t 3 0) none in
+            let plain : fold_length text ≡ 0 = rw (other, none) refl in
             absurd (omega (arith, some, plain))
       ]
     ]

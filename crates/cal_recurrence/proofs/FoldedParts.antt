@@ -13,7 +13,7 @@ use Rattle.cal_recurrence.specs.Words.{first_bytes, parts_at}
 use Rattle.cal_recurrence.proofs.Avoided.{avoids-append, cut-here, cut-nowhere, from-all}
 use Rattle.cal_recurrence.proofs.SetLines.{without-return}
 use Rattle.cal_recurrence.proofs.Avoided.{parts-bytes}
-use Rattle.cal_recurrence.proofs.FoldedLines.{fold_before, folded_after, folded_of, line, stays}
+use Rattle.cal_recurrence.proofs.FoldedLines.{fold_before, folded_after, folded_of, line}
 
 -- ---- the size of a line
 abbrev size : List ℕ → ℕ
@@ -132,9 +132,7 @@ Folds column bs = AreFolded column (parts_at 10 bs) (folded_after column bs)
 -- a byte that no fold precedes, and that ends no line
 kept : (column b : ℕ) (bs : List ℕ) → fold_before column (b ∷ bs) ≡ false → eqb b 10 ≡ false → folded_after column (b ∷ bs) ≡ b ∷ folded_after (column + 1) bs
 kept column b bs plain other =
-    stays column b bs plain
-    ∙ ap (λ t. b ∷ folded_after (cond t 2 (cond (eqb b 10) 0 (column + 1))) bs) plain
-    ∙ ap (λ t. b ∷ folded_after (cond t 0 (column + 1)) bs) other
+    rw (plain, other) refl
 
 onto : (column b : ℕ) (bs folded : List ℕ) → eqb b 10 ≡ false → AreFolded column (onto_first b (parts_at 10 bs)) folded → AreFolded column (parts_at 10 (b ∷ bs)) folded
 onto column b bs folded other h = subst (λ parts. AreFolded column parts folded) (sym (slice_split-cons_no (λ x. eqb x 10) b bs other)) h
@@ -176,8 +174,7 @@ folds-within (suc n) (b ∷ bs) column within few =
               (last-return n column bs few both.1 less (λ cs short_enough. folds-within n cs 0 short_enough (omega arith))))
           | inr goes_on ↦
               let folded : fold_before column (b ∷ bs) ≡ true = and_from (nat_le 75 column) _ (le-leb 75 column full) (not_from_false _ goes_on) in
-              let whole : folded_after column (b ∷ bs) ≡ 13 ∷ 10 ∷ 32 ∷ b ∷ folded_after 2 bs =
-              ap (λ t. cond t (13 ∷ 10 ∷ 32 ∷ b ∷ []) (b ∷ []) ++ folded_after (cond t 2 (cond (eqb b 10) 0 (column + 1))) bs) folded in
+              let whole : folded_after column (b ∷ bs) ≡ 13 ∷ 10 ∷ 32 ∷ b ∷ folded_after 2 bs = rw folded refl in
               let all : column ≡ 75 = omega (arith, few, full) in
               subst (λ k. AreFolded k (onto_first b parts) (folded_after column (b ∷ bs))) (sym all)
               (subst (AreFolded 75 (onto_first b parts)) (sym whole)

@@ -1,5 +1,5 @@
 -- A parsed recurrence is spelled: each value is a value of its part.
-use Rattle.std.proofs.Common.{◌≡◌, ℕ, zero, suc, ◌+◌, ◌-◌, ◌/◌, ◌%◌, ◌<◌, ◌≤◌, Bool, true, false, cond, eqb, List, [], ◌∷◌, length, take, drop, slice_index_or, Option, Some, None, Result, Ok, Err, ℤ, pos, refl, sym, ap, ◌∙◌, subst, arith}
+use Rattle.std.proofs.Common.{◌≡◌, ℕ, zero, suc, ◌+◌, ◌-◌, ◌/◌, ◌%◌, ◌<◌, ◌≤◌, Bool, true, false, cond, eqb, List, [], ◌∷◌, length, take, drop, Option, Some, None, Result, Ok, Err, ℤ, pos, refl, sym, ap, ◌∙◌, subst, arith}
 use Rattle.std.specs.Prelude.{⊤, codes, min, nat_le, nat_lt, neg_ℤ, slice_index, option_map, option_and_then, not, ◌&&◌, IfSome, IfOk, ◌≤ℤ◌}
 use Rattle.std.specs.List.{All}
 use Rattle.std.specs.Option.{option_map_or, option_zip}
@@ -8,6 +8,8 @@ use Rattle.std.proofs.lemmas.Bool.{and_parts}
 use Rattle.std.proofs.lemmas.Bool.Decides.{nat_tests}
 use Rattle.std.proofs.lemmas.Int.{ints}
 use Rattle.std.proofs.lemmas.List.{length-take}
+use Rattle.std.proofs.lemmas.List.Elements.{All-cons, All-nil}
+use Rattle.std.proofs.lemmas.Option.{IfSome_then}
 use Rattle.std.proofs.lemmas.Str.Parse.{digits_value_short}
 use Rattle.cal_time.specs.Date.{last_day, year_at}
 use Rattle.cal_time.specs.Filters.{IsFirstDay, first_matching}
@@ -97,11 +99,7 @@ clock-valued most word =
     (λ e. if_there (λ n. ⊤) (λ k. k ≤ most) (up_to (min most 60)) (number_of word) (λ n h. at-most most n) (any (number_of word))) tt
 
 counts : (word : List ℕ) → IfSome (count_of 4294967295 word) IsCount
-counts word = weaker (count_of 4294967295 word) (counted 4294967295 word)
-  where
-    weaker : (o : Option ℕ) → IfSome o (IsUpTo 4294967295) → IfSome o IsCount
-    weaker None h = tt
-    weaker (Some n) h = (h.0, omega (arith, h.1))
+counts word = IfSome_then (count_of 4294967295 word) (counted 4294967295 word) (λ n h. (h.0, omega (arith, h.1)))
 
 -- ---- weekdays and days
 zipped : (o : Option ℤ) (w : Option Weekday) → IfSome o (IsIndex 53)
@@ -189,23 +187,15 @@ dates word =
     (if_there (λ n. n < 100000000) HasFourDigits day_with number day-within (numbers (first_bytes 8 word) (omega (arith, length-first 8 word)))))
 
 -- ---- lists
-all-none : {X : Type 0} (P : X → Type 0) → All P []
-all-none P k d less = absurd (omega (arith, less))
-
-all-cons : {X : Type 0} (P : X → Type 0) (x : X) (xs : List X) → P x → All P xs → (k : ℕ) (d : X) → k < length (x ∷ xs)
-    → P (slice_index_or (x ∷ xs) k d)
-all-cons P x xs p h zero d less = p
-all-cons P x xs p h (suc k) d less = h k d (omega (arith, less))
-
 one-more : {X : Type 0} (P : X → Type 0) (o : Option X) (p : Option (List X)) → IfSome o P → IfSome p (All P)
     → IfSome (option_map (λ both. both.0 ∷ both.1) (option_zip o p)) (All P)
 one-more P None p h k = tt
 one-more P (Some x) None h k = tt
-one-more P (Some x) (Some xs) h k = all-cons P x xs h k
+one-more P (Some x) (Some xs) h k = All-cons P x xs h k
 
-each-is : {X : Type 0} (P : X → Type 0) (meaning : List ℕ → Option X) → ((word : List ℕ) → IfSome (meaning word) P)
+pub each-is : {X : Type 0} (P : X → Type 0) (meaning : List ℕ → Option X) → ((word : List ℕ) → IfSome (meaning word) P)
     → (words : List (List ℕ)) → IfSome (each meaning words) (All P)
-each-is P meaning h [] = all-none P
+each-is P meaning h [] = All-nil P
 each-is P meaning h (word ∷ words) = one-more P (meaning word) (each meaning words) (h word) (each-is P meaning h words)
 
 list-is : {X : Type 0} (P : X → Type 0) (meaning : List ℕ → Option X) → ((word : List ℕ) → IfSome (meaning word) P)
@@ -284,5 +274,5 @@ pub read_is_spelled : (at : ℕ) (draft : Draft) (texts : List (List ℕ)) (r : 
 read_is_spelled at draft texts r e f allowed ranked =
     let is : IfOk {E = ParseRuleError} (Ok r) IsRead =
     subst (λ s. IfOk s IsRead) (sym (f ∙ ap (λ d. read_on at d texts) e))
-    (read-on at nothing texts (record { interval = (omega arith, omega arith); weeks = all-none IsWeek; year_days = all-none IsPosition; month_days = all-none IsMonthDay; weekdays = all-none IsByDay; hours = all-none IsHour; minutes = all-none IsMinute; seconds = all-none IsSecond; set_positions = all-none IsPosition; end = tt })) in
+    (read-on at nothing texts (record { interval = (omega arith, omega arith); weeks = All-nil IsWeek; year_days = All-nil IsPosition; month_days = All-nil IsMonthDay; weekdays = All-nil IsByDay; hours = All-nil IsHour; minutes = All-nil IsMinute; seconds = All-nil IsSecond; set_positions = All-nil IsPosition; end = tt })) in
     record { interval = is.interval; each_week = is.weeks; each_year_day = is.year_days; each_month_day = is.month_days; each_weekday = is.weekdays; each_hour = is.hours; each_minute = is.minutes; each_second = is.seconds; each_position = is.set_positions; allowed = allowed; ranked = ranked; end = is.end }

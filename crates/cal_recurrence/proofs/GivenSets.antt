@@ -7,6 +7,7 @@ use Rattle.std.specs.Result.{result_err, result_ok}
 use Rattle.std.proofs.lemmas.Bool.{false≢true}
 use Rattle.std.proofs.lemmas.List.Elements.{All-append, All-cons, All-nil}
 use Rattle.std.proofs.lemmas.List.Folds.{list_any-append}
+use Rattle.std.proofs.lemmas.Option.{IfSome_then}
 use Rattle.cal_recurrence.specs.DateWords.{date_or_time_of}
 use Rattle.cal_recurrence.specs.Days.{excluded, ranks_alone}
 use Rattle.cal_recurrence.specs.SetText.{all_allow, all_ignored, error_after, first_zone, has_value, if_allowed, is_local, is_zone_name, kind_of, lines_of, once, parameters_on, parts_from, parts_of, recurrence_on, value_error, value_of, value_on, values_on, with_line, with_value, with_zone, zone_error, AreValid, SaysSet}
@@ -26,10 +27,10 @@ use Rattle.cal_recurrence.specs.declared.set_fault.ParseSetErrorKind.TheVariants
 use Rattle.cal_recurrence.specs.declared.set_fault.SetLine.{SetLine}
 use Rattle.cal_recurrence.specs.declared.set_fault.SetLine.TheVariants as line
 use Rattle.cal_recurrence.proofs.Avoided.{parts_at-some}
-use Rattle.cal_recurrence.proofs.FirstNumbers.{first_one, other_one}
+use Rattle.std.proofs.lemmas.Bool.{or_left, or_right}
 use Rattle.cal_recurrence.proofs.GivenNames.{no-zone, zone-if}
 use Rattle.cal_recurrence.specs.declared.set_parts.SetParts.{SetParts}
-use Rattle.cal_recurrence.proofs.GivenParts.{dates, guarded, if_there, read_is_spelled}
+use Rattle.cal_recurrence.proofs.GivenParts.{dates, each-is, guarded, if_there, read_is_spelled}
 use Rattle.cal_recurrence.proofs.SaidLines.{error-here, first-none, local_start, no-value, parts-more, passes, second-none, some_local}
 
 -- ---- recurrences
@@ -89,18 +90,9 @@ record AreGiven (ps : List (List ℕ)) (vs : List DateOrTime) : Type 0 where
   all : All IsDateOrTime vs
   local : (zone : List ℕ) → first_zone ps ≡ Some zone → (is_zone_name zone ≡ true) × (list_any is_local vs ≡ true)
 
-each-is : (ps texts : List (List ℕ)) → IfSome (each (value_of ps) texts) (All IsDateOrTime)
-each-is ps [] = All-nil IsDateOrTime
-each-is ps (text ∷ texts) = both (value_of ps text) (each (value_of ps) texts) (value-is ps text) (each-is ps texts)
-  where
-    both : (o : Option DateOrTime) (p : Option (List DateOrTime)) → IfSome o (IsAllowed ps) → IfSome p (All IsDateOrTime)
-        → IfSome (option_map (λ pair. pair.0 ∷ pair.1) (option_zip o p)) (All IsDateOrTime)
-    both None p h k = tt
-    both (Some v) None h k = tt
-    both (Some v) (Some vs) h k = All-cons IsDateOrTime v vs h.0 k
-
 some-given : (ps : List (List ℕ)) (text : List ℕ) (texts : List (List ℕ)) → IfSome (each (value_of ps) (text ∷ texts)) (AreGiven ps)
-some-given ps text texts = both (value_of ps text) (each (value_of ps) texts) (value-is ps text) (each-is ps texts)
+some-given ps text texts =
+    both (value_of ps text) (each (value_of ps) texts) (value-is ps text) (each-is IsDateOrTime (value_of ps) (λ word. IfSome_then (value_of ps word) (value-is ps word) (λ v h. h.0)) texts)
   where
     both : (o : Option DateOrTime) (p : Option (List DateOrTime)) → IfSome o (IsAllowed ps) → IfSome p (All IsDateOrTime)
         → IfSome (option_map (λ pair. pair.0 ∷ pair.1) (option_zip o p)) (AreGiven ps)
@@ -108,7 +100,7 @@ some-given ps text texts = both (value_of ps text) (each (value_of ps) texts) (v
     both (Some v) None h k = tt
     both (Some v) (Some vs) h k = record {
       all = All-cons IsDateOrTime v vs h.0 k;
-      local = λ zone e. let both = zone-if ps v zone e h.1 in (both.0, first_one (is_local v) (list_any is_local vs) both.1);
+      local = λ zone e. let both = zone-if ps v zone e h.1 in (both.0, or_left (is_local v) (list_any is_local vs) both.1);
     }
 
 values-given : (ps : List (List ℕ)) (value : List ℕ) → IfSome (list_of (value_of ps) value) (AreGiven ps)
@@ -146,9 +138,9 @@ start-is d ps (Some v) h none e k = record {
     each_date = h.each_date;
     each_exception = h.each_exception;
     zone = more-local d (record d { start = Some v }) d.zone
-        (λ e. other_one (is_local v) _ (sym (ap (λ s. local_start s || (list_any is_local d.dates || list_any is_local d.exceptions)) none) ∙ e)) h.zone;
+        (λ e. or_right (is_local v) _ (sym (ap (λ s. local_start s || (list_any is_local d.dates || list_any is_local d.exceptions)) none) ∙ e)) h.zone;
   };
-  local = λ zone e. let both = zone-if ps v zone e k.1 in (both.0, first_one (is_local v) _ both.1);
+  local = λ zone e. let both = zone-if ps v zone e k.1 in (both.0, or_left (is_local v) _ both.1);
 }
 
 rule-is : (d : SetDraft) (ps : List (List ℕ)) (o : Result Recurrence ParseRuleError) → IsDraft d → option_map Rule (result_err o) ≡ None → IfOk o IsSpelled
@@ -167,15 +159,15 @@ rule-is d ps (Ok r) h e k none = record {
 }
 
 any-first : (ds vs : List DateOrTime) → list_any is_local ds ≡ true → list_any is_local (ds ++ vs) ≡ true
-any-first ds vs h = list_any-append is_local ds vs ∙ first_one (list_any is_local ds) (list_any is_local vs) h
+any-first ds vs h = list_any-append is_local ds vs ∙ or_left (list_any is_local ds) (list_any is_local vs) h
 
 any-other : (ds vs : List DateOrTime) → list_any is_local vs ≡ true → list_any is_local (ds ++ vs) ≡ true
-any-other ds vs h = list_any-append is_local ds vs ∙ other_one (list_any is_local ds) (list_any is_local vs) h
+any-other ds vs h = list_any-append is_local ds vs ∙ or_right (list_any is_local ds) (list_any is_local vs) h
 
 or-more : (a b c x y : Bool) → (b ≡ true → x ≡ true) → (c ≡ true → y ≡ true) → a || (b || c) ≡ true → a || (x || y) ≡ true
 or-more true b c x y h k e = refl
-or-more false true c x y h k e = first_one x y (h refl)
-or-more false false c x y h k e = other_one x y (k e)
+or-more false true c x y h k e = or_left x y (h refl)
+or-more false false c x y h k e = or_right x y (k e)
 
 dates-is : (d : SetDraft) (ps : List (List ℕ)) (o : Option (List DateOrTime)) → IsDraft d → is_some o ≡ true → IfSome o (AreGiven ps)
     → IsNamed ps (record d { dates = d.dates ++ unwrap_or o [] })
@@ -191,7 +183,7 @@ dates-is d ps (Some vs) h e k = record {
   };
   local = λ zone e.
       let both = k.local zone e in
-      (both.0, other_one (local_start d.start) _ (first_one _ (list_any is_local d.exceptions) (any-other d.dates vs both.1)));
+      (both.0, or_right (local_start d.start) _ (or_left _ (list_any is_local d.exceptions) (any-other d.dates vs both.1)));
 }
 
 exceptions-is : (d : SetDraft) (ps : List (List ℕ)) (o : Option (List DateOrTime)) → IsDraft d → is_some o ≡ true → IfSome o (AreGiven ps)
@@ -208,7 +200,7 @@ exceptions-is d ps (Some vs) h e k = record {
   };
   local = λ zone e.
       let both = k.local zone e in
-      (both.0, other_one (local_start d.start) _ (other_one (list_any is_local d.dates) _ (any-other d.exceptions vs both.1)));
+      (both.0, or_right (local_start d.start) _ (or_right (list_any is_local d.dates) _ (any-other d.exceptions vs both.1)));
 }
 
 -- ---- lines

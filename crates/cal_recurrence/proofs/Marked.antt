@@ -27,10 +27,6 @@ one_more word whole start text mark more most name i x xs h less e few p q =
     let old : text ++ ((mark ++ word x) ++ list_text (codes ",") word left) ≡ whole = ap (λ ws. text ++ list_text mark word ws) (sym words) ∙ h.same in
     let now : most ≡ (text ++ mark) ++ word x = q ∙ ap (λ t. t ++ word x) p in
     record {
-      same =
-          ap (λ t. t ++ list_text (codes ",") word left) now
-          ∙ ap (λ t. t ++ list_text (codes ",") word left) (append_assoc text mark (word x))
-          ∙ append_assoc text (mark ++ word x) (list_text (codes ",") word left)
-          ∙ old;
+      same = rw (now, append_assoc text mark (word x), append_assoc text (mark ++ word x)) old;
       short = omega (arith, h.short, few, ap length now, length-append (text ++ mark) (word x), length-append text mark);
     }

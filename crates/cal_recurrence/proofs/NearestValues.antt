@@ -3,7 +3,7 @@
 use Rattle.std.proofs.Common.{◌≡◌, ℕ, ◌<◌, ◌≤◌, ℤ, ◌<ℤ◌, ap, ◌∙◌, arith, Bool, true, false, ◌&&◌, not, Option, Some, None, inl, inr, refl}
 use Rattle.std.specs.Prelude.{nat_le}
 use Rattle.std.specs.Ordering.{nat_cmp, int_cmp}
-use Rattle.std.proofs.lemmas.Bool.{cases_Bool}
+use Rattle.std.proofs.lemmas.Bool.{and_left, and_right, cases_Bool}
 use Rattle.std.proofs.lemmas.Bool.Decides.{nat_tests}
 use Rattle.std.proofs.lemmas.Int.{ints}
 use Rattle.cal_recurrence.specs.Nearest.{is_past, IsFirstPast, IsNearest}
@@ -21,13 +21,6 @@ alike past s t v (Some x) same h = record {
 abbrev pub Leaves : {X : Type 0} (s c x : X → Bool) → Type 0
 Leaves {X} s c x = (k : X) → s k ≡ (c k && not (x k))
 
-fails : (a b : Bool) → a ≡ false → (a && not b) ≡ false
-fails a b e = rw e refl
-
-and_not : (a b : Bool) → b ≡ true → (a && not b) ≡ false
-and_not true b e = rw e refl
-and_not false b e = refl
-
 -- Of two different values, one is past the other.
 pub record IsOneOrder {X : Type 0} (past : X → X → Bool) : Type 0 where
   pub trans : (x y z : X) → past x y ≡ true → past y z ≡ true → past x z ≡ true
@@ -41,7 +34,7 @@ pub record IsSearched {X : Type 0} (past : X → X → Bool) (s : X → Bool) (v
 none_here : {X : Type 0} (past : X → X → Bool) (s c x : X → Bool) (v f k : X) → Leaves s c x → IsSearched past s v f → past k v ≡ true → (past k f ≡ true → c k ≡ false) → s k ≡ false
 none_here past s c x v f k same at beyond next =
     elim (cases_Bool (past k f)) as (λ _. s k ≡ false) [
-      | inl on ↦ same k ∙ fails (c k) (x k) (next on)
+      | inl on ↦ same k ∙ and_left (c k) (not (x k)) (next on)
       | inr off ↦ at.none k beyond off
     ]
 
@@ -60,7 +53,7 @@ skipped past s c x v f n order same at next out = record {
   beyond = λ k on. at.beyond k (order.trans k n f on next.beyond);
   none = λ k beyond off. elim (cases_Bool (past n k)) as (λ _. s k ≡ false) [
     | inl before ↦ none_here past s c x v f k same at beyond (λ on. next.none_between k on before)
-    | inr behind ↦ let is : k ≡ n = order.total k n off behind in ap s is ∙ same n ∙ and_not (c n) (x n) out
+    | inr behind ↦ let is : k ≡ n = order.total k n off behind in ap s is ∙ same n ∙ and_right (c n) (not (x n)) (ap not out)
   ];
 }
 

@@ -2,24 +2,22 @@
 use Rattle.std.proofs.Common.{◌≡◌, ℕ, suc, ◌+◌, ◌<◌, ◌≤◌, Bool, true, false, cond, eqb, not, List, [], ◌∷◌, ◌++◌, append-nil, append_assoc, length, length-append, take, drop, get_or, refl, sym, ap, ◌∙◌, arith}
 use Rattle.std.specs.Prelude.{◌&&◌}
 use Rattle.std.specs.List.{onto_first}
-use Rattle.std.proofs.lemmas.Bool.{eq-eqb, false≢true}
+use Rattle.std.proofs.lemmas.Bool.{eq-eqb}
 use Rattle.std.proofs.lemmas.List.{drop_all, drop_at, drop_more, take_all, take_at}
 use Rattle.cal_recurrence.specs.Words.{front_outside, parts_outside, place_outside, quoted_after, rest_outside}
-use Rattle.cal_recurrence.proofs.Avoided.{avoids}
+use Rattle.cal_recurrence.proofs.Avoided.{avoids, parts}
 
 -- ---- one byte of a text
 -- a separator outside quotation marks ends the part
 here : (byte : ℕ) (quoted : Bool) (xs : List ℕ) (n x : ℕ) → n < length xs → get_or xs n 0 ≡ x → not quoted && eqb x byte ≡ true → place_outside byte quoted (drop n xs) ≡ 0
 here byte quoted xs n x less is ends =
-    ap (place_outside byte quoted) (drop_more xs n 0 less ∙ ap (λ y. y ∷ drop (n + 1) xs) is)
-    ∙ ap (λ t. cond t 0 (1 + place_outside byte (quoted_after quoted x) (drop (n + 1) xs))) ends
+    rw (drop_more xs n 0 less, is, ends) refl
 
 -- and any other byte is in it
 onward : (byte : ℕ) (quoted : Bool) (xs : List ℕ) (n x : ℕ) → n < length xs → get_or xs n 0 ≡ x → not quoted && eqb x byte ≡ false
     → place_outside byte quoted (drop n xs) ≡ 1 + place_outside byte (quoted_after quoted x) (drop (n + 1) xs)
 onward byte quoted xs n x less is goes =
-    ap (place_outside byte quoted) (drop_more xs n 0 less ∙ ap (λ y. y ∷ drop (n + 1) xs) is)
-    ∙ ap (λ t. cond t 0 (1 + place_outside byte (quoted_after quoted x) (drop (n + 1) xs))) goes
+    rw (drop_more xs n 0 less, is, goes) refl
 
 -- the bytes before n are in the part
 abbrev pub IsPassed : ℕ → Bool → List ℕ → ℕ → Type 0
@@ -90,19 +88,12 @@ split_nowhere byte xs e = (
 )
 
 -- ---- bytes without quotation marks
-parts : (a b : Bool) → cond a false b ≡ true → (a ≡ false) × (b ≡ true)
-parts true b h = absurd (false≢true h)
-parts false b h = (refl, h)
-
 plain-place : (byte : ℕ) (xs ys : List ℕ) → avoids byte xs ≡ true → avoids 34 xs ≡ true → place_outside byte false (xs ++ ys) ≡ length xs + place_outside byte false ys
 plain-place byte [] ys h k = omega arith
 plain-place byte (x ∷ xs) ys h k =
-    let both = parts _ _ h in
-    let mark = parts _ _ k in
-    let rest = xs ++ ys in
-    ap (λ t. cond t 0 (1 + place_outside byte (quoted_after false x) rest)) both.0
-    ∙ ap (λ t. 1 + place_outside byte (cond t true false) rest) mark.0
-    ∙ omega (arith, plain-place byte xs ys both.1 mark.1)
+    let both = parts (eqb x byte) (avoids byte xs) h in
+    let mark = parts (eqb x 34) (avoids 34 xs) k in
+    rw (both.0, mark.0) (omega (arith, plain-place byte xs ys both.1 mark.1))
 
 place-here : (byte : ℕ) (xs ys : List ℕ) → avoids byte xs ≡ true → avoids 34 xs ≡ true → place_outside byte false (xs ++ byte ∷ ys) ≡ length xs
 place-here byte xs ys h k =

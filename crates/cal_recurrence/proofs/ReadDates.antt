@@ -1,11 +1,11 @@
 -- The days and readings of a text, read back.
 use Rattle.std.proofs.Math.Nat.{pow-suc}
-use Rattle.std.proofs.Common.{◌≡◌, ℕ, zero, suc, ◌+◌, ◌-◌, ◌*◌, ◌/◌, ◌%◌, ◌<◌, ◌≤◌, ◌^◌, true, false, cond, eqb, List, [], ◌∷◌, ◌++◌, append-nil, append_assoc, length, Option, Some, None, ℤ, pos, negsuc, inl, inr, refl, sym, ap, ◌∙◌, arith, lit<, slice_get}
+use Rattle.std.proofs.Common.{◌≡◌, ℕ, zero, suc, ◌+◌, ◌-◌, ◌*◌, ◌/◌, ◌%◌, ◌<◌, ◌≤◌, ◌^◌, true, false, eqb, List, [], ◌∷◌, ◌++◌, append-nil, append_assoc, length, Some, ℤ, pos, negsuc, inl, inr, refl, sym, ap, ◌∙◌, arith, lit<, slice_get}
 use Rattle.std.specs.Prelude.{◌⊎◌, codes, decimal, min, nat_le, nat_lt, replicate, option_and_then, ◌≤ℤ◌}
 use Rattle.std.specs.Char.{digit_value}
 use Rattle.std.specs.Str.{all_ascii_digits}
 use Rattle.std.specs.Str.Parse.{digits_value, digits_value_after}
-use Rattle.std.proofs.lemmas.Bool.{and_from, and_parts, cond-true, false_from_ne_true, ne_eqb}
+use Rattle.std.proofs.lemmas.Bool.{and_from, and_parts, false_from_ne_true, ne_eqb}
 use Rattle.std.proofs.lemmas.Bool.Decides.{nat_tests}
 use Rattle.std.proofs.lemmas.Fmt.{digits_decimal, digits_value-decimal, length-decimal-le}
 use Rattle.std.proofs.lemmas.Int.{ints}
@@ -121,10 +121,7 @@ spelled y m d n date e f g small few less =
     let number = (y * 100 + m) * 100 + d in
     let year : year_text (year_at n) ≡ digits_at_least 4 y = ap year_text e ∙ ap (λ sign. sign ++ digits_at_least 4 y) (plain-year y small) in
     let word = digits_at_least 4 y ++ digits_at_least 2 m ++ digits_at_least 2 d in
-    let same : day_text n ≡ word =
-    ap (λ first. first ++ digits_at_least 2 (month_at n) ++ digits_at_least 2 (day_of_month_at n)) year
-    ∙ ap (λ second. digits_at_least 4 y ++ digits_at_least 2 second ++ digits_at_least 2 (day_of_month_at n)) f
-    ∙ ap (λ last. digits_at_least 4 y ++ digits_at_least 2 m ++ digits_at_least 2 last) g in
+    let same : day_text n ≡ word = rw (year, f, g) refl in
     let are : AreDigits 8 number word =
     four-more 4 y m d _ (filled 4 y (lit< tt) (omega (arith, small)) (omega (arith, small))) few less in
     let year_is : y ≡ number / 10000 = omega (arith, few, less) in
@@ -155,10 +152,7 @@ day-then n ds rest h =
     let long : nat_lt (length word) 8 ≡ false = grind (arith, nat_tests, h.size, length-append ds rest) in
     let front : first_bytes 8 word ≡ ds = take-append-le 8 ds rest (omega (arith, h.size)) ∙ take_all 8 ds (omega (arith, h.size)) in
     let after : bytes_after 8 word ≡ rest = drop-append-le 8 ds rest (omega (arith, h.size)) ∙ ap (λ bytes. bytes ++ rest) (drop_all 8 ds (omega (arith, h.size))) in
-    ap (λ b. cond b None (option_and_then (with_time (bytes_after 8 word)) (option_and_then day_with (number_of (first_bytes 8 word))))) long
-    ∙ ap (λ r. option_and_then (with_time r) (option_and_then day_with (number_of (first_bytes 8 word)))) after
-    ∙ ap (λ w. option_and_then (with_time rest) (option_and_then day_with (number_of w))) front
-    ∙ ap (option_and_then (with_time rest)) h.day
+    rw (long, after, front, h.day) refl
 
 -- ---- the time of day
 abbrev clock_digits : ℕ → List ℕ
@@ -179,9 +173,7 @@ time-back h m s t few some less e =
     let minutes : nat_lt (number / 100 % 100) 60 ≡ true = grind (arith, nat_tests, minute, some) in
     let seconds : nat_le (number % 100) 60 ≡ true = grind (arith, nat_tests, second, less) in
     let plain : min (number % 100) 59 ≡ s = grind (arith, nat_tests, second, less) in
-    cond-true _ (Some (time_of (number / 10000) (number / 100 % 100) (min (number % 100) 59) 0)) None (and_from _ _ hours (and_from _ _ minutes seconds))
-    ∙ ap Some (ap (λ k. time_of k (number / 100 % 100) (min (number % 100) 59) 0) hour ∙ ap (λ k. time_of h k (min (number % 100) 59) 0) minute
-    ∙ ap (λ k. time_of h m k 0) plain ∙ e)
+    rw (hours, minutes, seconds, hour, minute, plain, e) refl
 
 time-spelled : (t : ℕ) → t < day → nanosecond_of t ≡ 0 → SpellsTime t (clock_digits t)
 time-spelled t below none =
@@ -211,17 +203,12 @@ time-then n t ds zone h =
     let long : nat_lt (length (84 ∷ clock)) 7 ≡ false = grind (arith, nat_tests, h.size, size) in
     let front : first_bytes 6 clock ≡ ds = take-append-le 6 ds zone (omega (arith, h.size)) ∙ take_all 6 ds (omega (arith, h.size)) in
     let after : bytes_after 6 clock ≡ zone = drop-append-le 6 ds zone (omega (arith, h.size)) ∙ ap (λ bytes. bytes ++ zone) (drop_all 6 ds (omega (arith, h.size))) in
-    let reading : List ℕ → List ℕ → Option DateOrTime = λ zone w. option_and_then (λ t. with_zone zone (date_time n t)) (option_and_then time_with (number_of w)) in
-    ap (λ b. cond b (Some (Date n)) (cond (nat_lt (length (84 ∷ clock)) 7) None (reading (bytes_after 6 clock) (first_bytes 6 clock)))) some
-    ∙ ap (λ b. cond b None (reading (bytes_after 6 clock) (first_bytes 6 clock))) long
-    ∙ ap (λ z. reading z (first_bytes 6 clock)) after
-    ∙ ap (reading zone) front
-    ∙ ap (option_and_then (λ t. with_zone zone (date_time n t))) h.time
+    rw (some, long, after, front, h.time) refl
 
 -- ---- the whole word
 split-reading : (ds a b c : List ℕ) → ds ++ codes "T" ++ a ++ b ++ c ≡ ds ++ (84 ∷ (a ++ b ++ c))
 split-reading ds a b c =
-    ap (λ w. (w ++ b) ++ c) (append_assoc ds (codes "T") a) ∙ ap (λ w. w ++ c) (append_assoc ds (84 ∷ a) b) ∙ append_assoc ds (84 ∷ (a ++ b)) c
+    simp append_assoc
 
 reading-split : (z : ℤ) → reading_text z ≡ day_text (date_at z) ++ (84 ∷ clock_digits (time_at z))
 reading-split z = split-reading (day_text (date_at z)) (digits_at_least 2 (hour_of (time_at z))) (digits_at_least 2 (minute_of (time_at z))) (digits_at_least 2 (second_of (time_at z)))
@@ -258,8 +245,6 @@ date-back (Utc z) h = reading-back z (codes "Z") h
 
 pub date-word : (value : DateOrTime) → IsDateOrTime value → IsWord date_or_time_of value (date_or_time_text value)
 date-word value h = record {
-  feed = date-avoids 10 value (inl (lit< tt)) refl refl h;
-  comma = date-avoids 44 value (inl (lit< tt)) refl refl h;
-  semicolon = date-avoids 59 value (inr (lit< tt)) refl refl h;
+  apart = (date-avoids 10 value (inl (lit< tt)) refl refl h, date-avoids 44 value (inl (lit< tt)) refl refl h, date-avoids 59 value (inr (lit< tt)) refl refl h);
   means = date-back value h;
 }

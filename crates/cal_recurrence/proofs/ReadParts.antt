@@ -1,9 +1,10 @@
 -- The parts of a text that was written, read back one after another.
-use Rattle.std.proofs.Common.{◌≡◌, ℕ, suc, ◌+◌, ◌≤◌, Bool, true, false, cond, eqb, List, [], ◌∷◌, ◌++◌, append-nil, append_assoc, length, Option, Ok, Err, ℤ, refl, sym, ap, subst, ◌∙◌, arith, inl, inr, lit<}
-use Rattle.std.specs.Prelude.{codes, decimal, nat_le, not, option_map, ◌&&◌}
+use Rattle.std.proofs.Common.{◌≡◌, ℕ, ◌+◌, ◌≤◌, Bool, true, false, cond, eqb, List, [], ◌∷◌, ◌++◌, append-nil, append_assoc, length, Option, Ok, ℤ, refl, sym, ap, subst, ◌∙◌, arith, inl, inr, lit<}
+use Rattle.std.specs.Prelude.{codes, decimal, nat_le, option_map, ◌&&◌}
 use Rattle.std.specs.List.{All}
-use Rattle.std.proofs.lemmas.Bool.{cases_Bool, eqb-true}
+use Rattle.std.proofs.lemmas.Bool.{and_right, cases_Bool, eqb-true}
 use Rattle.std.proofs.lemmas.Bool.Decides.{nat_tests}
+use Rattle.std.proofs.lemmas.List.Elements.{All-head, All-tail}
 use Rattle.cal_time.specs.declared.Month.{Month}
 use Rattle.cal_time.specs.declared.Weekday.{Weekday}
 use Rattle.cal_time.specs.declared.Weekday.TheVariants as weekday
@@ -11,18 +12,15 @@ use Rattle.cal_schedule.specs.declared.rule.rule.Frequency.{Frequency}
 use Rattle.cal_schedule.specs.declared.rule.rule.ByDay.{ByDay}
 use Rattle.cal_schedule.specs.Pattern.{every}
 use Rattle.cal_schedule.specs.declared.rule.pattern.Pattern.{Pattern}
-use Rattle.std.specs.Option.{option_map_or}
 use Rattle.cal_recurrence.specs.DateWords.{date_or_time_of}
-use Rattle.cal_recurrence.specs.Days.{ranks_alone}
 use Rattle.cal_recurrence.specs.Spelled.{IsCount, IsMonthDay, IsByDay, IsHour, IsMinute, IsPosition, IsSecond, IsWeek, IsEnd, IsSpelled}
-use Rattle.cal_recurrence.specs.Text.{checked, fault, later_of, list_of, is_given, parts_say, place_of, put, put_value, put_part, and_on, read_on, nothing, recurrence_of, ReadsBack}
+use Rattle.cal_recurrence.specs.Text.{list_of, is_given, parts_say, put, put_value, put_part, read_on, nothing, recurrence_of, ReadsBack}
 use Rattle.cal_recurrence.specs.TimesOfDay.{no_times}
 use Rattle.cal_recurrence.specs.Words.{bytes_after, first_bytes, has_name, parts_at, frequency_of, weekday_of, count_of, month_of, month_day_of, week_of, by_day_of, by_hour_of, by_minute_of, by_second_of, position_of}
 use Rattle.cal_recurrence.specs.Written.{frequency_text, weekday_text, month_text, by_day_text, position_text, date_or_time_text, interval_text, end_text, list_text, week_start_text, text_of}
 use Rattle.cal_recurrence.specs.declared.draft.Draft.{Draft}
 use Rattle.cal_recurrence.specs.declared.fault.RulePart.{RulePart}
 use Rattle.cal_recurrence.specs.declared.fault.RulePart.TheVariants as part
-use Rattle.cal_recurrence.specs.declared.fault.ParseRuleErrorKind.TheVariants.{Alone, TooMany, Twice, Value}
 use Rattle.cal_recurrence.specs.declared.recurrence.Recurrence.{Recurrence}
 use Rattle.cal_recurrence.specs.declared.recurrence.RuleEnd.{RuleEnd}
 use Rattle.cal_recurrence.specs.declared.recurrence.RuleEnd.TheVariants.{Never, Until, Count}
@@ -61,19 +59,14 @@ one-part : (draft more : Draft) (text rest : List ℕ) (r : Recurrence) → IsPl
 one-part draft more text rest r plain put h = record {
   feed = avoids-cons 10 59 (text ++ rest) refl (avoids-append 10 text rest plain.feed h.feed);
   cut = λ first clean. cut-here 59 first (text ++ rest) clean;
-  reads = λ at.
-      ap (read_on at draft) (h.cut text plain.semicolon)
-      ∙ ap (and_on at (λ next. read_on (at + length text + 1) next (parts_after rest))) put
-      ∙ h.reads (at + length text + 1);
+  reads = λ at. rw (h.cut text plain.semicolon, put) (h.reads (at + length text + 1));
 }
 
 -- a value of a part that was not given before
 given : {X : Type 0} (draft : Draft) (at : RulePart) (value : List ℕ) (meaning : List ℕ → Option X) (x : X) (to : X → Draft)
     → IsValue meaning x value → is_given draft at ≡ false → put draft at value ≡ option_map to (meaning value) → put_value draft value at ≡ Ok (to x)
 given draft at value meaning x to h new e =
-    ap (λ b. cond (not b) (Err (TooMany at)) (cond (is_given draft at) (Err (Twice at)) (option_map_or Ok (put draft at value) (Err (Value at))))) h.few
-    ∙ ap (λ b. cond b (Err (Twice at)) (option_map_or Ok (put draft at value) (Err (Value at)))) new
-    ∙ ap (λ o. option_map_or Ok o (Err (Value at))) (e ∙ ap (option_map to) h.means)
+    rw (h.few, new, e, h.means) refl
 
 -- ---- the parts in their order, each of which may be left out, and the draft after each
 abbrev draft_of : Pattern → TimesOfDay → RuleEnd → Bool → Bool → Draft
@@ -171,16 +164,10 @@ all-said r i s = record {
 }
 
 -- ---- lists
-first-one : {X : Type 0} (P : X → Type 0) (x : X) (xs : List X) → All P (x ∷ xs) → P x
-first-one P x xs h = h 0 x (omega arith)
-
-other-ones : {X : Type 0} (P : X → Type 0) (x : X) (xs : List X) → All P (x ∷ xs) → All P xs
-other-ones P x xs h = λ k d less. h (suc k) d (omega (arith, less))
-
 words : {X : Type 0} (P : X → Type 0) (meaning : List ℕ → Option X) (text : X → List ℕ) → ((x : X) → P x → IsWord meaning x (text x))
     → (xs : List X) → All P xs → AreWords meaning text xs
 words P meaning text word [] h = tt
-words P meaning text word (x ∷ xs) h = (word x (first-one P x xs h), words P meaning text word xs (other-ones P x xs h))
+words P meaning text word (x ∷ xs) h = (word x (All-head P x xs h), words P meaning text word xs (All-tail P x xs h))
 
 month-words : (xs : List Month) → AreWords month_of month_text xs
 month-words [] = tt
@@ -189,27 +176,11 @@ month-words (x ∷ xs) = (month-word x, month-words xs)
 -- ---- the whole
 grouped : (a b c d e f g h j k l m n : List ℕ)
     → a ++ b ++ c ++ d ++ e ++ f ++ g ++ h ++ j ++ k ++ l ++ m ++ n ≡ a ++ (b ++ (c ++ (d ++ (e ++ (f ++ (g ++ (h ++ (j ++ (k ++ (l ++ (m ++ (n ++ []))))))))))))
-grouped a b c d e f g h j k l m n =
-    append_assoc (a ++ b ++ c ++ d ++ e ++ f ++ g ++ h ++ j ++ k ++ l) m n
-    ∙ append_assoc (a ++ b ++ c ++ d ++ e ++ f ++ g ++ h ++ j ++ k) l (m ++ n)
-    ∙ append_assoc (a ++ b ++ c ++ d ++ e ++ f ++ g ++ h ++ j) k (l ++ (m ++ n))
-    ∙ append_assoc (a ++ b ++ c ++ d ++ e ++ f ++ g ++ h) j (k ++ (l ++ (m ++ n)))
-    ∙ append_assoc (a ++ b ++ c ++ d ++ e ++ f ++ g) h (j ++ (k ++ (l ++ (m ++ n))))
-    ∙ append_assoc (a ++ b ++ c ++ d ++ e ++ f) g (h ++ (j ++ (k ++ (l ++ (m ++ n)))))
-    ∙ append_assoc (a ++ b ++ c ++ d ++ e) f (g ++ (h ++ (j ++ (k ++ (l ++ (m ++ n))))))
-    ∙ append_assoc (a ++ b ++ c ++ d) e (f ++ (g ++ (h ++ (j ++ (k ++ (l ++ (m ++ n)))))))
-    ∙ append_assoc (a ++ b ++ c) d (e ++ (f ++ (g ++ (h ++ (j ++ (k ++ (l ++ (m ++ n))))))))
-    ∙ append_assoc (a ++ b) c (d ++ (e ++ (f ++ (g ++ (h ++ (j ++ (k ++ (l ++ (m ++ n)))))))))
-    ∙ append_assoc a b (c ++ (d ++ (e ++ (f ++ (g ++ (h ++ (j ++ (k ++ (l ++ (m ++ n))))))))))
-    ∙ ap (λ last. a ++ (b ++ (c ++ (d ++ (e ++ (f ++ (g ++ (h ++ (j ++ (k ++ (l ++ (m ++ (last))))))))))))) (sym (append-nil n))
+grouped a b c d e f g h j k l m n = simp (append_assoc, append-nil)
 
 no-name : (r : Recurrence) → has_name (text_of r) ≡ false
 unfolding first_bytes
-no-name r = and-false (nat_le 6 (length (text_of r)))
-  where
-    and-false : (b : Bool) → b && false ≡ false
-    and-false true = refl
-    and-false false = refl
+no-name r = and_right (nat_le 6 (length (text_of r))) false refl
 
 -- no list has more values than its part may have
 pub record AreFew (r : Recurrence) : Type 0 where
@@ -280,14 +251,10 @@ said r few h =
 says-it : (at : ℕ) (r : Recurrence) → AreFew r → IsSpelled r → parts_say at (parts_at 59 (text_of r)) ≡ Ok r
 says-it at r few h =
     let texts = parts_at 59 (text_of r) in
-    ap (checked at texts) ((said r few h).reads at)
-    ∙ ap (λ o. option_map_or (λ both. Err (later_of at texts both)) o
-    (cond (ranks_alone r) (Err (fault (place_of (codes "BYSETPOS") at texts) (Alone part.Positions))) (Ok r))) h.allowed
-    ∙ ap (λ b. cond b (Err (fault (place_of (codes "BYSETPOS") at texts) (Alone part.Positions))) (Ok r)) h.ranked
+    rw ((said r few h).reads at, h.allowed, h.ranked) refl
 
 unnamed : (r : Recurrence) → AreFew r → IsSpelled r → recurrence_of (text_of r) ≡ Ok r
-unnamed r few h =
-    ap (λ b. cond b (parts_say 6 (parts_at 59 (bytes_after 6 (text_of r)))) (parts_say 0 (parts_at 59 (text_of r)))) (no-name r) ∙ says-it 0 r few h
+unnamed r few h = rw (no-name r) (says-it 0 r few h)
 
 pub after-name : (text : List ℕ) → recurrence_of (codes "RRULE:" ++ text) ≡ parts_say 6 (parts_at 59 text)
 unfolding first_bytes bytes_after

@@ -1,7 +1,6 @@
 -- A list of words with commas between them, read back.
 use Rattle.std.proofs.Common.{◌≡◌, ℕ, ◌≤◌, true, List, [], ◌∷◌, ◌++◌, append-nil, map, length, Option, Some, refl, ap, ◌∙◌, arith}
-use Rattle.std.specs.Prelude.{⊤, codes, nat_le, option_map}
-use Rattle.std.specs.Option.{option_zip}
+use Rattle.std.specs.Prelude.{⊤, codes, nat_le}
 use Rattle.std.proofs.lemmas.Bool.Decides.{nat_tests}
 use Rattle.cal_recurrence.specs.Text.{each, list_of, has_few_words}
 use Rattle.cal_schedule.specs.Values.{most_values}
@@ -9,11 +8,13 @@ use Rattle.cal_recurrence.specs.Words.{parts_at}
 use Rattle.cal_recurrence.specs.Written.{list_text}
 use Rattle.cal_recurrence.proofs.Avoided.{avoids, avoids-append, cut-here, cut-nowhere}
 
--- a word means its value, and avoids the separators of lines, parts and words
+-- a word avoids the separators of lines, words and parts
+abbrev pub IsApart : List ℕ → Type 0
+IsApart word = (avoids 10 word ≡ true) × (avoids 44 word ≡ true) × (avoids 59 word ≡ true)
+
+-- such a word means its value
 pub record IsWord {X : Type 0} (meaning : List ℕ → Option X) (x : X) (word : List ℕ) : Type 0 where
-  pub feed : avoids 10 word ≡ true
-  pub comma : avoids 44 word ≡ true
-  pub semicolon : avoids 59 word ≡ true
+  pub apart : IsApart word
   pub means : meaning word ≡ Some x
 
 -- the same of the value of a part
@@ -25,9 +26,9 @@ pub record IsValue {X : Type 0} (meaning : List ℕ → Option X) (x : X) (value
 
 pub one-word : {X : Type 0} (meaning : List ℕ → Option X) (x : X) (word : List ℕ) → IsWord meaning x word → IsValue meaning x word
 one-word meaning x word h = record {
-  few = ap (λ words. nat_le (length words) most_values) (cut-nowhere 44 word h.comma);
-  feed = h.feed;
-  semicolon = h.semicolon;
+  few = ap (λ words. nat_le (length words) most_values) (cut-nowhere 44 word h.apart.1);
+  feed = h.apart.0;
+  semicolon = h.apart.2;
   means = h.means;
 }
 
@@ -41,27 +42,26 @@ joined text x xs = text x ++ list_text (codes ",") text xs
 
 pub cut : {X : Type 0} (meaning : List ℕ → Option X) (text : X → List ℕ) (x : X) (xs : List X) → AreWords meaning text (x ∷ xs)
     → parts_at 44 (joined text x xs) ≡ map text (x ∷ xs)
-cut meaning text x [] h = ap (parts_at 44) (append-nil (text x)) ∙ cut-nowhere 44 (text x) h.0.comma
+cut meaning text x [] h = ap (parts_at 44) (append-nil (text x)) ∙ cut-nowhere 44 (text x) h.0.apart.1
 cut meaning text x (y ∷ ys) h =
-    cut-here 44 (text x) (joined text y ys) h.0.comma ∙ ap (λ words. text x ∷ words) (cut meaning text y ys h.1)
+    cut-here 44 (text x) (joined text y ys) h.0.apart.1 ∙ ap (λ words. text x ∷ words) (cut meaning text y ys h.1)
 
 pub no-feed : {X : Type 0} (meaning : List ℕ → Option X) (text : X → List ℕ) (x : X) (xs : List X) → AreWords meaning text (x ∷ xs)
     → avoids 10 (joined text x xs) ≡ true
-no-feed meaning text x [] h = avoids-append 10 (text x) [] h.0.feed refl
-no-feed meaning text x (y ∷ ys) h = avoids-append 10 (text x) (44 ∷ joined text y ys) h.0.feed (no-feed meaning text y ys h.1)
+no-feed meaning text x [] h = avoids-append 10 (text x) [] h.0.apart.0 refl
+no-feed meaning text x (y ∷ ys) h = avoids-append 10 (text x) (44 ∷ joined text y ys) h.0.apart.0 (no-feed meaning text y ys h.1)
 
 no-semicolon : {X : Type 0} (meaning : List ℕ → Option X) (text : X → List ℕ) (x : X) (xs : List X) → AreWords meaning text (x ∷ xs)
     → avoids 59 (joined text x xs) ≡ true
-no-semicolon meaning text x [] h = avoids-append 59 (text x) [] h.0.semicolon refl
+no-semicolon meaning text x [] h = avoids-append 59 (text x) [] h.0.apart.2 refl
 no-semicolon meaning text x (y ∷ ys) h =
-    avoids-append 59 (text x) (44 ∷ joined text y ys) h.0.semicolon (no-semicolon meaning text y ys h.1)
+    avoids-append 59 (text x) (44 ∷ joined text y ys) h.0.apart.2 (no-semicolon meaning text y ys h.1)
 
 each-word : {X : Type 0} (meaning : List ℕ → Option X) (text : X → List ℕ) (xs : List X) → AreWords meaning text xs
     → each meaning (map text xs) ≡ Some xs
 each-word meaning text [] h = refl
 each-word meaning text (x ∷ xs) h =
-    ap (λ o. option_map (λ both. both.0 ∷ both.1) (option_zip o (each meaning (map text xs)))) h.0.means
-    ∙ ap (λ o. option_map (λ both. both.0 ∷ both.1) (option_zip (Some x) o)) (each-word meaning text xs h.1)
+    rw (h.0.means, each-word meaning text xs h.1) refl
 
 pub length-map : {X : Type 0} (text : X → List ℕ) (xs : List X) → length (map text xs) ≡ length xs
 length-map text [] = refl

@@ -1,7 +1,6 @@
 -- The numbers and the names of a text, read back.
-use Rattle.std.proofs.Common.{◌≡◌, ℕ, suc, ◌-◌, ◌<◌, ◌≤◌, ◌^◌, true, false, cond, eqb, List, [], ◌∷◌, ◌++◌, length, take, drop, Option, Some, None, ℤ, pos, negsuc, inl, inr, refl, ap, ◌∙◌, arith, lit<}
+use Rattle.std.proofs.Common.{◌≡◌, ℕ, suc, ◌-◌, ◌<◌, ◌≤◌, ◌^◌, true, false, eqb, List, [], ◌∷◌, ◌++◌, length, take, drop, Some, None, ℤ, pos, negsuc, inl, inr, refl, ap, ◌∙◌, arith, lit<}
 use Rattle.std.specs.Prelude.{◌⊎◌, decimal, min, neg_ℤ, nat_le, slice_index, option_map, option_and_then, ◌&&◌}
-use Rattle.std.specs.Option.{option_zip}
 use Rattle.std.specs.Fmt.{signed_decimal}
 use Rattle.std.specs.Str.{all_ascii_digits}
 use Rattle.std.specs.Str.Parse.{digits_value}
@@ -20,11 +19,11 @@ use Rattle.cal_schedule.specs.declared.rule.rule.Frequency.TheVariants as freque
 use Rattle.cal_schedule.specs.declared.rule.rule.ByDay.{ByDay}
 use Rattle.cal_schedule.specs.declared.rule.rule.ByDay.TheVariants.{Every, Nth}
 use Rattle.cal_recurrence.specs.Spelled.{IsCount, IsIndex, IsByDay}
-use Rattle.cal_recurrence.specs.Words.{is_number, number_of, from_one_to, up_to, clock_value_of, count_of, short_count_of, index_of, frequency_of, weekday_of, month_of, month_day_of, week_of, position_of, by_day_of}
+use Rattle.cal_recurrence.specs.Words.{is_number, number_of, from_one_to, clock_value_of, count_of, short_count_of, index_of, frequency_of, weekday_of, month_of, month_day_of, week_of, position_of, by_day_of}
 use Rattle.cal_recurrence.specs.Written.{frequency_text, weekday_text, month_text, position_text, by_day_text}
 use Rattle.cal_recurrence.proofs.Avoided.{avoids, avoids-append, avoids-cons}
 use Rattle.cal_recurrence.proofs.Numbers.{digits, numeral_is}
-use Rattle.cal_recurrence.proofs.ReadValues.{IsWord}
+use Rattle.cal_recurrence.proofs.ReadValues.{IsApart, IsWord}
 
 -- ---- digits
 outside : (c byte : ℕ) → 48 ≤ c → c ≤ 57 → (byte < 48) ⊎ (57 < byte) → eqb c byte ≡ false
@@ -56,31 +55,25 @@ in-range most n low high =
 count-back : (most n : ℕ) → 1 ≤ n → n ≤ most → n < 2 ^ 32 → count_of most (decimal n) ≡ Some n
 count-back most n low high small = ap (option_and_then (from_one_to most)) (decimal-number n small) ∙ in-range most n low high
 
+decimal-apart : (n : ℕ) → n < 2 ^ 32 → IsApart (decimal n)
+decimal-apart n small = (decimal-avoids 10 n (inl (lit< tt)) small, decimal-avoids 44 n (inl (lit< tt)) small, decimal-avoids 59 n (inr (lit< tt)) small)
+
 pub count-word : (n : ℕ) → IsCount n → IsWord (count_of 4294967295) n (decimal n)
-count-word n h = record {
-  feed = decimal-avoids 10 n (inl (lit< tt)) h.1;
-  comma = decimal-avoids 44 n (inl (lit< tt)) h.1;
-  semicolon = decimal-avoids 59 n (inr (lit< tt)) h.1;
-  means = count-back 4294967295 n h.0 (omega (arith, h.1)) h.1;
-}
+count-word n h = record { apart = decimal-apart n h.1; means = count-back 4294967295 n h.0 (omega (arith, h.1)) h.1 }
 
 short-back : (size most n : ℕ) → 0 < size → 1 ≤ n → n ≤ most → most < 10 ^ size → most < 1000 → short_count_of size most (decimal n) ≡ Some n
 short-back size most n some low high two few =
     let short : length (decimal n) ≤ size = length-decimal-le size n some (omega (arith, high, two)) (omega (arith, high, few)) in
     let test : nat_le (length (decimal n)) size ≡ true = grind (arith, nat_tests, short) in
-    ap (λ b. cond b (count_of most (decimal n)) None) test ∙ count-back most n low high (omega (arith, high, few))
+    rw test (count-back most n low high (omega (arith, high, few)))
 
 -- ---- an index with its sign
 plain-index : (size most : ℕ) (word : List ℕ) (n : ℕ) → 48 < slice_index word 0 → short_count_of size most word ≡ Some n
     → index_of size most word ≡ Some (pos n)
 plain-index size most word n first h =
-    let after = short_count_of size most (drop 1 word) in
-    let plain = option_map pos (short_count_of size most word) in
     let minus : eqb (slice_index word 0) 45 ≡ false = ne_eqb _ _ (λ e. omega (arith, e, first)) in
     let plus : eqb (slice_index word 0) 43 ≡ false = ne_eqb _ _ (λ e. omega (arith, e, first)) in
-    ap (λ b. cond b (option_map (λ n. neg_ℤ (pos n)) after) (cond (eqb (slice_index word 0) 43) (option_map pos after) plain)) minus
-    ∙ ap (λ b. cond b (option_map pos after) plain) plus
-    ∙ ap (option_map pos) h
+    rw (minus, plus, h) refl
 
 pub index-back : (size most : ℕ) (z : ℤ) → 0 < size → most < 10 ^ size → most < 1000 → IsIndex most z → index_of size most (signed_decimal z) ≡ Some z
 index-back size most (pos n) some two few h =
@@ -101,29 +94,17 @@ signed-avoids byte most (negsuc n) two h minus out =
     let high : suc n ≤ most = h.1 in
     avoids-cons byte 45 (decimal (suc n)) minus (decimal-avoids byte (suc n) out (omega (arith, high, two)))
 
+signed-apart : (most : ℕ) (z : ℤ) → most < 1000 → IsIndex most z → IsApart (signed_decimal z)
+signed-apart most z few h = (signed-avoids 10 most z few h refl (inl (lit< tt)), signed-avoids 44 most z few h refl (inl (lit< tt)), signed-avoids 59 most z few h refl (inr (lit< tt)))
+
 pub month_day-word : (z : ℤ) → IsIndex 31 z → IsWord month_day_of z (position_text z)
-month_day-word z h = record {
-  feed = signed-avoids 10 31 z (lit< tt) h refl (inl (lit< tt));
-  comma = signed-avoids 44 31 z (lit< tt) h refl (inl (lit< tt));
-  semicolon = signed-avoids 59 31 z (lit< tt) h refl (inr (lit< tt));
-  means = index-back 2 31 z (lit< tt) (lit< tt) (lit< tt) h;
-}
+month_day-word z h = record { apart = signed-apart 31 z (lit< tt) h; means = index-back 2 31 z (lit< tt) (lit< tt) (lit< tt) h }
 
 pub week-word : (z : ℤ) → IsIndex 53 z → IsWord week_of z (position_text z)
-week-word z h = record {
-  feed = signed-avoids 10 53 z (lit< tt) h refl (inl (lit< tt));
-  comma = signed-avoids 44 53 z (lit< tt) h refl (inl (lit< tt));
-  semicolon = signed-avoids 59 53 z (lit< tt) h refl (inr (lit< tt));
-  means = index-back 2 53 z (lit< tt) (lit< tt) (lit< tt) h;
-}
+week-word z h = record { apart = signed-apart 53 z (lit< tt) h; means = index-back 2 53 z (lit< tt) (lit< tt) (lit< tt) h }
 
 pub position-word : (z : ℤ) → IsIndex 366 z → IsWord position_of z (position_text z)
-position-word z h = record {
-  feed = signed-avoids 10 366 z (lit< tt) h refl (inl (lit< tt));
-  comma = signed-avoids 44 366 z (lit< tt) h refl (inl (lit< tt));
-  semicolon = signed-avoids 59 366 z (lit< tt) h refl (inr (lit< tt));
-  means = index-back 3 366 z (lit< tt) (lit< tt) (lit< tt) h;
-}
+position-word z h = record { apart = signed-apart 366 z (lit< tt) h; means = index-back 3 366 z (lit< tt) (lit< tt) (lit< tt) h }
 
 -- ---- an hour, a minute or a second
 clock-back : (most n : ℕ) → n ≤ most → most ≤ 60 → clock_value_of most (decimal n) ≡ Some n
@@ -131,17 +112,10 @@ clock-back most n high few =
     let short : length (decimal n) ≤ 2 = length-decimal-le 2 n (lit< tt) (omega (arith, high, few)) (omega (arith, high, few)) in
     let test : nat_le (length (decimal n)) 2 ≡ true = grind (arith, nat_tests, short) in
     let within : nat_le n (min most 60) ≡ true = grind (arith, nat_tests, high, few) in
-    ap (λ b. cond b (option_and_then (up_to (min most 60)) (number_of (decimal n))) None) test
-    ∙ ap (option_and_then (up_to (min most 60))) (decimal-number n (omega (arith, high, few)))
-    ∙ ap (λ b. cond b (Some n) None) within
+    rw (test, decimal-number n (omega (arith, high, few)), within) refl
 
 pub clock-word : (most n : ℕ) → most ≤ 60 → n ≤ most → IsWord (clock_value_of most) n (decimal n)
-clock-word most n few high = record {
-  feed = decimal-avoids 10 n (inl (lit< tt)) (omega (arith, high, few));
-  comma = decimal-avoids 44 n (inl (lit< tt)) (omega (arith, high, few));
-  semicolon = decimal-avoids 59 n (inr (lit< tt)) (omega (arith, high, few));
-  means = clock-back most n high few;
-}
+clock-word most n few high = record { apart = decimal-apart n (omega (arith, high, few)); means = clock-back most n high few }
 
 -- ---- names
 number-most : (m : Month) → number m ≤ 12
@@ -151,29 +125,25 @@ number-back_to : (m : Month) → month_with_index (number m - 1) ≡ m
 number-back_to m = let same : number m - 1 ≡ index m = omega arith in ap month_with_index same ∙ month_of_index-index m
 
 pub month-word : (m : Month) → IsWord month_of m (month_text m)
-month-word m =
-    let most = number-most m in
-    record {
-      feed = decimal-avoids 10 (number m) (inl (lit< tt)) (omega (arith, most));
-      comma = decimal-avoids 44 (number m) (inl (lit< tt)) (omega (arith, most));
-      semicolon = decimal-avoids 59 (number m) (inr (lit< tt)) (omega (arith, most));
-      means = ap (option_map (λ n. month_with_index (n - 1))) (short-back 2 12 (number m) (lit< tt) (omega arith) most (lit< tt) (lit< tt)) ∙ ap Some (number-back_to m);
-    }
+month-word m = record {
+  apart = decimal-apart (number m) (omega (arith, number-most m));
+  means = ap (option_map (λ n. month_with_index (n - 1))) (short-back 2 12 (number m) (lit< tt) (omega arith) (number-most m) (lit< tt) (lit< tt)) ∙ ap Some (number-back_to m);
+}
 
 pub frequency-word : (f : Frequency) → IsWord frequency_of f (frequency_text f)
-frequency-word frequency.Daily = record { feed = refl; comma = refl; semicolon = refl; means = refl }
-frequency-word frequency.Weekly = record { feed = refl; comma = refl; semicolon = refl; means = refl }
-frequency-word frequency.Monthly = record { feed = refl; comma = refl; semicolon = refl; means = refl }
-frequency-word frequency.Yearly = record { feed = refl; comma = refl; semicolon = refl; means = refl }
+frequency-word frequency.Daily = record { apart = (refl, refl, refl); means = refl }
+frequency-word frequency.Weekly = record { apart = (refl, refl, refl); means = refl }
+frequency-word frequency.Monthly = record { apart = (refl, refl, refl); means = refl }
+frequency-word frequency.Yearly = record { apart = (refl, refl, refl); means = refl }
 
 pub weekday-word : (w : Weekday) → IsWord weekday_of w (weekday_text w)
-weekday-word weekday.Monday = record { feed = refl; comma = refl; semicolon = refl; means = refl }
-weekday-word weekday.Tuesday = record { feed = refl; comma = refl; semicolon = refl; means = refl }
-weekday-word weekday.Wednesday = record { feed = refl; comma = refl; semicolon = refl; means = refl }
-weekday-word weekday.Thursday = record { feed = refl; comma = refl; semicolon = refl; means = refl }
-weekday-word weekday.Friday = record { feed = refl; comma = refl; semicolon = refl; means = refl }
-weekday-word weekday.Saturday = record { feed = refl; comma = refl; semicolon = refl; means = refl }
-weekday-word weekday.Sunday = record { feed = refl; comma = refl; semicolon = refl; means = refl }
+weekday-word weekday.Monday = record { apart = (refl, refl, refl); means = refl }
+weekday-word weekday.Tuesday = record { apart = (refl, refl, refl); means = refl }
+weekday-word weekday.Wednesday = record { apart = (refl, refl, refl); means = refl }
+weekday-word weekday.Thursday = record { apart = (refl, refl, refl); means = refl }
+weekday-word weekday.Friday = record { apart = (refl, refl, refl); means = refl }
+weekday-word weekday.Saturday = record { apart = (refl, refl, refl); means = refl }
+weekday-word weekday.Sunday = record { apart = (refl, refl, refl); means = refl }
 
 two-letters : (w : Weekday) → length (weekday_text w) ≡ 2
 two-letters weekday.Monday = refl
@@ -184,19 +154,10 @@ two-letters weekday.Friday = refl
 two-letters weekday.Saturday = refl
 two-letters weekday.Sunday = refl
 
--- ---- a weekday with its number
-abbrev by_day_at : List ℕ → ℕ → Option ByDay
-by_day_at word front =
-    cond (eqb front 0) (option_map Every (weekday_of word))
-    (option_map (λ both. Nth both.0 both.1) (option_zip (index_of 2 53 (take front word)) (weekday_of (drop front word))))
-
-by_day-cut : (word : List ℕ) (front : ℕ) → length word - 2 ≡ front → by_day_of word ≡ by_day_at word front
-by_day-cut word front e = ap (by_day_at word) e
-
 every-back : (w : Weekday) → by_day_of (weekday_text w) ≡ Some (Every w)
 every-back w =
     let none : length (weekday_text w) - 2 ≡ 0 = omega (arith, two-letters w) in
-    by_day-cut (weekday_text w) 0 none ∙ ap (option_map Every) (weekday-word w).means
+    rw (none, (weekday-word w).means) refl
 
 nth-back : (index name : List ℕ) (z : ℤ) (w : Weekday) → 0 < length index → length name ≡ 2 → index_of 2 53 index ≡ Some z
     → weekday_of name ≡ Some w
@@ -207,26 +168,19 @@ nth-back index name z w some two e f =
     let start : take (length index) (index ++ name) ≡ index = take-append-le (length index) index name (omega arith) ∙ take_all _ index (omega arith) in
     let rest : drop (length index) (index ++ name) ≡ name =
     drop-append-le (length index) index name (omega arith) ∙ ap (λ bytes. bytes ++ name) (drop_all _ index (omega arith)) in
-    let both : Option ℤ → Option Weekday → Option ByDay = λ o p. option_map (λ both. Nth both.0 both.1) (option_zip o p) in
-    by_day-cut (index ++ name) (length index) front
-    ∙ ap (λ b. cond b (option_map Every (weekday_of (index ++ name)))
-    (both (index_of 2 53 (take (length index) (index ++ name))) (weekday_of (drop (length index) (index ++ name))))) not_none
-    ∙ ap (λ bytes. both (index_of 2 53 bytes) (weekday_of (drop (length index) (index ++ name)))) start
-    ∙ ap (λ bytes. both (index_of 2 53 index) (weekday_of bytes)) rest
-    ∙ ap (λ o. both o (weekday_of name)) e
-    ∙ ap (λ o. both (Some z) o) f
+    rw (front, not_none, start, rest, e, f) refl
 
 signed-some : (most : ℕ) (z : ℤ) → most < 1000 → IsIndex most z → 0 < length (signed_decimal z)
 signed-some most (pos n) two h = let high : n ≤ most = h.1 in decimal_nonempty n (omega (arith, high, two))
 signed-some most (negsuc n) two h = omega arith
 
 pub by_day-word : (d : ByDay) → IsByDay d → IsWord by_day_of d (by_day_text d)
-by_day-word (Every w) h = record { feed = (weekday-word w).feed; comma = (weekday-word w).comma; semicolon = (weekday-word w).semicolon; means = every-back w }
+by_day-word (Every w) h = record { apart = (weekday-word w).apart; means = every-back w }
 by_day-word (Nth z w) h =
+    let index = signed-apart 53 z (lit< tt) h in
     let name = weekday-word w in
+    let joins = λ (byte : ℕ). avoids-append byte (signed_decimal z) (weekday_text w) in
     record {
-      feed = avoids-append 10 (signed_decimal z) (weekday_text w) (signed-avoids 10 53 z (lit< tt) h refl (inl (lit< tt))) name.feed;
-      comma = avoids-append 44 (signed_decimal z) (weekday_text w) (signed-avoids 44 53 z (lit< tt) h refl (inl (lit< tt))) name.comma;
-      semicolon = avoids-append 59 (signed_decimal z) (weekday_text w) (signed-avoids 59 53 z (lit< tt) h refl (inr (lit< tt))) name.semicolon;
+      apart = (joins 10 index.0 name.apart.0, joins 44 index.1 name.apart.1, joins 59 index.2 name.apart.2);
       means = nth-back (signed_decimal z) (weekday_text w) z w (signed-some 53 z (lit< tt) h) (two-letters w) (index-back 2 53 z (lit< tt) (lit< tt) (lit< tt) h) name.means;
     }

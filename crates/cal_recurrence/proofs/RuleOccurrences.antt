@@ -14,10 +14,10 @@ use Rattle.cal_recurrence.specs.DateTimeRule.{DateTimeParts, is_not_after, is_oc
 use Rattle.cal_recurrence.specs.TimeSearch.{NoneIn, IsFirst, IsNext, selects}
 use Rattle.cal_recurrence.proofs.FirstNumbers.{first-of_list, list-first, list-none}
 
-le-true : (a b : ℤ) → int_le a b ≡ true → a ≤ℤ b
+pub le-true : (a b : ℤ) → int_le a b ≡ true → a ≤ℤ b
 le-true a b e = grind (arith, ints)
 
-true-le : (a b : ℤ) → a ≤ℤ b → int_le a b ≡ true
+pub true-le : (a b : ℤ) → a ≤ℤ b → int_le a b ≡ true
 true-le a b e = grind (arith, ints)
 
 later-no : (until : Option ℤ) (x k : ℕ) → is_not_after until (pos x) ≡ false → x ≤ k → is_not_after until (pos k) ≡ false
@@ -36,12 +36,12 @@ occurs : (rule : DateTimeParts) (k : ℕ) → rule.start ≤ℤ pos k → is_not
 occurs rule k start by on =
     occurrence-is rule k ∙ ap (λ b. b && (is_not_after rule.until (pos k) && selects rule k)) (true-le rule.start (pos k) start) ∙ ap (λ b. b && selects rule k) by ∙ on
 
-record Occurs (rule : DateTimeParts) (k : ℕ) : Type 0 where
+record IsSelected (rule : DateTimeParts) (k : ℕ) : Type 0 where
   start : rule.start ≤ℤ pos k
   by : is_not_after rule.until (pos k) ≡ true
   on : selects rule k ≡ true
 
-off : (rule : DateTimeParts) (k : ℕ) → ¬ Occurs rule k → is_occurrence rule (pos k) ≡ false
+off : (rule : DateTimeParts) (k : ℕ) → ¬ IsSelected rule k → is_occurrence rule (pos k) ≡ false
 off rule k none = false_from_ne_true _ (λ e.
     let first = and_parts (int_le rule.start (pos k)) (is_not_after rule.until (pos k) && selects rule k) (sym (occurrence-is rule k) ∙ e) in
     let second = and_parts (is_not_after rule.until (pos k)) (selects rule k) first.1 in

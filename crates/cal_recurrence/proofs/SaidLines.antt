@@ -9,12 +9,11 @@ use Rattle.std.proofs.lemmas.Grind.{flat_map-append}
 use Rattle.std.proofs.lemmas.List.{take_at, take-append-le}
 use Rattle.std.proofs.lemmas.List.Elements.{filter_map-append}
 use Rattle.std.proofs.lemmas.Option.{slice_get_past}
-use Rattle.cal_recurrence.specs.SetText.{all_name, error_after, error_at, error_unless, is_local, is_named, kind_of, listed_on, parameters_on, parts_of, recurrence_on, rule_on, start_on, unless_error, value_error, value_on, values_on, with_line, with_value, with_zone, zone_error, zone_on, AreValid}
+use Rattle.cal_recurrence.specs.SetText.{error_after, error_at, error_unless, is_local, is_named, kind_of, listed_on, parts_of, recurrence_on, rule_on, start_on, unless_error, value_error, value_on, values_on, with_line, with_value, with_zone, zone_error, zone_on, AreValid}
 use Rattle.cal_recurrence.specs.declared.date_or_time.DateOrTime.{DateOrTime}
-use Rattle.cal_recurrence.specs.declared.recurrence.Recurrence.{Recurrence}
 use Rattle.cal_recurrence.specs.declared.set_draft.SetDraft.{SetDraft}
 use Rattle.cal_recurrence.specs.declared.set_fault.ParseSetErrorKind.{ParseSetErrorKind}
-use Rattle.cal_recurrence.specs.declared.set_fault.ParseSetErrorKind.TheVariants.{OtherZone, Unknown}
+use Rattle.cal_recurrence.specs.declared.set_fault.ParseSetErrorKind.TheVariants.{Unknown}
 use Rattle.cal_recurrence.specs.declared.set_fault.SetLine.{SetLine}
 use Rattle.cal_recurrence.specs.declared.set_fault.SetLine.TheVariants as line
 
@@ -51,17 +50,7 @@ pub line-read : (said draft : SetDraft) (text : List ℕ) (its : SetLine) → eq
     → unless_error (zone_error draft text its) (with_zone draft text) ≡ unless_error (error_after said text) (with_line said text)
 line-read said draft text its some kind e =
     let both = ok-from (value_error said text its) (with_value said text its) draft e in
-    let by : Option SetLine → Option ParseSetErrorKind = λ o. option_map_or (λ k. option_or (value_error said text k) (zone_error said text k)) o (Some Unknown) in
-    let with : Option SetLine → SetDraft = λ o. option_map_or (λ k. with_zone (with_value said text k) text) o said in
-    let whole : unless_error (error_after said text) (with_line said text) ≡ unless_error (zone_error said text its) (with_zone (with_value said text its) text) =
-    ap (λ b. unless_error (cond b None (by (kind_of text))) (cond b said (with (kind_of text)))) some
-    ∙ ap (λ o. unless_error (by o) (with o)) kind
-    ∙ ap (λ o. unless_error (option_or o (zone_error said text its)) (with_zone (with_value said text its) text)) both.0 in
-    let zones : zone_error (with_value said text its) text its ≡ zone_error said text its =
-    ap (λ z. option_map_or (λ zone. error_unless (all_name (parameters_on text) zone) (OtherZone its)) (option_or z (zone_on text)) None) (same-zone said text its) in
-    ap (λ d. unless_error (zone_error d text its) (with_zone d text)) (sym both.1)
-    ∙ ap (λ o. unless_error o (with_zone (with_value said text its) text)) zones
-    ∙ sym whole
+    rw (some, kind, both.0, ← both.1, same-zone said text its) refl
 
 -- ---- readings without `Z`
 abbrev pub local_start : Option DateOrTime → Bool
@@ -98,36 +87,18 @@ after_by said text o = record {
   zone = option_or said.zone (zone_on text);
 }
 
-make : Option DateOrTime → Option Recurrence → List DateOrTime → List DateOrTime → Option (List ℕ) → SetDraft
-make a r d e s = record { start = a; recurrence = r; dates = d; exceptions = e; zone = s }
-
-all-same : (a b : Option DateOrTime) (r q : Option Recurrence) (d c e f : List DateOrTime) (s t : Option (List ℕ)) → a ≡ b → r ≡ q → d ≡ c → e ≡ f → s ≡ t
-    → make a r d e s ≡ make b q c f t
-all-same a b r q d c e f s t ha hr hd he hs =
-    ap (λ x. make x r d e s) ha ∙ ap (λ x. make b x d e s) hr ∙ ap (λ x. make b q x e s) hd ∙ ap (λ x. make b q c x s) he ∙ ap (make b q c f) hs
-
 parts-after : (before : List (List ℕ)) (text : List ℕ) → parts_of (before ++ text ∷ []) ≡ after_by (parts_of before) text (kind_of text)
-unfolding make
 parts-after before text =
-    all-same _ _ _ _ _ _ _ _ _ _ (first-said start_on before text) (first-said rule_on before text) (all-said (listed_on line.Dates) before text) (all-said (listed_on line.Exceptions) before text)
-    (first-said zone_on before text)
-
--- the first of two, without the first
-or-other : {X : Type 0} (o p : Option X) → o ≡ None → option_or o p ≡ p
-or-other o p e = ap (λ x. option_or x p) e
+    rw (first-said start_on before text, first-said rule_on before text, all-said (listed_on line.Dates) before text, all-said (listed_on line.Exceptions) before text, first-said zone_on before text) refl
 
 after-kind : (said : SetDraft) (text : List ℕ) (its : SetLine) → value_error said text its ≡ None → after_by said text (Some its) ≡ with_zone (with_value said text its) text
-unfolding make
-after-kind said text line.Start e =
-    all-same _ _ _ _ _ _ _ _ _ _ (or-other said.start (value_on text) (no-value said.start _ (first-none _ _ e))) (or-none said.recurrence) (append-nil said.dates) (append-nil said.exceptions) refl
-after-kind said text line.Rule e =
-    all-same _ _ _ _ _ _ _ _ _ _ (or-none said.start) (or-other said.recurrence (result_ok (recurrence_on text)) (no-value said.recurrence _ (first-none _ _ e))) (append-nil said.dates) (append-nil said.exceptions) refl
-after-kind said text line.Dates e = all-same _ _ _ _ _ _ _ _ _ _ (or-none said.start) (or-none said.recurrence) refl (append-nil said.exceptions) refl
-after-kind said text line.Exceptions e = all-same _ _ _ _ _ _ _ _ _ _ (or-none said.start) (or-none said.recurrence) (append-nil said.dates) refl refl
+after-kind said text line.Start e = simp (no-value said.start _ (first-none _ _ e), or-none, append-nil)
+after-kind said text line.Rule e = simp (no-value said.recurrence _ (first-none _ _ e), or-none, append-nil)
+after-kind said text line.Dates e = simp (or-none, append-nil)
+after-kind said text line.Exceptions e = simp (or-none, append-nil)
 
 after-line : (said : SetDraft) (text : List ℕ) → error_after said text ≡ None → after_by said text (kind_of text) ≡ with_line said text
-unfolding make
-after-line said [] e = all-same _ _ _ _ _ _ _ _ _ _ (or-none said.start) (or-none said.recurrence) (append-nil said.dates) (append-nil said.exceptions) (or-none said.zone)
+after-line said [] e = simp (or-none, append-nil)
 after-line said (b ∷ bs) e = by-kind (kind_of text) (sym (ap (λ t. cond t None (by (kind_of text))) some) ∙ e) ∙ sym (ap (λ t. cond t said (with (kind_of text))) some)
   where
     text : List ℕ
@@ -161,13 +132,11 @@ get-here (x ∷ xs) y ys = get-here xs y ys
 
 pub error-before : (done rest : List (List ℕ)) (k : ℕ) → k < length done → error_at (done ++ rest) k ≡ error_at done k
 error-before done rest k less =
-    ap (λ lines. option_and_then (error_after (parts_of lines)) (slice_get (done ++ rest) k)) (take-append-le k done rest (omega (arith, less)))
-    ∙ ap (option_and_then (error_after (parts_of (take k done)))) (get-before done rest k less)
+    rw (take-append-le k done rest (omega (arith, less)), get-before done rest k less) refl
 
 pub error-here : (done : List (List ℕ)) (text : List ℕ) (rest : List (List ℕ)) → error_at (done ++ text ∷ rest) (length done) ≡ error_after (parts_of done) text
 error-here done text rest =
-    ap (λ lines. option_and_then (error_after (parts_of lines)) (slice_get (done ++ text ∷ rest) (length done))) (take_at done (text ∷ rest) (length done) refl)
-    ∙ ap (option_and_then (error_after (parts_of done))) (get-here done text rest)
+    rw (take_at done (text ∷ rest) (length done) refl, get-here done text rest) refl
 
 pub valid-more : (done : List (List ℕ)) (text : List ℕ) → AreValid done → error_after (parts_of done) text ≡ None → AreValid (done ++ text ∷ [])
 valid-more done text h e k =

@@ -1,7 +1,7 @@
 -- The search for the readings that a rule selects: on one day, and from day to day.
 use Rattle.std.proofs.Common.{◌≡◌, refl, ℕ, suc, ◌+◌, ◌-◌, ◌*◌, ◌/◌, ◌%◌, ◌<◌, ◌≤◌, sym, ap, ◌∙◌, arith, Bool, true, false, inl, inr, List, [], ◌∷◌, length, ℤ, pos, Option, Some, None}
 use Rattle.std.specs.Prelude.{◌&&◌, ◌==◌}
-use Rattle.std.proofs.lemmas.Bool.{cases_Bool, cases_lt, eq-eqb, eqb-true, false≢true}
+use Rattle.std.proofs.lemmas.Bool.{and_left, and_right, cases_Bool, cases_lt, eq-eqb, eqb-true, false≢true}
 use Rattle.cal_time.specs.Date.{last_day}
 use Rattle.cal_time.specs.IsoWeekDate.{count_before}
 use Rattle.cal_time.specs.SignedDuration.{day}
@@ -16,6 +16,7 @@ use Rattle.cal_recurrence.specs.DateTimeRule.{DateTimeParts, day_rule}
 use Rattle.cal_recurrence.specs.TimesOfDay.{matches_time}
 use Rattle.cal_recurrence.specs.TimeSearch.{NoneIn, IsFirst, IsNextReading, reading_number, selects, selects_time}
 use Rattle.cal_recurrence.specs.declared.times_of_day.TimesOfDay.{TimesOfDay}
+use Rattle.cal_recurrence.proofs.FirstNumbers.{joined, later-first}
 use Rattle.cal_recurrence.proofs.TimeCounts.{count-stays}
 use Rattle.cal_recurrence.proofs.TimePositions.{day-on, day-with, off-day, off-time, per_day, position-is, ranked, same-with, selects-on, times}
 
@@ -38,8 +39,7 @@ pub position-of : (rule : DateTimeParts) (n from index t ahead back : ℕ) → n
     → index ≡ count_before (times rule) from → IsFirst (times rule) from day t
     → reading.matches_positions rule (pos (n * day + t)) ≡ allows (λ k. is_nth k ((ahead - 1) * per_day rule + index + 1) ((back - 1) * per_day rule + (per_day rule - index))) rule.pattern.set_positions
 position-of rule n from index t ahead back most on is_ahead is_back e h =
-    position-is rule n t ahead back most h.below on h.passes is_ahead is_back
-    ∙ ap (λ j. allows (λ k. is_nth k ((ahead - 1) * per_day rule + j + 1) ((back - 1) * per_day rule + (per_day rule - j))) rule.pattern.set_positions) (index-of rule from index t e h)
+    rw (← index-of rule from index t e h) (position-is rule n t ahead back most h.below on h.passes is_ahead is_back)
 
 time-off : (rule : DateTimeParts) (n t : ℕ) → times rule t ≡ false → selects_time rule n t ≡ false
 time-off rule n t off = ap (λ b. b && reading.matches_positions rule (pos (n * day + t))) off
@@ -104,17 +104,6 @@ days-none rule a b most none = λ k low high. off-day rule (k / day) k (omega ar
 pub day-none : (rule : DateTimeParts) (n first : ℕ) → n ≤ last_day → date.is_occurrence (ranked rule) n ≡ false → NoneIn (selects rule) (n * day + first) ((n + 1) * day)
 day-none rule n first most off = λ k low high. off-day rule n k most off (omega arith)
 
-pub joined : (test : ℕ → Bool) (a b c : ℕ) → NoneIn test a b → NoneIn test b c → NoneIn test a c
-joined test a b c first second = λ k low high. elim (cases_lt k b) as (λ _. test k ≡ false) [ inl less ↦ first k low less | inr most ↦ second k most high ]
-
-pub later-first : (test : ℕ → Bool) (a b e x : ℕ) → a ≤ b → NoneIn test a b → IsFirst test b e x → IsFirst test a e x
-later-first test a b e x h none found = record {
-  not_before = omega (arith, found.not_before);
-  below = found.below;
-  passes = found.passes;
-  none_before = joined test a b x none found.none_before;
-}
-
 pub carry-on : (rule : DateTimeParts) (m p : ℕ) (r : Option (ℕ × ℕ)) → m ≤ p → NoneIn (selects rule) m p → IsNextReading rule p r → IsNextReading rule m r
 carry-on rule m p None h none next = joined (selects rule) m p (last_date_time + 1) none next
 carry-on rule m p (Some both) h none next = later-first (selects rule) m p (last_date_time + 1) (reading_number both) h none next
@@ -177,14 +166,10 @@ no-time rule t none below = elim (cases_Bool (times rule t)) as (λ _. times rul
   | inr off ↦ off
 ]
 
-off-reading : (a b c : Bool) → b ≡ false → (a && (b && c)) ≡ false
-off-reading true b c e = ap (λ x. x && c) e
-off-reading false b c e = refl
-
 pub never-selected : (rule : DateTimeParts) (m e : ℕ) → per_day rule ≡ 0 → NoneIn (selects rule) m e
 never-selected rule m e none k low high =
     let below : k % day < day = omega arith in
-    off-reading (date.is_occurrence (day_rule rule) (k / day)) (times rule (k % day)) (reading.matches_positions rule (pos k)) (no-time rule (k % day) none below)
+    and_right (date.is_occurrence (day_rule rule) (k / day)) _ (and_left _ (reading.matches_positions rule (pos k)) (no-time rule (k % day) none below))
 
 -- No reading is selected before the next day of the rule.
 pub none-before : (rule : DateTimeParts) (days : Rule) (m last next : ℕ) → days ≡ ranked rule → NoneIn (selects rule) m ((last + 1) * day)
@@ -215,8 +200,4 @@ pub tested : (rule : DateTimeParts) (n from index t ahead back x y : ℕ) (ps : 
     → x ≡ (ahead - 1) * per_day rule + index + 1 → y ≡ (back - 1) * per_day rule + (per_day rule - index) → ps ≡ rule.pattern.set_positions
     → b ≡ allows (λ k. is_nth k x y) ps → reading.matches_positions rule (pos (n * day + t)) ≡ b
 tested rule n from index t ahead back x y ps b most on is_ahead is_back index_is h x_is y_is ps_are e =
-    position-of rule n from index t ahead back most on is_ahead is_back index_is h
-    ∙ sym (e
-    ∙ ap (λ a. allows (λ k. is_nth k a y) ps) x_is
-    ∙ ap (λ a. allows (λ k. is_nth k ((ahead - 1) * per_day rule + index + 1) a) ps) y_is
-    ∙ ap (λ l. allows (λ k. is_nth k ((ahead - 1) * per_day rule + index + 1) ((back - 1) * per_day rule + (per_day rule - index))) l) ps_are)
+    rw (e, x_is, y_is, ps_are) (position-of rule n from index t ahead back most on is_ahead is_back index_is h)

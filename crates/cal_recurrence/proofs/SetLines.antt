@@ -1,20 +1,19 @@
 -- The lines of a set that was written, read back one after another.
 use Rattle.std.proofs.Common.{◌≡◌, ℕ, ◌+◌, ◌-◌, ◌<◌, ◌≤◌, Bool, true, false, cond, eqb, not, List, [], ◌∷◌, ◌++◌, append-nil, append_assoc, length, length-append, map, take, Option, Some, None, Result, Ok, Err, inl, inr, refl, sym, ap, subst, ◌∙◌, arith}
-use Rattle.std.specs.Prelude.{◌⊎◌, ⊤, codes, bytes_eq, nat_le, nat_lt, slice_index, is_some, unwrap_or, IfSome, option_map, option_and_then, ◌&&◌, ◌||◌}
+use Rattle.std.specs.Prelude.{◌⊎◌, ⊤, codes, bytes_eq, nat_le, nat_lt, slice_index, IfSome, ◌&&◌, ◌||◌}
 use Rattle.std.specs.List.{All, list_any}
 use Rattle.std.specs.Option.{option_map_or, option_or}
-use Rattle.std.specs.Result.{result_err, result_ok}
-use Rattle.std.proofs.lemmas.Bool.{and_from, and_parts, cases_Bool, false≢true, ne_eqb}
+use Rattle.std.proofs.lemmas.Bool.{and_from, and_parts, and_right, cases_Bool, false≢true, ne_eqb}
 use Rattle.std.proofs.lemmas.Bool.Decides.{nat_tests}
 use Rattle.std.proofs.lemmas.List.{get_or_at, take_at}
 use Rattle.std.proofs.lemmas.List.Folds.{list_any-append}
 use Rattle.std.proofs.lemmas.List.Elements.{All-head, All-tail}
 use Rattle.std.proofs.lemmas.Slice.Eq.{bytes_eq-Decides}
 use Rattle.cal_recurrence.specs.Buffers.{IsPut}
-use Rattle.cal_recurrence.specs.SetText.{after_first_part, all_allow, all_name, error_after, error_unless, first_zone, has_room, if_allowed, is_local, is_name_byte, is_zone_name, kind_of, line_of, lines_of, list_error, parameters_of, parameters_on, parts_from, parts_of, recurrence_on, unless_error, unquoted, value_error, value_of, value_on, values_on, with_line, with_value, with_zone, without_return, zone_error, zone_on, AreValid, SaysSet}
+use Rattle.cal_recurrence.specs.SetText.{after_first_part, all_allow, all_name, error_after, error_unless, first_zone, has_room, is_local, is_name_byte, is_zone_name, kind_of, line_of, lines_of, parameters_of, parameters_on, parts_from, parts_of, recurrence_on, unless_error, unquoted, value_error, value_of, value_on, values_on, with_line, with_value, without_return, AreValid, SaysSet}
 use Rattle.cal_recurrence.specs.SetWritten.{head_text, is_same_kind, line_end, more_text, parameter_text, set_text, values_text, IsSpelledSet, IsZoneOf}
 use Rattle.cal_recurrence.specs.Spelled.{IsDateOrTime, IsSpelled}
-use Rattle.cal_recurrence.specs.Text.{fault, list_of, parts_say, ReadsBack}
+use Rattle.cal_recurrence.specs.Text.{fault, parts_say, ReadsBack}
 use Rattle.cal_recurrence.specs.Words.{first_bytes, front_outside, parts_at, rest_outside}
 use Rattle.cal_recurrence.specs.Written.{date_or_time_text, list_text, text_of}
 use Rattle.cal_recurrence.specs.declared.date_or_time.DateOrTime.{DateOrTime}
@@ -22,7 +21,7 @@ use Rattle.cal_recurrence.specs.declared.date_or_time.DateOrTime.TheVariants.{Da
 use Rattle.cal_recurrence.specs.declared.fault.ParseRuleErrorKind.TheVariants.{Unknown as UnknownPart}
 use Rattle.cal_recurrence.specs.declared.recurrence.Recurrence.{Recurrence}
 use Rattle.cal_recurrence.specs.declared.set_fault.ParseSetErrorKind.{ParseSetErrorKind}
-use Rattle.cal_recurrence.specs.declared.set_fault.ParseSetErrorKind.TheVariants.{OtherZone, Rule, TooMany, Unknown, Value}
+use Rattle.cal_recurrence.specs.declared.set_fault.ParseSetErrorKind.TheVariants.{OtherZone}
 use Rattle.cal_recurrence.specs.declared.set_fault.SetLine.{SetLine}
 use Rattle.cal_recurrence.specs.declared.set_fault.SetLine.TheVariants as line
 use Rattle.cal_recurrence.specs.declared.set_draft.SetDraft.{SetDraft}
@@ -49,8 +48,7 @@ without-return text =
     let whole = text ++ 13 ∷ [] in
     let size : length whole - 1 ≡ length text = omega (arith, length-append text (13 ∷ [])) in
     let last : slice_index whole (length whole - 1) ≡ 13 = ap (slice_index whole) size ∙ get_or_at text 13 [] 0 (length text) refl in
-    ap (λ b. cond b (first_bytes (length whole - 1) whole) whole) (ap (λ n. eqb n 13) last)
-    ∙ ap (λ n. first_bytes n whole) size ∙ take_at text (13 ∷ []) (length text) refl
+    rw (last, size) (take_at text (13 ∷ []) (length text) refl)
 
 one-line : (draft more : SetDraft) (text rest : List ℕ) (p : SetParts) → avoids 10 text ≡ true → put_line draft text ≡ Ok more → Reads more rest p
     → Reads draft (text ++ 13 ∷ 10 ∷ rest) p
@@ -66,11 +64,8 @@ one-line draft more text rest p plain put h before valid is =
 
 -- ---- the head of a line
 -- the bytes that end lines, heads and parameters are not in the text
-record IsName (text : List ℕ) : Type 0 where
-  feed : avoids 10 text ≡ true
-  mark : avoids 34 text ≡ true
-  colon : avoids 58 text ≡ true
-  semicolon : avoids 59 text ≡ true
+abbrev IsName : List ℕ → Type 0
+IsName text = (avoids 10 text ≡ true) × (avoids 34 text ≡ true) × (avoids 58 text ≡ true) × (avoids 59 text ≡ true)
 
 abbrev IsZone : Option (List ℕ) → Type 0
 IsZone None = ⊤
@@ -83,15 +78,12 @@ avoided byte (x ∷ xs) other h =
     avoids-cons byte x xs (other x both.0) (avoided byte xs other both.1)
 
 zone-name : (tzid : List ℕ) → is_zone_name tzid ≡ true → IsName tzid
-zone-name tzid h = record {
-  feed = avoided 10 tzid (λ x e. (others (eqb x 10) (eqb x 34) (eqb x 58) (eqb x 59) e).0) h;
-  mark = avoided 34 tzid (λ x e. (others (eqb x 10) (eqb x 34) (eqb x 58) (eqb x 59) e).1.0) h;
-  colon = avoided 58 tzid (λ x e. (others (eqb x 10) (eqb x 34) (eqb x 58) (eqb x 59) e).1.1.0) h;
-  semicolon = avoided 59 tzid (λ x e. (others (eqb x 10) (eqb x 34) (eqb x 58) (eqb x 59) e).1.1.1) h;
-}
+zone-name tzid h =
+    let each = λ (x : ℕ). others (eqb x 10) (eqb x 34) (eqb x 58) (eqb x 59) in
+    (avoided 10 tzid (λ x e. (each x e).0) h, avoided 34 tzid (λ x e. (each x e).1) h, avoided 58 tzid (λ x e. (each x e).2) h, avoided 59 tzid (λ x e. (each x e).3) h)
   where
-    others : (a b c d : Bool) → not a && (not b && (not c && not d)) ≡ true → (a ≡ false) × ((b ≡ false) × ((c ≡ false) × (d ≡ false)))
-    others false false false false e = (refl, (refl, (refl, refl)))
+    others : (a b c d : Bool) → not a && (not b && (not c && not d)) ≡ true → (a ≡ false) × (b ≡ false) × (c ≡ false) × (d ≡ false)
+    others false false false false e = (refl, refl, refl, refl)
     others false false false true e = absurd (false≢true e)
     others false false true d e = absurd (false≢true e)
     others false true c d e = absurd (false≢true e)
@@ -102,18 +94,12 @@ bare-zone : (tzid : List ℕ) → is_zone_name tzid ≡ true → unquoted tzid �
 bare-zone [] h = refl
 bare-zone (x ∷ xs) h =
     let whole = x ∷ xs in
-    let last = eqb (slice_index whole (length whole - 1)) 34 in
-    let first : eqb x 34 ≡ false = plain (eqb x 34) (avoids 34 xs) (zone-name whole h).mark in
-    ap (λ t. cond (nat_le 2 (length whole) && (t && last)) (take (length whole - 2) xs) whole) first
-    ∙ ap (λ t. cond t (take (length whole - 2) xs) whole) (and-false (nat_le 2 (length whole)))
+    let first : eqb x 34 ≡ false = plain (eqb x 34) (avoids 34 xs) (zone-name whole h).1 in
+    rw (first, and_right (nat_le 2 (length whole)) false refl) refl
   where
     plain : (a b : Bool) → cond a false b ≡ true → a ≡ false
     plain true b e = absurd (false≢true e)
     plain false b e = refl
-
-    and-false : (b : Bool) → b && false ≡ false
-    and-false true = refl
-    and-false false = refl
 
 -- the parameters of a line with such a value
 abbrev parameters : Option (List ℕ) → DateOrTime → List (List ℕ)
@@ -131,36 +117,22 @@ record IsHead (name head : List ℕ) (its : List (List ℕ)) : Type 0 where
 
 one-parameter : (name parameter : List ℕ) → IsName name → IsName parameter → IsHead name (name ++ 59 ∷ parameter) (parameter ∷ [])
 one-parameter name parameter h p = record {
-  feed = avoids-append 10 name (59 ∷ parameter) h.feed (avoids-cons 10 59 parameter refl p.feed);
-  mark = avoids-append 34 name (59 ∷ parameter) h.mark (avoids-cons 34 59 parameter refl p.mark);
-  colon = avoids-append 58 name (59 ∷ parameter) h.colon (avoids-cons 58 59 parameter refl p.colon);
-  named = front-outside 59 name parameter h.semicolon h.mark;
-  parameters = ap after_first_part (cut-outside 59 name parameter h.semicolon h.mark ∙ ap (λ texts. name ∷ texts) (cut-plain 59 parameter p.semicolon p.mark));
+  feed = avoids-append 10 name (59 ∷ parameter) h.0 p.0;
+  mark = avoids-append 34 name (59 ∷ parameter) h.1 p.1;
+  colon = avoids-append 58 name (59 ∷ parameter) h.2 p.2;
+  named = front-outside 59 name parameter h.3 h.1;
+  parameters = ap after_first_part (cut-outside 59 name parameter h.3 h.1 ∙ ap (λ texts. name ∷ texts) (cut-plain 59 parameter p.3 p.1));
 }
 
 no-parameter : (name : List ℕ) → IsName name → IsHead name (name ++ []) []
 no-parameter name h =
-    subst (λ head. IsHead name head []) (sym (append-nil name)) (record {
-      feed = h.feed;
-      mark = h.mark;
-      colon = h.colon;
-      named = front-plain 59 name h.semicolon h.mark;
-      parameters = ap after_first_part (cut-plain 59 name h.semicolon h.mark);
-    })
-
-in-zone : (tzid : List ℕ) → IsName tzid → IsName (codes "TZID=" ++ tzid)
-in-zone tzid h = record {
-  feed = avoids-append 10 (codes "TZID=") tzid refl h.feed;
-  mark = avoids-append 34 (codes "TZID=") tzid refl h.mark;
-  colon = avoids-append 58 (codes "TZID=") tzid refl h.colon;
-  semicolon = avoids-append 59 (codes "TZID=") tzid refl h.semicolon;
-}
+    rw append-nil (record { feed = h.0; mark = h.1; colon = h.2; named = front-plain 59 name h.3 h.1; parameters = ap after_first_part (cut-plain 59 name h.3 h.1) })
 
 head-is : (name : List ℕ) (tzid : Option (List ℕ)) (v : DateOrTime) → IsName name → IsZone tzid
     → IsHead name (name ++ parameter_text tzid v) (parameters tzid v)
-head-is name tzid (Date n) h z = one-parameter name (codes "VALUE=DATE") h (record { feed = refl; mark = refl; colon = refl; semicolon = refl })
+head-is name tzid (Date n) h z = one-parameter name (codes "VALUE=DATE") h (refl, refl, refl, refl)
 head-is name None (Local y) h z = no-parameter name h
-head-is name (Some tzid) (Local y) h z = one-parameter name (codes "TZID=" ++ tzid) h (in-zone tzid (zone-name tzid z))
+head-is name (Some tzid) (Local y) h z = one-parameter name (codes "TZID=" ++ tzid) h (zone-name tzid z)
 head-is name tzid (Utc y) h z = no-parameter name h
 
 -- a line by its head and its value
@@ -176,8 +148,8 @@ line-by name head value its texts h is =
     let front = front-outside 58 head value h.colon h.mark in
     record {
       some = ne_eqb (length whole) 0 (λ e. omega (arith, e, length-append head (58 ∷ value)));
-      kind = ap (λ f. line_of (front_outside 59 f)) front ∙ ap line_of h.named ∙ is;
-      parameters = ap parameters_of front ∙ h.parameters;
+      kind = rw (front, h.named) is;
+      parameters = rw front h.parameters;
       rest = rest-outside 58 head value h.colon h.mark;
     }
 
@@ -188,17 +160,7 @@ line-done : (d e : SetDraft) (whole : List ℕ) (its : SetLine) (texts : List (L
     → value_error d whole its ≡ None → with_value d whole its ≡ e → (zone_error_in s texts its ≡ None) × (option_or s (first_zone texts) ≡ t)
     → put_line d whole ≡ Ok (record e { zone = t })
 line-done d e whole its texts value s t is zone same none next zones =
-    let by : Option SetLine → Option ParseSetErrorKind = λ o. option_map_or (λ k. option_or (value_error d whole k) (zone_error d whole k)) o (Some Unknown) in
-    let with : Option SetLine → SetDraft = λ o. option_map_or (λ k. with_zone (with_value d whole k) whole) o d in
-    let clean : zone_error d whole its ≡ None = ap (λ z. zone_error_in z (parameters_on whole) its) zone ∙ ap (λ ps. zone_error_in s ps its) is.parameters ∙ zones.0 in
-    let zoned : with_zone e whole ≡ record e { zone = t } =
-    ap (λ z. record e { zone = option_or z (zone_on whole) }) same ∙ ap (λ ps. record e { zone = option_or s (first_zone ps) }) is.parameters ∙ ap (λ z. record e { zone = z }) zones.1 in
-    ap (λ b. unless_error (cond b None (by (kind_of whole))) (cond b d (with (kind_of whole)))) is.some
-    ∙ ap (λ o. unless_error (by o) (with o)) is.kind
-    ∙ ap (λ o. unless_error (option_or o (zone_error d whole its)) (with_zone (with_value d whole its) whole)) none
-    ∙ ap (λ o. unless_error o (with_zone (with_value d whole its) whole)) clean
-    ∙ ap (λ x. Ok (with_zone x whole)) next
-    ∙ ap Ok zoned
+    rw (is.some, is.kind, none, next, zone, is.parameters, zones.0, same, zones.1) refl
 
 -- ---- the zone of the lines so far
 -- no line named the zone, or one did
@@ -267,12 +229,7 @@ kind-word : (tzid : Option (List ℕ)) (v w : DateOrTime) → IsZone tzid → is
     → IsWord (value_of (parameters tzid v)) w (date_or_time_text w)
 kind-word tzid v w z same is =
     let word = date-word w is in
-    record {
-      feed = word.feed;
-      comma = word.comma;
-      semicolon = word.semicolon;
-      means = ap (option_and_then (if_allowed (parameters tzid v))) word.means ∙ ap (λ b. cond b (Some w) None) (allowed tzid v w z same);
-    }
+    record { apart = word.apart; means = rw (word.means, allowed tzid v w z same) refl }
 
 -- the values of a line after the first, v
 abbrev IsRun : Option (List ℕ) → DateOrTime → List DateOrTime → Type 0
@@ -287,13 +244,12 @@ list-and : {X : Type 0} (text : X → List ℕ) (xs : List X) (x : X)
     → list_text (codes ",") text (xs ++ x ∷ []) ≡ list_text (codes ",") text xs ++ (codes "," ++ text x)
 list-and text [] x = append-nil (44 ∷ text x)
 list-and text (y ∷ ys) x =
-    ap (λ more. (44 ∷ text y) ++ more) (list-and text ys x) ∙ sym (append_assoc (44 ∷ text y) (list_text (codes ",") text ys) (44 ∷ text x))
+    rw (list-and text ys x) (simp append_assoc)
 
 joined-and : (v : DateOrTime) (ws : List DateOrTime) (w : DateOrTime)
     → joined date_or_time_text v (ws ++ w ∷ []) ≡ joined date_or_time_text v ws ++ (codes "," ++ date_or_time_text w)
 joined-and v ws w =
-    ap (λ more. date_or_time_text v ++ more) (list-and date_or_time_text ws w)
-    ∙ sym (append_assoc (date_or_time_text v) (list_text (codes ",") date_or_time_text ws) (44 ∷ date_or_time_text w))
+    rw (list-and date_or_time_text ws w) (simp append_assoc)
 
 -- ---- the lines of a list
 -- the drafts with more values of a list
@@ -328,8 +284,7 @@ line-put name its to h tzid s v ws ds z known run few =
     let texts = parameters tzid v in
     let is = line-by name (head_of name tzid v) value its texts (head-is name tzid v h.plain z) h.means in
     let values : values_on whole ≡ Some (v ∷ ws) =
-    ap (λ ps. list_of (value_of ps) (rest_outside 58 whole)) is.parameters ∙ ap (list_of (value_of texts)) is.rest
-    ∙ (list-value (value_of texts) date_or_time_text v ws run (omega (arith, few))).means in
+    rw (is.parameters, is.rest) (list-value (value_of texts) date_or_time_text v ws run (omega (arith, few))).means in
     let puts = h.puts ds (v ∷ ws) s whole (ap (has_room (length ds)) is.rest ∙ room-for tzid v ws (length ds) run few) values in
     let zones = h.zoned (ds ++ v ∷ ws) s (zone_after tzid s v) in
     line-done (to ds s) (to (ds ++ v ∷ ws) s) whole its texts value s (zone_after tzid s v) is (h.zoned ds s s).0 zones.0 puts.0 puts.1 (zone-put its tzid s v z known)
@@ -377,8 +332,7 @@ same-local (Utc y) (Utc z) h = refl
 
 head-line : (name : List ℕ) (tzid : Option (List ℕ)) (v : DateOrTime) → head_text name tzid v ≡ line_with name tzid v []
 head-line name tzid v =
-    append_assoc (head_of name tzid v) (codes ":") (date_or_time_text v)
-    ∙ ap (λ text. head_of name tzid v ++ 58 ∷ text) (sym (append-nil (date_or_time_text v)))
+    simp (append_assoc, append-nil)
 
 lines-read : (name : List ℕ) (its : SetLine) (to : List DateOrTime → Option (List ℕ) → SetDraft) → IsList name its to
     → (tzid : Option (List ℕ)) → IsZone tzid → (rest : List ℕ) (p : SetParts) (all : List DateOrTime)
@@ -402,11 +356,9 @@ lines-read name its to h tzid z rest p all (w ∷ vs) s v ws ds known run kinds 
     elim (cases_Bool (is_same_kind v w)) as (λ _. Reads (to ds s) ((line ++ more_text name tzid v (w ∷ vs)) ++ rest) p) [
       | inl alike ↦
           let grown : line ++ (44 ∷ date_or_time_text w) ≡ line_with name tzid v (ws ++ w ∷ []) =
-          append_assoc (head_of name tzid v) (58 ∷ joined date_or_time_text v ws) (44 ∷ date_or_time_text w)
-          ∙ ap (λ more. head_of name tzid v ++ 58 ∷ more) (sym (joined-and v ws w)) in
+          rw (joined-and v ws w) (simp append_assoc) in
           let longer : line_with name tzid v (ws ++ w ∷ []) ++ more_text name tzid v vs ≡ line ++ more_text name tzid v (w ∷ vs) =
-          ap (λ front. front ++ more_text name tzid v vs) (sym grown) ∙ append_assoc line (44 ∷ date_or_time_text w) (more_text name tzid v vs)
-          ∙ ap (λ b. line ++ text b) (sym alike) in
+          ap (λ front. front ++ more_text name tzid v vs) (sym grown) ∙ rw alike (simp append_assoc) in
           let same_more : (ds ++ v ∷ (ws ++ w ∷ [])) ++ vs ≡ all =
           append_assoc ds (v ∷ (ws ++ w ∷ [])) vs ∙ ap (λ more. ds ++ v ∷ more) (append_assoc ws (w ∷ []) vs) ∙ sym (append_assoc ds (v ∷ ws) (w ∷ vs)) ∙ same in
           subst (λ front. Reads (to ds s) (front ++ rest) p) longer
@@ -440,14 +392,6 @@ list-read name its to h tzid z rest p (v ∷ vs) s known are few reads =
     (All-tail IsDateOrTime v vs are) refl few reads)
 
 -- ---- the whole
-list_named : (name : List ℕ) → avoids 10 name ≡ true → avoids 34 name ≡ true → avoids 58 name ≡ true → avoids 59 name ≡ true → IsName name
-list_named name feed mark colon semicolon = record { feed = feed; mark = mark; colon = colon; semicolon = semicolon }
-
-list-clean : (filled : ℕ) (whole : List ℕ) (its : SetLine) (ws : List DateOrTime) → has_room filled (rest_outside 58 whole) ≡ true → values_on whole ≡ Some ws
-    → list_error filled whole its ≡ None
-list-clean filled whole its ws room values =
-    ap (λ b. option_or (error_unless b (TooMany its)) (error_unless (is_some (values_on whole)) (Value its))) room ∙ ap (λ o. error_unless (is_some o) (Value its)) values
-
 more-false : (a b c e : Bool) → a || (b || e) ≡ false → c ≡ false → a || ((b || c) || e) ≡ false
 more-false true b c e h k = h
 more-false false true c e h k = h
@@ -461,9 +405,9 @@ last-false false false false e h k = k
 
 dates-list : (start : DateOrTime) (r : Recurrence) → IsList (codes "RDATE") line.Dates (λ ds s. draft_of (Some start) (Some r) ds [] s)
 dates-list start r = record {
-  plain = list_named (codes "RDATE") refl refl refl refl;
+  plain = (refl, refl, refl, refl);
   means = refl;
-  puts = λ ds ws s whole room values. (list-clean (length ds) whole line.Dates ws room values, ap (λ o. draft_of (Some start) (Some r) (ds ++ unwrap_or o []) [] s) values);
+  puts = λ ds ws s whole room values. (rw (room, values) refl, rw values refl);
   zoned = λ ds s t. (refl, refl);
   locals = λ ds ws s t none plain.
       ap (λ b. is_local start || (b || false)) (list_any-append is_local ds ws) ∙ more-false (is_local start) (list_any is_local ds) (list_any is_local ws) false none plain;
@@ -472,10 +416,9 @@ dates-list start r = record {
 exceptions-list : (start : DateOrTime) (r : Recurrence) (dates : List DateOrTime)
     → IsList (codes "EXDATE") line.Exceptions (λ ds s. draft_of (Some start) (Some r) dates ds s)
 exceptions-list start r dates = record {
-  plain = list_named (codes "EXDATE") refl refl refl refl;
+  plain = (refl, refl, refl, refl);
   means = refl;
-  puts = λ ds ws s whole room values.
-      (list-clean (length ds) whole line.Exceptions ws room values, ap (λ o. draft_of (Some start) (Some r) dates (ds ++ unwrap_or o []) s) values);
+  puts = λ ds ws s whole room values. (rw (room, values) refl, rw values refl);
   zoned = λ ds s t. (refl, refl);
   locals = λ ds ws s t none plain.
       ap (λ b. is_local start || (list_any is_local dates || b)) (list_any-append is_local ds ws)
@@ -491,11 +434,10 @@ start-put tzid start z is =
     let value = joined date_or_time_text start [] in
     let whole = line_with name tzid start [] in
     let word = kind-word tzid start start z (same-kind start) is in
-    let split = line-by name (head_of name tzid start) value line.Start texts (head-is name tzid start (list_named name refl refl refl refl) z) refl in
-    let means : value_on whole ≡ Some start =
-    ap (λ ps. value_of ps (rest_outside 58 whole)) split.parameters ∙ ap (value_of texts) (split.rest ∙ append-nil (date_or_time_text start)) ∙ word.means in
+    let split = line-by name (head_of name tzid start) value line.Start texts (head-is name tzid start (refl, refl, refl, refl) z) refl in
+    let means : value_on whole ≡ Some start = rw (split.parameters, split.rest, append-nil) word.means in
     line-done (parts_of []) (draft_of (Some start) None [] [] None) whole line.Start texts value None (zone_after tzid None start) split refl refl
-    (ap (λ o. error_unless (is_some o) (Value line.Start)) means) (ap (λ o. draft_of o None [] [] None) means) (first-zone line.Start tzid start z)
+    (rw means refl) (rw means refl) (first-zone line.Start tzid start z)
 
 -- the recurrence
 rule-put : (start : DateOrTime) (s : Option (List ℕ)) (r : Recurrence) (text : List ℕ) → parts_say 6 (parts_at 59 text) ≡ Ok r
@@ -506,8 +448,7 @@ rule-put start s r text says =
     let is = line-by name name text line.Rule [] (record { feed = refl; mark = refl; colon = refl; named = refl; parameters = refl }) refl in
     let read : recurrence_on whole ≡ Ok r =
     ap (λ t. cond (t && true) (parts_say 6 (parts_at 59 text)) (Err (fault 0 UnknownPart))) (longer text) ∙ says in
-    line-done (draft_of (Some start) None [] [] s) (draft_of (Some start) (Some r) [] [] s) whole line.Rule [] text s s is refl refl
-    (ap (λ o. option_map Rule (result_err o)) read) (ap (λ o. draft_of (Some start) (result_ok o) [] [] s) read) (no-zone s)
+    line-done (draft_of (Some start) None [] [] s) (draft_of (Some start) (Some r) [] [] s) whole line.Rule [] text s s is refl refl (rw read refl) (rw read refl) (no-zone s)
   where
     no-zone : (s : Option (List ℕ)) → (zone_error_in s [] line.Rule ≡ None) × (option_or s None ≡ s)
     no-zone None = (refl, refl)
@@ -544,11 +485,7 @@ all-read p s e before valid is =
 
 in-lines : (head rule dates exceptions : List ℕ)
     → (head ++ line_end) ++ (rule ++ line_end) ++ dates ++ exceptions ≡ head ++ 13 ∷ 10 ∷ (rule ++ 13 ∷ 10 ∷ (dates ++ (exceptions ++ [])))
-in-lines head rule dates exceptions =
-    append_assoc ((head ++ line_end) ++ (rule ++ line_end)) dates exceptions
-    ∙ append_assoc (head ++ line_end) (rule ++ line_end) (dates ++ exceptions)
-    ∙ append_assoc head line_end ((rule ++ line_end) ++ (dates ++ exceptions))
-    ∙ ap (λ rest. head ++ 13 ∷ 10 ∷ rest) (append_assoc rule line_end (dates ++ exceptions) ∙ ap (λ last. rule ++ 13 ∷ 10 ∷ (dates ++ last)) (sym (append-nil exceptions)))
+in-lines head rule dates exceptions = simp (append_assoc, append-nil)
 
 set-reads : (p : SetParts) → IsSpelledSet p → ReadsBack p.recurrence (text_of p.recurrence) → length p.dates ≤ 62 → length p.exceptions ≤ 62
     → SaysSet (lines_of (set_text p)) p
@@ -561,7 +498,7 @@ set-reads p h back few less =
     let dates = values_text (codes "RDATE") tzid p.dates in
     let exceptions = values_text (codes "EXDATE") tzid p.exceptions in
     let run : IsRun tzid p.start [] = (kind-word tzid p.start p.start z (same-kind p.start) h.start, tt) in
-    let name = list_named start refl refl refl refl in
+    let name : IsName start = (refl, refl, refl, refl) in
     let excepted = λ (s : Option (List ℕ)) (known : IsKnown tzid (draft_of (Some p.start) (Some p.recurrence) p.dates [] s)). list-read (codes "EXDATE") line.Exceptions (λ ds s. draft_of (Some p.start) (Some p.recurrence) p.dates ds s) (exceptions-list p.start p.recurrence p.dates) tzid z [] p p.exceptions s
     known h.each_exception less (λ t last. all-read p t (zone-found p tzid t h.zone last)) in
     let dated = list-read (codes "RDATE") line.Dates (λ ds s. draft_of (Some p.start) (Some p.recurrence) ds [] s) (dates-list p.start p.recurrence) tzid z (exceptions ++ []) p p.dates first

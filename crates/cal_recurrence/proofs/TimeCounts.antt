@@ -1,6 +1,5 @@
 -- The count of the numbers that pass, by their quotients and their remainders.
-use Rattle.std.proofs.Common.{◌≡◌, refl, ℕ, zero, suc, ◌+◌, ◌-◌, ◌*◌, ◌%◌, ◌≤◌, ap, ◌∙◌, arith, Bool, true, false, inl, inr}
-use Rattle.std.specs.Prelude.{◌&&◌}
+use Rattle.std.proofs.Common.{◌≡◌, refl, ℕ, zero, suc, ◌+◌, ◌-◌, ◌*◌, ◌≤◌, ap, ◌∙◌, arith, Bool, true, false, inl, inr}
 use Rattle.std.proofs.lemmas.Bool.{cases_lt, cases_Bool}
 use Rattle.std.proofs.Math.Nat.{zero-mul}
 use Rattle.cal_time.specs.IsoWeekDate.{count_before}
@@ -29,7 +28,7 @@ pub block-off : (test outer inner : ℕ → Bool) (size n j : ℕ) → Splits te
 block-off test outer inner size n j h off most =
     count-stays test (n * size) (n * size + j) (omega arith) (λ k low high.
     let parts = parts-of size n (k - n * size) k h.some (omega arith) (omega arith) in
-    h.at k ∙ ap (λ m. outer m && inner (k % size)) parts.quotient ∙ ap (λ b. b && inner (k % size)) off)
+    rw (h.at k, parts.quotient, off) refl)
 
 pub block-on : (test outer inner : ℕ → Bool) (size n j : ℕ) → Splits test outer inner size → outer n ≡ true → j ≤ size
     → count_before test (n * size + j) ≡ count_before test (n * size) + count_before inner j
@@ -39,8 +38,7 @@ block-on test outer inner size n zero h on most =
 block-on test outer inner size n (suc j) h on most =
     let next : n * size + suc j ≡ suc (n * size + j) = omega arith in
     let parts = parts-of size n j (n * size + j) h.some (omega arith) refl in
-    let same : test (n * size + j) ≡ inner j =
-    h.at (n * size + j) ∙ ap (λ m. outer m && inner ((n * size + j) % size)) parts.quotient ∙ ap (λ b. b && inner ((n * size + j) % size)) on ∙ ap inner parts.remainder in
+    let same : test (n * size + j) ≡ inner j = rw (h.at (n * size + j), parts.quotient, parts.remainder, on) refl in
     let before = block-on test outer inner size n j h on (omega arith) in
     elim (cases_Bool (inner j)) as (λ _. count_before test (n * size + suc j) ≡ count_before test (n * size) + count_before inner (suc j)) [
       | inl hit ↦ omega (arith, ap (count_before test) next, count-yes test (n * size + j) (same ∙ hit), count-yes inner j hit, before)

@@ -1,6 +1,6 @@
 -- The positions of readings, by the positions of their days.
 use Rattle.std.proofs.Common.{◌≡◌, refl, ℕ, zero, suc, max, ◌+◌, ◌-◌, ◌*◌, ◌/◌, ◌%◌, ◌<◌, ◌≤◌, sym, ap, ◌∙◌, arith, Bool, true, false, inl, inr, List, [], ◌∷◌, map, ℤ, pos, negsuc, Option}
-use Rattle.std.specs.Prelude.{◌&&◌, ◌==◌, nat_le, option_map}
+use Rattle.std.specs.Prelude.{◌&&◌, ◌==◌, nat_le}
 use Rattle.std.specs.List.{list_any}
 use Rattle.std.proofs.lemmas.Bool.{and_parts, eq-eqb, eqb-true, false_from_ne_true, false≢true, or_cases, or_left, or_right}
 use Rattle.cal_time.specs.Date.{last_day}
@@ -8,7 +8,6 @@ use Rattle.cal_time.specs.IsoWeekDate.{count_before}
 use Rattle.cal_time.specs.SignedDuration.{day}
 use Rattle.cal_datetime.specs.DateTime.{last_date_time, date_at, time_at}
 use Rattle.cal_schedule.specs.declared.rule.rule.Rule.{Rule}
-use Rattle.cal_schedule.specs.Pattern.{rule_of}
 use Rattle.cal_schedule.specs.Ranks.{count-less, count-yes, length-from}
 use Rattle.cal_schedule.specs.Rule.{allows, is_nth, matches_days, matches_months, matches_positions, matches_until, matches_weeks, passes, passes_with, period_index, periods_past, unit_of}
 use Rattle.cal_schedule.specs.Rule as date
@@ -48,8 +47,7 @@ same-past rule ps n = refl
 
 pub same-with : (rule : DateTimeParts) (ps : List ℤ) (n k : ℕ) → passes_with (with_positions rule ps) n k ≡ passes_with (day_rule rule) n k
 same-with rule ps n k =
-    ap (λ u. (period_index u k == period_index u n) && passes (with_positions rule ps) k) (same-unit rule ps)
-    ∙ ap (λ b. (period_index (unit_of (day_rule rule)) k == period_index (unit_of (day_rule rule)) n) && b) (same-passes rule ps k)
+    rw (same-unit rule ps, same-passes rule ps k) refl
 
 regroup : (a b c p m : Bool) → (a && (b && (c && (p && m)))) ≡ ((a && (b && (c && (p && true)))) && m)
 regroup false b c p m = refl
@@ -68,14 +66,7 @@ day-split : (rule : DateTimeParts) (ps : List ℤ) (n : ℕ)
 unfolding date.is_occurrence
 day-split rule ps n =
     let r = with_positions rule ps in
-    let d = day_rule rule in
-    let a = nat_le (date_at rule.start) n in
-    let b = matches_until r.until n in
-    let m = matches_positions r n in
-    regroup a b (periods_past r n == 0) (passes r n) m
-    ∙ ap (λ past. (a && (b && ((past == 0) && (passes r n && true)))) && m) (same-past rule ps n)
-    ∙ ap (λ on. (a && (b && ((periods_past d n == 0) && (on && true)))) && m) (same-passes rule ps n)
-    ∙ ap (λ all. (a && (b && ((periods_past d n == 0) && (passes d n && all)))) && m) (sym (all-positions d n refl))
+    rw (all-positions (day_rule rule) n refl, ← same-past rule ps n, ← same-passes rule ps n) (regroup (nat_le (date_at rule.start) n) (matches_until r.until n) (periods_past r n == 0) (passes r n) (matches_positions r n))
 
 pub day-on : (rule : DateTimeParts) (ps : List ℤ) (n : ℕ) → date.is_occurrence (with_positions rule ps) n ≡ true → date.is_occurrence (day_rule rule) n ≡ true
 day-on rule ps n on = (and_parts (date.is_occurrence (day_rule rule) n) (matches_positions (with_positions rule ps) n) (sym (day-split rule ps n) ∙ on)).0
@@ -189,8 +180,7 @@ pub position-is : (rule : DateTimeParts) (n t ahead back : ℕ) → n ≤ last_d
 unfolding reading.matches_positions
 position-is rule n t ahead back most below on time is_ahead is_back =
     let ranks = has-ranks rule n t ahead back most below on time is_ahead is_back in
-    ap (λ a. allows (λ k. is_nth k a (reading.count_from (reading.passes_with rule (pos (n * day + t))) (n * day + t))) rule.pattern.set_positions) ranks.ahead_is
-    ∙ ap (λ b. allows (λ k. is_nth k ((ahead - 1) * per_day rule + count_before (times rule) t + 1) b) rule.pattern.set_positions) ranks.back_is
+    simp (ranks.ahead_is, ranks.back_is)
 
 -- The day of a reading that a rule selects is one of the rule with the positions of days.
 selected-day : (rule : DateTimeParts) (n t : ℕ) → n ≤ last_day → t < day → date.is_occurrence (day_rule rule) n ≡ true → times rule t ≡ true
@@ -211,12 +201,7 @@ selected-day rule n t most below on time has =
     (λ p hit. maps-nth size (ahead - 1) (count_before (times rule) t) (back - 1) p ranks.index hit) ps
     (sym (position-is rule n t ahead back most below on time refl refl) ∙ has) in
     let tests : passes_with days n ≡ outer = λ i k. same-with rule (map (day_position size) ps) n k i in
-    day-split rule (map (day_position size) ps) n
-    ∙ ap (λ b. b && matches_positions days n) on
-    ∙ ap (λ test. allows (λ k. is_nth k (count_before test (n + 1)) (weekdays.count_from test n)) (map (day_position size) ps)) tests
-    ∙ ap (λ a. allows (λ k. is_nth k a back) (map (day_position size) ps)) ahead_some
-    ∙ ap (λ b. allows (λ k. is_nth k (ahead - 1 + 1) b) (map (day_position size) ps)) back_some
-    ∙ mapped
+    rw (day-split rule (map (day_position size) ps) n, on, tests, ahead_some, back_some) mapped
 
 -- What a rule selects passes by its day, its time and its position.
 record Selects (rule : DateTimeParts) (k : ℕ) : Type 0 where
@@ -238,9 +223,7 @@ ranked rule = with_positions rule (map (day_position (per_day rule)) rule.patter
 pub days-are : (start : ℤ) (until : Option ℤ) (days : Rule) (times : TimesOfDay) (positions : List ℤ) (size : ℕ) (has : Bool) → IsInside start until days times positions size has
     → days ≡ ranked (parts_of start until days times positions)
 days-are start until days times positions size has h =
-    h.days_are
-    ∙ ap (λ ps. rule_of (record days.pattern { set_positions = ps }) (date_at start) (option_map date_at until)) h.ranks_are
-    ∙ ap (λ s. rule_of (record days.pattern { set_positions = map (day_position s) positions }) (date_at start) (option_map date_at until)) h.count_is
+    h.days_are ∙ rw (h.ranks_are, h.count_is) refl
 
 -- A day that isn't one of the rule with the positions of days has no reading.
 pub off-day : (rule : DateTimeParts) (n k : ℕ) → n ≤ last_day → date.is_occurrence (ranked rule) n ≡ false → k / day ≡ n → selects rule k ≡ false
@@ -260,6 +243,4 @@ pub selects-on : (rule : DateTimeParts) (n t : ℕ) → t < day → date.is_occu
 selects-on rule n t below on has =
     let quotient : (n * day + t) / day ≡ n = omega arith in
     let remainder : (n * day + t) % day ≡ t = omega arith in
-    ap (λ d. date.is_occurrence (day_rule rule) d && (times rule ((n * day + t) % day) && reading.matches_positions rule (pos (n * day + t)))) quotient
-    ∙ ap (λ b. b && (times rule ((n * day + t) % day) && reading.matches_positions rule (pos (n * day + t)))) on
-    ∙ ap (λ s. times rule s && reading.matches_positions rule (pos (n * day + t))) remainder ∙ has
+    rw (quotient, remainder, on) has

@@ -1,10 +1,11 @@
 -- The first number that passes a test of its quotient and a test of its remainder.
-use Rattle.std.proofs.Common.{◌≡◌, ℕ, ◌+◌, ◌*◌, ◌/◌, ◌%◌, ◌<◌, ◌≤◌, sym, ap, ◌∙◌, arith, Bool, true, false, inl, inr, Option, Some, None}
+use Rattle.std.proofs.Common.{◌≡◌, ℕ, ◌+◌, ◌*◌, ◌/◌, ◌%◌, ◌<◌, ◌≤◌, sym, ap, ◌∙◌, arith, Bool, true, false, inl, inr, Option}
 use Rattle.std.specs.Prelude.{◌&&◌}
 use Rattle.std.proofs.lemmas.Bool.{and_parts, cases_lt, false_from_ne_true, false≢true}
 use Rattle.std.proofs.lemmas.Nat.{div-add-mod'}
 use Rattle.std.proofs.Math.Nat.{mul-le-mul_left}
 use Rattle.cal_recurrence.specs.TimeSearch.{NoneIn, IsFirst, IsNext}
+use Rattle.cal_recurrence.proofs.FirstNumbers.{extended}
 
 -- A number passes if its quotient by the size passes one test and its remainder the other.
 pub record Splits (test outer inner : ℕ → Bool) (size : ℕ) : Type 0 where
@@ -51,7 +52,7 @@ splits-off test outer inner size n h off = false_from_ne_true _ (λ on. off (and
 
 splits-on : (test outer inner : ℕ → Bool) (size a b n : ℕ) → Splits test outer inner size → HasParts size a b n → outer a ≡ true → inner b ≡ true → test n ≡ true
 splits-on test outer inner size a b n h parts out inn =
-    h.at n ∙ ap (λ m. outer m && inner (n % size)) parts.quotient ∙ ap (λ on. on && inner (n % size)) out ∙ ap inner parts.remainder ∙ inn
+    rw (h.at n, parts.quotient, parts.remainder, out) inn
 
 -- No number from q on with the quotient a passes.
 abbrev pub NoneBeside : (ℕ → Bool) → ℕ → ℕ → ℕ → Type 0
@@ -70,21 +71,8 @@ beside-outer test outer inner size a q h off = λ k low same.
 -- If no number from q on with the quotient a passes, the first one has a higher quotient.
 pub go-on : (test : ℕ → Bool) (size a q p e : ℕ) (r : Option ℕ) → 0 < size → NoneBeside test size q a → a * size ≤ q → q ≤ p → p ≡ (a + 1) * size
     → IsNext test p e r → IsNext test q e r
-go-on test size a q p e None some beside low least is next = λ k from high.
-    elim (cases_lt k p) as (λ _. test k ≡ false) [
-      | inl less ↦ beside k from (omega (arith, quotient-from size a k some (omega arith), quotient-below size (a + 1) k some (omega arith)))
-      | inr most ↦ next k most high
-    ]
-go-on test size a q p e (Some x) some beside low least is next = record {
-  not_before = omega (arith, next.not_before);
-  below = next.below;
-  passes = next.passes;
-  none_before = λ k from high.
-      elim (cases_lt k p) as (λ _. test k ≡ false) [
-        | inl less ↦ beside k from (omega (arith, quotient-from size a k some (omega arith), quotient-below size (a + 1) k some (omega arith)))
-        | inr most ↦ next.none_before k most high
-      ];
-}
+go-on test size a q p e r some beside low least is next =
+    extended test q p e r least (λ k from less. beside k from (omega (arith, quotient-from size a k some (omega arith), quotient-below size (a + 1) k some (omega arith)))) next
 
 -- The first number from a multiple of the size on has the first quotient and the first remainder.
 pub first-later : (test outer inner : ℕ → Bool) (size a q limit o s e x : ℕ) → Splits test outer inner size → q ≡ a * size → e ≡ limit * size → x ≡ o * size + s

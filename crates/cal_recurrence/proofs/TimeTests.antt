@@ -13,26 +13,17 @@ use Rattle.cal_recurrence.specs.declared.times_of_day.TimesOfDay.{TimesOfDay}
 use Rattle.cal_recurrence.proofs.TimeCounts.{block-off, block-on, blocks, count-stays}
 use Rattle.cal_recurrence.proofs.TimeSteps.{Splits}
 
-abbrev hours : TimesOfDay → ℕ → ℕ → Bool
-hours times own n = allows_or_start (hour_of own) times.hours n
-
-abbrev minutes : TimesOfDay → ℕ → ℕ → Bool
-minutes times own n = allows_or_start (minute_of own) times.minutes n
-
-abbrev seconds : TimesOfDay → ℕ → ℕ → Bool
-seconds times own n = allows_or_start (second_of own) times.seconds n
-
 pub by-minute : (times : TimesOfDay) (own s : ℕ) (values : List ℕ) → s ≡ second_of own → values ≡ times.seconds
     → Splits (matches_second times own) (matches_minute times own) (allows_or_start s values) 60
 by-minute times own s values e f = record {
   some = omega arith;
-  at = λ n. ap (λ list. matches_minute times own (n / 60) && allows_or_start (second_of own) list (n % 60)) (sym f)
-      ∙ ap (λ value. matches_minute times own (n / 60) && allows_or_start value values (n % 60)) (sym e);
+  at = λ n. rw (e, f) refl;
 }
 
-and-assoc : (a b c : Bool) → (a && (b && c)) ≡ ((a && b) && c)
-and-assoc true b c = refl
-and-assoc false b c = refl
+regroup : (a b c d : Bool) → (a && (b && (c && d))) ≡ (((a && b) && c) && d)
+regroup true true c d = refl
+regroup true false c d = refl
+regroup false b c d = refl
 
 -- A time of day passes if its second of the day does, and it has the nanoseconds of the start.
 pub by-second : (times : TimesOfDay) (own t : ℕ) → t < day → matches_time times own t ≡ (matches_second times own (t / second) && (nanosecond_of t == nanosecond_of own))
@@ -40,10 +31,8 @@ unfolding matches_time
 by-second times own t below =
     let hour_is : hour_of t ≡ t / second / 60 / 60 = omega arith in
     let minute_is : minute_of t ≡ t / second / 60 % 60 = omega arith in
-    ap (λ n. hours times own n && (minutes times own (minute_of t) && (seconds times own (second_of t) && (nanosecond_of t == nanosecond_of own)))) hour_is
-    ∙ ap (λ n. hours times own (t / second / 60 / 60) && (minutes times own n && (seconds times own (second_of t) && (nanosecond_of t == nanosecond_of own)))) minute_is
-    ∙ and-assoc (hours times own (t / second / 60 / 60)) (minutes times own (t / second / 60 % 60)) (seconds times own (second_of t) && (nanosecond_of t == nanosecond_of own))
-    ∙ and-assoc (matches_minute times own (t / second / 60)) (seconds times own (second_of t)) (nanosecond_of t == nanosecond_of own)
+    rw (hour_is, minute_is) (regroup (allows_or_start (hour_of own) times.hours (t / second / 60 / 60)) (allows_or_start (minute_of own) times.minutes (t / second / 60 % 60))
+    (allows_or_start (second_of own) times.seconds (second_of t)) (nanosecond_of t == nanosecond_of own))
 
 time-off : (times : TimesOfDay) (own t : ℕ) → t < day → ¬ ((matches_second times own (t / second) ≡ true) × (nanosecond_of t ≡ nanosecond_of own)) → matches_time times own t ≡ false
 time-off times own t below off =
@@ -178,8 +167,5 @@ pub by-hour : (times : TimesOfDay) (own h m : ℕ) (hours minutes : List ℕ) �
     → Splits (matches_minute times own) (allows_or_start h hours) (allows_or_start m minutes) 60
 by-hour times own h m hours minutes e f g i = record {
   some = omega arith;
-  at = λ n. ap (λ list. allows_or_start (hour_of own) list (n / 60) && allows_or_start (minute_of own) times.minutes (n % 60)) (sym f)
-      ∙ ap (λ value. allows_or_start value hours (n / 60) && allows_or_start (minute_of own) times.minutes (n % 60)) (sym e)
-      ∙ ap (λ list. allows_or_start h hours (n / 60) && allows_or_start (minute_of own) list (n % 60)) (sym i)
-      ∙ ap (λ value. allows_or_start h hours (n / 60) && allows_or_start value minutes (n % 60)) (sym g);
+  at = λ n. rw (e, f, g, i) refl;
 }

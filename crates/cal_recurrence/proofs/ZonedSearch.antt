@@ -1,7 +1,7 @@
 -- The search for the next occurrence of a set in a zone.
 use Rattle.std.proofs.Common.{◌≡◌, refl, sym, ap, ◌∙◌, arith, ℕ, ◌+◌, ◌*◌, ◌<◌, ◌≤◌, ◌⊎◌, inl, inr, Bool, true, false, ◌&&◌, length, Option, Some, None, ℤ, pos, negsuc, neg_ℤ, ◌+ℤ◌, ◌-ℤ◌, ◌≤ℤ◌, ◌<ℤ◌, subst, to_z, of_z}
 use Rattle.std.specs.Prelude.{◌||◌, int_lt, nat_le, not, slice_get, unsigned_abs, MatchOption, SomeIff, option_map}
-use Rattle.std.specs.Ordering.{int_cmp, int_eq}
+use Rattle.std.specs.Ordering.{int_cmp}
 use Rattle.std.proofs.lemmas.Bool.{and_parts, cases_Bool, false≢true, or_right}
 use Rattle.std.proofs.lemmas.Option.{slice_get_within}
 use mir.Syntax.{w128}
@@ -23,7 +23,7 @@ use Rattle.cal_zone.specs.declared.local.Local.{Local}
 use Rattle.cal_zone.specs.declared.local.Local.TheVariants.{Single, Gap, Fold}
 use Rattle.cal_recurrence.specs.Occurrences.{nanoseconds_left}
 use Rattle.cal_recurrence.specs.TimeSearch.{first_by}
-use Rattle.cal_recurrence.specs.ZonedSet.{is_earlier, is_in_time, is_kept, is_selected, reach, HasInstant, IsFirstAfter, IsListed, IsMeant, IsNextAfter, IsNextReading, IsPast, Means, MeansAt, NoReading, NoneAfter, Occurs}
+use Rattle.cal_recurrence.specs.ZonedSet.{is_earlier, is_in_time, is_kept, is_selected, reach, HasInstant, IsFirstAfter, IsListed, IsMeant, IsNextAfter, IsNextCandidate, IsPast, Means, MeansAt, NoReading, NoneAfter, Occurs}
 use Rattle.cal_recurrence.specs.declared.date_time_set.DateTimeSet.{DateTimeSet}
 use Rattle.cal_recurrence.specs.declared.zoned_set.ZonedSet.{ZonedSet}
 
@@ -94,11 +94,10 @@ IsUnique zone = (z : ℤ) (a b : Local) → IsLocalOf zone z a → IsLocalOf zon
 pub means-one : (zone : Timeline) → IsUnique zone → (z : ℤ) (m k : LocalAndOffset) → IsMeant zone z m → IsMeant zone z k → k ≡ m
 means-one zone one z m k h g = compatible-one h.local m k h.selected (subst (λ local. IsCompatible local (Some k)) (one z g.local h.local g.shown h.shown) g.selected)
 
-pub nothing-meant : (zone : Timeline) → IsUnique zone → (y : ℤ) (local : Local) → IsLocalOf zone y local → IsCompatible local None → (k : LocalAndOffset) → ¬ IsMeant zone y k
-nothing-meant zone one y local shown none k g = compatible-none local k none (subst (λ other. IsCompatible other (Some k)) (one y g.local local g.shown shown) g.selected)
-
 pub means-none : (set : ZonedSet) → IsUnique set.zone.now → (y x : ℤ) (local : Local) → IsLocalOf set.zone.now y local → IsCompatible local None → NoneAfter (MeansAt set y) x
-means-none set one y x local shown none z k h = absurd (nothing-meant set.zone.now one y local shown none k (subst (λ w. IsMeant set.zone.now w k) h.1 h.0.meant))
+means-none set one y x local shown none z k h =
+    let g : IsMeant set.zone.now y k = rw h.1 at h.0.meant in
+    absurd (compatible-none local k none (rw (one y g.local local g.shown shown) at g.selected))
 
 -- The date-time that a reading means is the first one of this reading.
 same-moment : (set : ZonedSet) → IsUnique set.zone.now → (y : ℤ) (m : LocalAndOffset) → IsMeant set.zone.now y m → (z : ℤ) (k : LocalAndOffset) → MeansAt set y z k → instant k ≡ instant m
@@ -113,11 +112,8 @@ only set one y x m means late = record {
       (let e = same-moment set one y m means.meant z k h in omega (arith, ints, e), λ e. omega (arith, ints, h.1));
 }
 
-all-true : (a b c : Bool) → a ≡ true → b ≡ true → c ≡ true → (a && (b && c)) ≡ true
-all-true a b c e f g = rw (e, f, g) refl
-
 selected : (set : ZonedSet) (z : ℤ) (m : LocalAndOffset) → Means set z m → is_selected set z (instant m) ≡ true
-selected set z m h = all-true _ _ _ h.on h.in_time h.kept
+selected set z m h = rw (h.on, h.in_time, h.kept) refl
 
 pub means-it : (set : ZonedSet) (z : ℤ) (m : LocalAndOffset) → IsDateTime z → IsMeant set.zone.now z m → is_selected set z (instant m) ≡ true → Means set z m
 means-it set z m range meant e =
@@ -150,54 +146,40 @@ record Splits (P Q R : ℤ → LocalAndOffset → Type 0) : Type 0 where
   other : (z : ℤ) (k : LocalAndOffset) → Q z k → R z k
   order : (z w : ℤ) (k l : LocalAndOffset) → P z k → Q w l → z <ℤ w
 
-joined-at : (P Q R : ℤ → LocalAndOffset → Type 0) (x : ℤ) (m k : LocalAndOffset) (b : Bool) → int_lt (instant k) (instant m) ≡ b → Splits P Q R → IsFirstAfter P x m → IsFirstAfter Q x k
-    → IsNextAfter R x (first_by is_earlier (Some m) (Some k))
-joined-at P Q R x m k true e s p q = rw e (record {
-  place = q.place;
-  is = s.other q.place k q.is;
-  later = q.later;
-  first = λ z j h late. elim (s.down z j h) as (λ _. (instant k ≤ℤ instant j) × (instant j ≡ instant k → q.place ≤ℤ z)) [
-    | inl a ↦
-        let less = is_less (instant k) (instant m) e in
-        let most = (p.first z j a late).0 in
-        (omega (arith, ints, less, most), λ same. absurd (omega (arith, ints, less, most, same)))
-    | inr b ↦ q.first z j b late
-  ];
-})
-joined-at P Q R x m k false e s p q = rw e (record {
-  place = p.place;
-  is = s.one p.place m p.is;
-  later = p.later;
-  first = λ z j h late. elim (s.down z j h) as (λ _. (instant m ≤ℤ instant j) × (instant j ≡ instant m → p.place ≤ℤ z)) [
-    | inl a ↦ p.first z j a late
-    | inr b ↦
-        let most = is_most (instant k) (instant m) e in
-        let above = (q.first z j b late).0 in
-        let before = s.order p.place z m j p.is b in
-        (omega (arith, ints, most, above), λ same. omega (arith, ints, before))
-  ];
-})
-
-joined : (P Q R : ℤ → LocalAndOffset → Type 0) (x : ℤ) (p q : Option LocalAndOffset) → Splits P Q R → IsNextAfter P x p → IsNextAfter Q x q → IsNextAfter R x (first_by is_earlier p q)
-joined P Q R x None None s p q = λ z k h. elim (s.down z k h) as (λ _. instant k ≤ℤ x) [ inl a ↦ p z k a | inr b ↦ q z k b ]
-joined P Q R x None (Some m) s p q = record {
-  place = q.place;
-  is = s.other q.place m q.is;
-  later = q.later;
-  first = λ z k h late. elim (s.down z k h) as (λ _. (instant m ≤ℤ instant k) × (instant k ≡ instant m → q.place ≤ℤ z)) [
-    | inl a ↦ let most = p z k a in absurd (omega (arith, ints, late, most))
-    | inr b ↦ q.first z k b late
-  ];
-}
-joined P Q R x (Some m) None s p q = record {
+-- the first of one group stays the first, if no date-time of the other is earlier
+first-stays : (P Q R : ℤ → LocalAndOffset → Type 0) (x : ℤ) (m : LocalAndOffset) → Splits P Q R → (p : IsFirstAfter P x m)
+    → ((z : ℤ) (k : LocalAndOffset) → Q z k → x <ℤ instant k → instant m ≤ℤ instant k) → IsFirstAfter R x m
+first-stays P Q R x m s p others = record {
   place = p.place;
   is = s.one p.place m p.is;
   later = p.later;
   first = λ z k h late. elim (s.down z k h) as (λ _. (instant m ≤ℤ instant k) × (instant k ≡ instant m → p.place ≤ℤ z)) [
     | inl a ↦ p.first z k a late
-    | inr b ↦ let most = q z k b in absurd (omega (arith, ints, late, most))
+    | inr b ↦ let before = s.order p.place z m k p.is b in (others z k b late, λ e. omega (arith, ints, before))
   ];
 }
+
+other-first : (P Q R : ℤ → LocalAndOffset → Type 0) (x : ℤ) (m : LocalAndOffset) → Splits P Q R → (q : IsFirstAfter Q x m)
+    → ((z : ℤ) (k : LocalAndOffset) → P z k → x <ℤ instant k → instant m <ℤ instant k) → IsFirstAfter R x m
+other-first P Q R x m s q others = record {
+  place = q.place;
+  is = s.other q.place m q.is;
+  later = q.later;
+  first = λ z k h late. elim (s.down z k h) as (λ _. (instant m ≤ℤ instant k) × (instant k ≡ instant m → q.place ≤ℤ z)) [
+    | inl a ↦ let less = others z k a late in (omega (arith, ints, less), λ same. absurd (omega (arith, ints, less, same)))
+    | inr b ↦ q.first z k b late
+  ];
+}
+
+joined-at : (P Q R : ℤ → LocalAndOffset → Type 0) (x : ℤ) (m k : LocalAndOffset) (b : Bool) → int_lt (instant k) (instant m) ≡ b → Splits P Q R → IsFirstAfter P x m → IsFirstAfter Q x k
+    → IsNextAfter R x (first_by is_earlier (Some m) (Some k))
+joined-at P Q R x m k true e s p q = rw e (other-first P Q R x k s q (λ z j a late. let less = is_less (instant k) (instant m) e in let most = (p.first z j a late).0 in omega (arith, ints, less, most)))
+joined-at P Q R x m k false e s p q = rw e (first-stays P Q R x m s p (λ z j b late. let most = is_most (instant k) (instant m) e in let above = (q.first z j b late).0 in omega (arith, ints, most, above)))
+
+joined : (P Q R : ℤ → LocalAndOffset → Type 0) (x : ℤ) (p q : Option LocalAndOffset) → Splits P Q R → IsNextAfter P x p → IsNextAfter Q x q → IsNextAfter R x (first_by is_earlier p q)
+joined P Q R x None None s p q = λ z k h. elim (s.down z k h) as (λ _. instant k ≤ℤ x) [ inl a ↦ p z k a | inr b ↦ q z k b ]
+joined P Q R x None (Some m) s p q = other-first P Q R x m s q (λ z k a late. let most = p z k a in absurd (omega (arith, ints, late, most)))
+joined P Q R x (Some m) None s p q = first-stays P Q R x m s p (λ z k b late. let most = q z k b in absurd (omega (arith, ints, late, most)))
 joined P Q R x (Some m) (Some k) s p q = joined-at P Q R x m k (int_lt (instant k) (instant m)) refl s p q
 
 -- ---- the readings up to one
@@ -214,7 +196,7 @@ unfolding is_in_set
 candidate set z on = (and_parts (candidates set z) (not (is_listed set.exceptions.now z)) on).0
 
 -- The next reading of a set is the next candidate that can be an occurrence.
-pub is-at : (set : ZonedSet) (n : ℕ) (y : ℤ) → Some y ≡ slice_get (readings_from (is_in_set set.readings) n) 0 → IsNextReading set n y
+pub is-at : (set : ZonedSet) (n : ℕ) (y : ℤ) → Some y ≡ slice_get (readings_from (is_in_set set.readings) n) 0 → IsNextCandidate set n y
 is-at set n y e =
     let test = is_in_set set.readings in
     let at = found test n y e in
@@ -261,7 +243,7 @@ offered set z test y false is h on =
 
 -- The nearest reading is the next one, if it is in range.
 nearest-next : (set : ZonedSet) (z : ℤ) (test : ℤ → Bool) (r : Option ℤ) → IsDateTime z → ((y : ℤ) → r ≡ Some y → IsDateTime y) → Covers set z test
-    → IsNearest (is_past int_cmp true) (OneOf set.readings test) z r → MatchOption r (NoReading set (unsigned_abs z + 1)) (IsNextReading set (unsigned_abs z + 1))
+    → IsNearest (is_past int_cmp true) (OneOf set.readings test) z r → MatchOption r (NoReading set (unsigned_abs z + 1)) (IsNextCandidate set (unsigned_abs z + 1))
 nearest-next set z test None range within h none = λ y k g low.
     let after : z <ℤ y = omega (arith, ints, low, g.range.not_before, range.not_before) in
     false≢true (sym (none y (later z y after)) ∙ h.each y k g after)
@@ -310,7 +292,7 @@ abbrev pub IsNearestOf : ZonedSet → ℤ → Option ℤ → Option ℤ → Type
 IsNearestOf set z found r = (test : ℤ → Bool) → IsNearest (is_past int_cmp true) test z found → IsNearest (is_past int_cmp true) (OneOf set.readings test) z r
 
 pub next-reading : (set : ZonedSet) (z : ℤ) (rule found r : Option ℤ) → IsDateTime z → ((y : ℤ) → r ≡ Some y → IsDateTime y) → rule ≡ slice_get (occurrences_after set.readings.rule z) 0
-    → (found ≡ rule) ⊎ (IsPast set.until rule × (found ≡ None)) → IsNearestOf set z found r → MatchOption r (NoReading set (unsigned_abs z + 1)) (IsNextReading set (unsigned_abs z + 1))
+    → (found ≡ rule) ⊎ (IsPast set.until rule × (found ≡ None)) → IsNearestOf set z found r → MatchOption r (NoReading set (unsigned_abs z + 1)) (IsNextCandidate set (unsigned_abs z + 1))
 next-reading set z rule found r range date is (inl same) nearest =
     nearest-next set z (rule_readings set.readings) r range date (whole-rule set z) (nearest (rule_readings set.readings) (after_rule set.readings z found range (same ∙ is)))
 next-reading set z None found r range date is (inr past) nearest = absurd past.0
@@ -332,7 +314,7 @@ splits set n = record {
 }
 
 -- The readings before the next one are the readings up to the last one.
-pub up-to_next : (set : ZonedSet) (last n x : ℤ) (r : Option LocalAndOffset) → IsDateTime last → IsNextReading set (unsigned_abs last + 1) n → IsNextAfter (Covered set last) x r → IsNextAfter (Before set n) x r
+pub up-to_next : (set : ZonedSet) (last n x : ℤ) (r : Option LocalAndOffset) → IsDateTime last → IsNextCandidate set (unsigned_abs last + 1) n → IsNextAfter (Covered set last) x r → IsNextAfter (Before set n) x r
 up-to_next set last n x r range h covered = widen (Covered set last) (Before set n) x r (λ z k g. (
   g.0,
   elim (compared last z) as (λ _. z ≤ℤ last) [
@@ -341,7 +323,7 @@ up-to_next set last n x r range h covered = widen (Covered set last) (Before set
   ],
 )) (λ z k g. (g.0, omega (arith, ints, g.1, h.from, h.range.not_before, range.not_before))) covered
 
-pub step : (set : ZonedSet) (last n x : ℤ) (p q : Option LocalAndOffset) → IsDateTime last → IsNextReading set (unsigned_abs last + 1) n
+pub step : (set : ZonedSet) (last n x : ℤ) (p q : Option LocalAndOffset) → IsDateTime last → IsNextCandidate set (unsigned_abs last + 1) n
     → IsNextAfter (Covered set last) x p → IsNextAfter (MeansAt set n) x q → IsNextAfter (Covered set n) x (first_by is_earlier p q)
 step set last n x p q range h covered at =
     joined (Before set n) (MeansAt set n) (Covered set n) x p q (splits set n) (up-to_next set last n x p range h covered) at
@@ -359,7 +341,7 @@ early set s x z k starts range means none = elim (compared x (instant k)) as (λ
   | inr most ↦ most
 ]
 
-pub begins : (set : ZonedSet) (s x n : ℤ) (r : Option LocalAndOffset) → Starts s x → IsDateTime s → IsNextReading set (unsigned_abs s) n → IsNextAfter (MeansAt set n) x r → IsNextAfter (Covered set n) x r
+pub begins : (set : ZonedSet) (s x n : ℤ) (r : Option LocalAndOffset) → Starts s x → IsDateTime s → IsNextCandidate set (unsigned_abs s) n → IsNextAfter (MeansAt set n) x r → IsNextAfter (Covered set n) x r
 begins set s x n r starts range h at = joined (Before set n) (MeansAt set n) (Covered set n) x None r (splits set n) (λ z k g.
     early set s x z k starts range g.0 (λ from. let most = h.first z k g.0 (omega (arith, ints, from, range.not_before)) in absurd (omega (arith, ints, most, g.1)))) at
 
@@ -489,12 +471,6 @@ next-one set one x (Some m) None h g = let most = g h.place m h.is in absurd (om
 next-one set one x (Some m) (Some k) h g = ap Some (first-one set one x m k h g)
 
 -- ---- an instant of the set
-pub eq-same : (a b : ℤ) → int_eq a b ≡ true → a ≡ b
-eq-same a b e = grind (arith, ints)
-
-pub same-eq : (a b : ℤ) → a ≡ b → int_eq a b ≡ true
-same-eq a b e = grind (arith, ints)
-
 pub has : (set : ZonedSet) (x : ℤ) (m : LocalAndOffset) → IsFirstAfter (Occurs set) (x -ℤ pos 1) m → instant m ≡ x → HasInstant set x
 has set x m h e = record { place = h.place; moment = m; occurs = h.is; same = e }
 

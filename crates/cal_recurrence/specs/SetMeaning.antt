@@ -92,8 +92,8 @@ zone_rule r start = date_time_rule start (last_local r start r.end) r.pattern r.
 
 -- ---- sets
 -- The days of a set of dates that starts on day `first`, or the first line with a time of day.
-abbrev pub set_days_from : SetParts → ℕ → Result SetDays SetLine
-set_days_from p first =
+abbrev pub days_starting : SetParts → ℕ → Result SetDays SetLine
+days_starting p first =
     if not (all_mean day_of p.dates) then Err line.Dates else
     if not (all_mean day_of p.exceptions) then Err line.Exceptions else
     Ok (record {
@@ -103,7 +103,7 @@ set_days_from p first =
     })
 
 abbrev pub set_days_at : SetParts → DateOrTime → Result SetDays SetLine
-set_days_at p (Date n) = set_days_from p n
+set_days_at p (Date n) = days_starting p n
 set_days_at p (Local z) = Err line.Start
 set_days_at p (Utc z) = Err line.Start
 
@@ -112,8 +112,8 @@ set_days p = set_days_at p p.start
 
 -- The readings of a set of times that starts at a reading, all with `Z` or all without it, or the
 -- first line with another value.
-abbrev pub set_readings_from : SetParts → Bool → ℤ → Result SetReadings SetLine
-set_readings_from p is_utc start =
+abbrev pub readings_starting : SetParts → Bool → ℤ → Result SetReadings SetLine
+readings_starting p is_utc start =
     if not (ends_with is_utc p.recurrence.end) then Err line.Rule else
     if not (all_mean (reading_of is_utc) p.dates) then Err line.Dates else
     if not (all_mean (reading_of is_utc) p.exceptions) then Err line.Exceptions else
@@ -126,16 +126,16 @@ set_readings_from p is_utc start =
 
 abbrev pub set_readings_at : SetParts → DateOrTime → Result SetReadings SetLine
 set_readings_at p (Date n) = Err line.Start
-set_readings_at p (Local z) = set_readings_from p false z
-set_readings_at p (Utc z) = set_readings_from p true z
+set_readings_at p (Local z) = readings_starting p false z
+set_readings_at p (Utc z) = readings_starting p true z
 
 abbrev pub set_readings : SetParts → Result SetReadings SetLine
 set_readings p = set_readings_at p p.start
 
 -- The readings and the instants of a set that starts at a reading of a zone, or the first line with a
 -- date.
-abbrev pub set_instants_from : SetParts → ℤ → Result SetInstants SetLine
-set_instants_from p start =
+abbrev pub instants_starting : SetParts → ℤ → Result SetInstants SetLine
+instants_starting p start =
     if list_any is_date p.dates then Err line.Dates else
     if list_any is_date p.exceptions then Err line.Exceptions else
     Ok (record {
@@ -151,7 +151,7 @@ set_instants_from p start =
 
 abbrev pub set_instants_at : SetParts → DateOrTime → Result SetInstants SetLine
 set_instants_at p (Date n) = Err line.Start
-set_instants_at p (Local z) = set_instants_from p z
+set_instants_at p (Local z) = instants_starting p z
 set_instants_at p (Utc z) = Err line.Start
 
 abbrev pub set_instants : SetParts → Result SetInstants SetLine

@@ -88,7 +88,7 @@ abbrev pub IsPast : Option LocalAndOffset → Option ℤ → Type 0
 IsPast end reading = MatchOption reading ⊥ (λ y. MatchOption end ⊥ (λ m. (instant m +ℤ reach) <ℤ y))
 
 -- y is a candidate from the number n on, and no reading before it is an occurrence.
-pub record IsNextReading (set : ZonedSet) (n : ℕ) (y : ℤ) : Type 0 where
+pub record IsNextCandidate (set : ZonedSet) (n : ℕ) (y : ℤ) : Type 0 where
   pub range : IsDateTime y
   pub on : candidates set.readings y ≡ true
   pub from : n ≤ unsigned_abs y

@@ -1,7 +1,7 @@
 //! The days, the readings or the instants of a parsed recurrence set.
 ghost use Rattle.std.specs.Prelude.{◌≡◌};
 ghost use Rattle.std.specs.List.{list_any};
-ghost use Rattle.cal_recurrence.specs.SetMeaning.{counted_rule, ends_with, last_counted_day, last_instant, set_days, set_instants, set_readings, set_readings_from, zone_rule};
+ghost use Rattle.cal_recurrence.specs.SetMeaning.{counted_rule, ends_with, last_counted_day, last_instant, set_days, set_instants, set_readings, readings_starting, zone_rule};
 ghost use Rattle.cal_recurrence.specs.SetText.{is_date};
 
 use crate::counted_set::CountedSet;
@@ -190,7 +190,7 @@ impl SetParts<'_> {
 
     /// Returns the readings of a set that starts at a reading, which is at UTC or not.
     fn readings_from(&self, first: PlainDateTime, is_utc: bool) -> Result<SetReadings, SetLine>
-        ensures { result ≡ set_readings_from self.now is_utc first }
+        ensures { result ≡ readings_starting self.now is_utc first }
     {
         if !ends_with(self.recurrence.end, is_utc) {
             return Err(SetLine::Rule);

@@ -5,7 +5,7 @@ ghost use Rattle.cal_datetime.specs.DateTime.{IsDateTime};
 ghost use Rattle.cal_datetime.specs.OffsetDateTime.{instant, unix_epoch, unix_nanoseconds, IsInstant};
 ghost use Rattle.cal_recurrence.specs.DateTimeRule.{is_not_after};
 ghost use Rattle.cal_recurrence.specs.DateTimeSet.{candidates};
-ghost use Rattle.cal_recurrence.specs.ZonedSet.{is_kept, is_selected, reach, HasInstant, IsListed, IsNextAfter, IsNextReading, IsPast, Means, MeansAt, NoReading, Occurs};
+ghost use Rattle.cal_recurrence.specs.ZonedSet.{is_kept, is_selected, reach, HasInstant, IsListed, IsNextAfter, IsNextCandidate, IsPast, Means, MeansAt, NoReading, Occurs};
 ghost use Rattle.cal_recurrence.specs.declared.zoned_set.ZonedSet.{ZonedSet};
 
 use crate::date_time_set::DateTimeSet;
@@ -103,7 +103,7 @@ impl<'a> ZonedSet<'a> {
     /// the other readings.
     fn next_reading(&self, reading: PlainDateTime) -> Option<PlainDateTime>
         ensures { MatchOption result (NoReading self.now (unsigned_abs reading + 1))
-            (IsNextReading self.now (unsigned_abs reading + 1)) }
+            (IsNextCandidate self.now (unsigned_abs reading + 1)) }
     {
         // These calls state that the readings are in range. They cost nothing.
         let _ = reading.date();

@@ -32,6 +32,8 @@ pub struct RecurrenceParts {
     pub month_days: [i8; MAX],
     pub weekdays: [RuleWeekday; MAX],
     pub set_positions: [i16; MAX],
+    /// 0, in place of padding.
+    pub unused: u16,
 }
 
 fn frequency_number(frequency: Frequency) -> u32
@@ -92,6 +94,7 @@ impl RecurrenceParts {
             month_days: filled(month_days, 0),
             weekdays: parts_of_weekdays(weekdays),
             set_positions: filled(set_positions, 0),
+            unused: 0,
         }
     }
 
@@ -117,6 +120,7 @@ impl RecurrenceParts {
             month_days: [0; MAX],
             weekdays: [NO_WEEKDAY; MAX],
             set_positions: [0; MAX],
+            unused: 0,
         }
     }
 }

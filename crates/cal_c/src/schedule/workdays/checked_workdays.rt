@@ -3,8 +3,9 @@
 /// The maximum number of holidays.
 pub const MAX: usize = 1024;
 
-/// The number of indexes up to the maximum number of holidays.
-pub const MAX_INDEXES: usize = 1025;
+/// The number of indexes up to the maximum number of holidays, and one more, so that there is no
+/// padding.
+pub const MAX_INDEXES: usize = 1026;
 
 /// A weekmask and holidays. `fots_workdays_new` checks and fills it.
 #[repr(C)]

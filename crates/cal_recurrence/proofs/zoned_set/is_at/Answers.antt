@@ -2,7 +2,8 @@ use Rattle.std.proofs.Common.{◌∙◌, ◌-ℤ◌, pos, subst, sym}
 use Rattle.std.proofs.lemmas.Bool.{false≢true}
 use Rattle.cal_datetime.specs.OffsetDateTime.{instant}
 use Rattle.cal_recurrence.specs.ZonedSet.{IsFirstAfter, IsNextAfter, NoneAfter, Occurs}
-use Rattle.cal_recurrence.proofs.ZonedSearch.{eq-same, first-is, has, has-none, same-eq}
+use Rattle.cal_recurrence.proofs.ZonedSearch.{first-is, has, has-none}
+use Rattle.cal_recurrence.proofs.DateTimeSets.{eq-same, same-eq}
 use Rattle.cal_recurrence.proofs.zoned_set.is_at.Goals as goal
 
 pub returns-in-Some : goal.returns-in-Some

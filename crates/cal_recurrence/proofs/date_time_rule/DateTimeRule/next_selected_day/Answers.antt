@@ -4,7 +4,8 @@ use Rattle.cal_time.specs.SignedDuration.{day}
 use Rattle.cal_datetime.specs.DateTime.{last_date_time}
 use Rattle.cal_schedule.specs.Rule.{is_occurrence}
 use Rattle.cal_recurrence.specs.TimeSearch.{NoneIn, IsFirst, selects}
-use Rattle.cal_recurrence.proofs.SelectedReadings.{days-none, first-on_day, joined, never-selected, none-on_day, on-ranked}
+use Rattle.cal_recurrence.proofs.SelectedReadings.{days-none, first-on_day, never-selected, none-on_day, on-ranked}
+use Rattle.cal_recurrence.proofs.FirstNumbers.{joined}
 use Rattle.cal_recurrence.proofs.Sets.{next_day}
 use Rattle.cal_recurrence.proofs.TimePositions.{days-are, per_day, ranked}
 use Rattle.cal_recurrence.proofs.date_time_rule.DateTimeRule.next_selected_day.Goals as goal

@@ -1,4 +1,4 @@
-use Rattle.std.proofs.Common.{ℕ, List, [], ◌∷◌, Some, ◌++◌, ◌∙◌, ◌≡◌, ap, arith, length, refl, sym}
+use Rattle.std.proofs.Common.{ℕ, List, [], ◌∷◌, Some, ◌++◌, ◌≡◌, ap, arith, length, refl}
 use Rattle.std.specs.Prelude.{codes}
 use Rattle.cal_recurrence.specs.Buffers.{IsPut}
 use Rattle.cal_recurrence.specs.SetWritten.{line_end, set_text, values_text}
@@ -16,9 +16,7 @@ returns-clause-text c =
     let dates = values_text (codes "RDATE") p.zone c.as_slice.result.now in
     let exceptions = values_text (codes "EXDATE") p.zone c.as_slice-2.result.now in
     let same : set_text p ≡ start ++ written ++ dates ++ exceptions =
-    ap (λ text. start ++ rule text ++ values_text (codes "RDATE") p.zone p.dates ++ values_text (codes "EXDATE") p.zone p.exceptions) (sym (c.as_bytes.ensures.value ∙ c.text.ensures.text))
-    ∙ ap (λ ds. start ++ written ++ values_text (codes "RDATE") p.zone ds ++ values_text (codes "EXDATE") p.zone p.exceptions) (sym c.as_slice.ensures.values)
-    ∙ ap (λ ds. start ++ written ++ dates ++ values_text (codes "EXDATE") p.zone ds) (sym c.as_slice-2.ensures.values) in
+    rw (c.as_bytes.ensures.value, c.text.ensures.text, c.as_slice.ensures.values, c.as_slice-2.ensures.values) refl in
     let second : IsPut 0 (start ++ written) old c.put_rule.new.buffer (Some c.in_ok-next-2.next) =
     then_put 0 c.in_ok-next.next start written (start ++ written) old c.put_values.new.buffer c.put_rule.new.buffer (Some c.in_ok-next-2.next)
     (omega (arith, c.put_values.auto.buffer)) c.in_ok-next.ensures c.in_ok-next-2.ensures refl in

@@ -2,7 +2,7 @@ use Rattle.std.proofs.Common.{◌+◌, ◌+ℤ◌, sym, subst}
 use Rattle.std.specs.Prelude.{unsigned_abs}
 use Rattle.std.proofs.lemmas.Int.{to_z-of_z}
 use Rattle.cal_datetime.specs.OffsetDateTime.{unix_epoch}
-use Rattle.cal_recurrence.specs.ZonedSet.{IsNextAfter, IsNextReading, MeansAt}
+use Rattle.cal_recurrence.specs.ZonedSet.{IsNextAfter, IsNextCandidate, MeansAt}
 use Rattle.cal_recurrence.proofs.ZonedSearch.{begins, empty, ends, is-at, none-left, step, stops, up-to_next, Covered}
 use Rattle.cal_recurrence.proofs.zoned_set.ZonedSet.first_meant.Goals as goal
 
@@ -33,7 +33,7 @@ loop-next-preserved c =
     let set = c.args.self.now in
     let last = c.loop-next.last in
     let n = c.in-Some-next_reading.next in
-    let at : IsNextReading set (unsigned_abs last + 1) n = c.in-Some-next_reading.ensures in
+    let at : IsNextCandidate set (unsigned_abs last + 1) n = c.in-Some-next_reading.ensures in
     record {
       covered = subst (IsNextAfter (Covered set n) _) (sym c.earlier-first.ensures)
           (step set last n _ c.loop-next.first c.moment_after-moment.result c.loop-next.invariant.range at c.loop-next.invariant.covered c.moment_after-moment.ensures);

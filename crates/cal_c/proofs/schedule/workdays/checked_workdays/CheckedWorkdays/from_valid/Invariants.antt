@@ -7,7 +7,7 @@ abbrev pub invariant-loop-index : goal.invariant-loop-index
 invariant-loop-index l = record {
   weekmask : l.workdays.weekmask ≡ l.weekmask;
   holidays_length : length l.workdays.holidays ≡ 1024;
-  counts_length : length l.workdays.marked_before ≡ 1025;
+  counts_length : length l.workdays.marked_before ≡ 1026;
   held : take l.index l.workdays.holidays ≡ take l.index l.holidays;
   counts : (i : ℕ) → i ≤ l.index → get_or l.workdays.marked_before i 0 ≡ marked_count (work_week l.weekmask l.holidays) i;
   marked : l.marked ≡ marked_count (work_week l.weekmask l.holidays) l.index;

@@ -1,0 +1,76 @@
+//! Answers cases about date-times in a zone, one a line, for `tests/zoned`.
+
+use fotsevindre::error::LocalTimeError;
+use fotsevindre::zone::start_of_day;
+use fotsevindre::{Date, OffsetDateTime, Period, PlainDateTime, Policy, SignedDuration, Zone, ZonedDateTime};
+use std::collections::HashMap;
+use std::fmt::Write as _;
+use std::io::{self, Read, Write};
+
+const POLICIES: [Policy; 4] = [Policy::Compatible, Policy::Earlier, Policy::Later, Policy::Reject];
+
+fn main() -> io::Result<()> {
+    let mut cases = String::new();
+    io::stdin().read_to_string(&mut cases)?;
+    let mut zones = HashMap::new();
+    let mut answers = String::new();
+    for case in cases.lines() {
+        let words: Vec<&str> = case.split(' ').collect();
+        let zone: &'static Zone<'static> = zones.entry(words[1].to_owned()).or_insert_with(|| zone_of(words[1]));
+        let numbers: Vec<i64> = words[2..].iter().map(|word| word.parse().expect("a number")).collect();
+        writeln!(answers, "{}", answer(words[0], zone, &numbers)).expect("memory");
+    }
+    io::stdout().write_all(answers.as_bytes())
+}
+
+/// Returns the zone of a file, which is kept.
+fn zone_of(path: &str) -> &'static Zone<'static> {
+    let bytes = Vec::leak(std::fs::read(path).expect("a file"));
+    Box::leak(Box::new(Zone::parse(bytes).expect("a zone")))
+}
+
+fn answer(kind: &str, zone: &'static Zone<'static>, numbers: &[i64]) -> String {
+    match (kind, numbers) {
+        ("local", &[reading, policy]) => shown(ZonedDateTime::from_local(local(reading), zone, POLICIES[policy as usize])),
+        ("with", &[instant, reading, policy]) => shown(at(instant, zone).with_local(local(reading), POLICIES[policy as usize])),
+        ("period", &[instant, years, months, weeks, days, seconds, policy]) => {
+            let period = period(years, months, weeks, days, seconds);
+            shown(at(instant, zone).checked_add_period(period, POLICIES[policy as usize]))
+        }
+        ("start", &[day]) => shown(start_of_day(date(day), zone).ok_or(LocalTimeError::OutOfRange)),
+        ("length", &[instant]) => {
+            at(instant, zone).day_length().map_or("none".to_owned(), |length| length.whole_seconds().to_string())
+        }
+        ("step", &[day, years, months, weeks, days, n]) => {
+            let step = date(day).nth_period(period(years, months, weeks, days, 0), n as i32);
+            step.map_or("none".to_owned(), |date| (date.to_julian_day() - 2_440_588).to_string())
+        }
+        _ => panic!("an unknown case"),
+    }
+}
+
+fn shown(value: Result<ZonedDateTime<'_>, LocalTimeError>) -> String {
+    match value {
+        Ok(value) => format!("{} {}", value.unix_timestamp_nanos(), value.offset().whole_seconds()),
+        Err(error) => format!("{error:?}"),
+    }
+}
+
+fn date(day: i64) -> Date {
+    Date::from_julian_day(day as i32 + 2_440_588).expect("a date")
+}
+
+/// Returns the local date-time some microseconds after the start of 1970.
+fn local(microseconds: i64) -> PlainDateTime {
+    OffsetDateTime::from_unix_timestamp_nanos(i128::from(microseconds) * 1000).expect("a date-time").local()
+}
+
+/// Returns the date-time in a zone some microseconds after the start of 1970 in UTC.
+fn at<'z>(microseconds: i64, zone: &'z Zone<'z>) -> ZonedDateTime<'z> {
+    ZonedDateTime::from_unix_timestamp_nanos(i128::from(microseconds) * 1000, zone).expect("a date-time")
+}
+
+fn period(years: i64, months: i64, weeks: i64, days: i64, seconds: i64) -> Period {
+    let part = |number: i64| i32::try_from(number).expect("a part");
+    Period::new(part(years), part(months), part(weeks), part(days), SignedDuration::seconds(seconds)).expect("one sign")
+}
