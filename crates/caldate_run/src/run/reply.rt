@@ -251,6 +251,7 @@ fn push_line(
     requires line { HasRoom (length text.now + 1) buffer.old }
     ensures left { (line : List ℕ) → text.now ≡ text_of line
         → Leaves filter.now progress.now line result.1 result.0 buffer.old buffer.new }
+    ensures appends { (words : List ℕ) × (buffer.new ≡ buffer.old ++ words) }
     ensures short { length buffer.new ≤ length buffer.old + max (length text.now + 1) longest_out }
 {
     let number = progress.tally.lines;
@@ -357,6 +358,7 @@ fn push_skipped(
     ensures left { (before : ℕ) → number ≡ counted before → AppendsOut (IsLine filter.now.on_invalid
         (text_without (own_field filter.now before) text.now) (skipped filter.now before text.now) result.1)
         result.0 buffer.old buffer.new }
+    ensures appends { (words : List ℕ) × (buffer.new ≡ buffer.old ++ words) }
     ensures short { length buffer.new ≤ length buffer.old + longest_out }
 {
     match (filter.field, &filter.column) {

@@ -14,7 +14,7 @@ returns-clause-out t c =
     (fields_out c.args.filter.now c.args.field c.with_numbers.result c.args.fields.now _ c.args.text.now c.args.at c.field_piece-piece.result.1 c.field_piece-piece.result.0 c.push_piece-goes_out.result.1
     c.push_fields_from-goes_on.result.1 c.push_piece-goes_out.result.0 c.push_fields_from-goes_on.result.0 c.if-goes_out.both c.args.buffer.now c.push_piece-goes_out.new.buffer
     c.push_fields_from-goes_on.new.buffer c.keep.new.buffer c.len-start.result c.in-len1-up.len_at_least c.with_numbers.ensures c.field_piece-piece.ensures.piece c.field_piece-piece.ensures.end c.len-start.ensures
-    c.push_piece-goes_out.ensures.out c.push_fields_from-goes_on.ensures.out (elim c.if-goes_out.branch [ then-goes_out w ↦ w.both-is ∙ sym (ap (λ b. b && c.push_fields_from-goes_on.result.0) w.if-goes_out.true) | else-goes_out w ↦ w.both-is ∙ sym (ap (λ b. b && c.push_fields_from-goes_on.result.0) w.if-goes_out.false) ]) c.keep.ensures)
+    c.push_piece-goes_out.ensures.out c.push_fields_from-goes_on.ensures.out (elim c.if-goes_out.branch [ then-goes_out w ↦ w.both-is ∙ sym (ap (λ b. b && c.push_fields_from-goes_on.result.0) w.if-goes_out.true) | else-goes_out w ↦ w.both-is ∙ w.if-goes_out.false ∙ sym (ap (λ b. b && c.push_fields_from-goes_on.result.0) w.if-goes_out.false) ]) c.keep.ensures)
 
 pub returns-in_default-clause-out : goal.returns-in_default-clause-out
 returns-in_default-clause-out t c =

@@ -10,3 +10,14 @@ returns-then-progress-clause-left c = λ line is kept before held number.
       | then-progress-via-then-progress w ↦ inl w.if-progress.true
       | then-progress-via-else-progress+then-text-gt-LONGEST_TEXT w ↦ inr w.if-text-gt-LONGEST_TEXT.true
     ]) (c.own_field-field.ensures before number) c.push_in_place.ensures.text c.push_in_place.ensures.goes_out
+
+pub returns-then-filter-clause-left : goal.returns-then-filter-clause-left
+returns-then-filter-clause-left c = λ line is kept before held number.
+    let filter = c.args.filter.now in
+    let text = c.args.text.now in
+    short_left filter before c.args.progress.now.is_long kept line text c.args.buffer.now c.push_texts.new.buffer c.push_texts.result.1 c.push_texts.result.0 c.if-progress.false held is
+    (weaker _ _ _ _ _ (λ out h. of_scan filter before text c.push_texts.result.1 out (omega (arith, c.if-text-gt-LONGEST_TEXT.false)) (omega (arith, c.if-number-filter.false, number)) c.if-filter.true h)
+    c.push_texts.ensures.left)
+
+pub returns-then-filter-clause-appends : goal.returns-then-filter-clause-appends
+returns-then-filter-clause-appends c = (_, c.push_texts.ensures.left.1)
