@@ -64,7 +64,10 @@ mapped : (x : ℕ) (o : Option (List ℕ)) (n m : ℕ) → n + 1 ≤ m → Match
 mapped x None n m h k = tt
 mapped x (Some t) n m h k = omega (arith, h, k)
 
-one_few : (b : Bool) (x : ℕ) → MatchOption (cond b (Some {T = List ℕ} []) (None {T = List ℕ})) (Unit {0}) (λ (t : List ℕ). length t ≤ length (x ∷ []))
+abbrev last_text : Bool → Option (List ℕ)
+last_text closes = cond closes (Some []) None
+
+one_few : (b : Bool) (x : ℕ) → MatchOption (last_text b) (Unit {0}) (λ t. length t ≤ length (x ∷ []))
 one_few true x = omega arith
 one_few false x = tt
 
