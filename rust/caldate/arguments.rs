@@ -220,11 +220,13 @@ fn filter_text(filter: &Filter<'_>) -> String {
 }
 
 fn field_text(filter: &Filter<'_>, field: Field) -> String {
-    let more = filter.more.as_slice().iter().map(|numbers| (numbers.first, numbers.joined));
-    let fields: Vec<String> = core::iter::once((field.first, field.joined))
-        .chain(more)
-        .map(|(first, joined)| format!("{first}+{joined}"))
-        .collect();
+    // Fields have the order of a line, and their ranks that of the options.
+    let mut several: Vec<_> = filter.several.as_slice().iter().map(|field| (field.rank, field.numbers)).collect();
+    several.sort_by_key(|field| field.0);
+    let mut fields: Vec<String> = several.iter().map(|(_, numbers)| format!("{}+{}", numbers.first, numbers.joined)).collect();
+    if fields.is_empty() {
+        fields.push(format!("{}+{}", field.first, field.joined));
+    }
     let separator = [field.separator];
     let header: Vec<&[u8]> = NAMES.iter().map(|name| name.as_bytes()).collect();
     let numbers = match filter.names.numbers_in(field, &header.join(separator.as_slice())) {
