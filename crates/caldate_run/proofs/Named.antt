@@ -1,8 +1,9 @@
 -- Runs with names of fields.
 use denote.Ref.{Bor}
-use Rattle.std.proofs.Common.{◌≡◌, ◌⊎◌, ◌<◌, ◌∙◌, ℕ, ℤ, List, Bool, false, Option, Some, Result, Ok, Err, inl, inr, length, subst, sym}
-use Rattle.std.specs.Prelude.{MatchResult}
+use Rattle.std.proofs.Common.{◌≡◌, ◌⊎◌, ◌<◌, ◌∙◌, ℕ, ℤ, List, Bool, false, true, Option, Some, Result, Ok, Err, inl, inr, length, subst, sym}
+use Rattle.std.specs.Prelude.{MatchBool, MatchResult}
 use Rattle.caldate_run.specs.Ending.{Says}
+use Rattle.caldate_run.specs.Fields.{overlap}
 use Rattle.caldate_run.specs.Header.{EndsNamed, HasHeader, HasLine, header_of, numbered, numbers_in}
 use Rattle.caldate_run.specs.RunStates.{NoEnd}
 use Rattle.caldate_run.specs.declared.request.Field.{Field}
@@ -23,18 +24,23 @@ match_weaker : {A B : Type 0} (r : Result A B) (P P' : A → Type 0) (Q Q' : B �
 match_weaker (Ok a) P P' Q Q' f g h = f a h
 match_weaker (Err b) P P' Q Q' f g h = g b h
 
+either_weaker : (b : Bool) (P P' Q Q' : Type 0) → (P → P') → (Q → Q') → MatchBool b P Q → MatchBool b P' Q'
+either_weaker true P P' Q Q' f g h = f h
+either_weaker false P P' Q Q' f g h = g h
+
 ends_weaker : (filter : Filter) (field : Field) (left : Option (List ℕ)) (front : List ℕ) (Runs Runs' : Filter → Result Unit RunError → Type 0) (Stops Stops' : Bool → List ℕ → Type 0)
     → ((own : Filter) (outcome : Result Unit RunError) → Runs own outcome → Runs' own outcome) → ((failed : Bool) (words : List ℕ) → Stops failed words → Stops' failed words)
     → (failed : Bool)
     → (NoEnd (Some field) Ready front × ((words : List ℕ) × Says 2 words × Stops failed words))
-    ⊎ (HasHeader field left front × MatchResult (numbers_in filter field (header_of field front)) (λ numbers. (outcome : Result Unit RunError) × Runs (numbered filter field numbers) outcome)
+    ⊎ (HasHeader field left front × MatchResult (numbers_in filter field (header_of field front)) (λ numbers. MatchBool (overlap (numbered filter field numbers).several) ((words : List ℕ) × Says 2 words × Stops false words) ((outcome : Result Unit RunError) × Runs (numbered filter field numbers) outcome))
     (λ name. (words : List ℕ) × Says 2 words × Stops false words))
     → (NoEnd (Some field) Ready front × ((words : List ℕ) × Says 2 words × Stops' failed words))
-    ⊎ (HasHeader field left front × MatchResult (numbers_in filter field (header_of field front)) (λ numbers. (outcome : Result Unit RunError) × Runs' (numbered filter field numbers) outcome)
+    ⊎ (HasHeader field left front × MatchResult (numbers_in filter field (header_of field front)) (λ numbers. MatchBool (overlap (numbered filter field numbers).several) ((words : List ℕ) × Says 2 words × Stops' false words) ((outcome : Result Unit RunError) × Runs' (numbered filter field numbers) outcome))
     (λ name. (words : List ℕ) × Says 2 words × Stops' false words))
 ends_weaker filter field left front Runs Runs' Stops Stops' runs stops failed (inl h) = inl (h.0, (h.1.0, h.1.1, stops failed h.1.0 h.1.2))
 ends_weaker filter field left front Runs Runs' Stops Stops' runs stops failed (inr h) =
-    inr (h.0, match_weaker (numbers_in filter field (header_of field front)) _ _ _ _ (λ numbers r. (r.0, runs (numbered filter field numbers) r.0 r.1)) (λ name s. (s.0, s.1, stops false s.0 s.2)) h.1)
+    inr (h.0, match_weaker (numbers_in filter field (header_of field front)) _ _ _ _ (λ numbers. either_weaker (overlap (numbered filter field numbers).several) _ _ _ _ (λ s. (s.0, s.1, stops false s.0 s.2)) (λ r. (r.0, runs (numbered filter field numbers) r.0 r.1)))
+    (λ name s. (s.0, s.1, stops false s.0 s.2)) h.1)
 
 pub named_weaker : (filter : Filter) (field : Field) (old : Option (List ℕ)) (Runs Runs' : Filter → Result Unit RunError → Type 0) (Stops Stops' : Bool → List ℕ → Type 0)
     → ((own : Filter) (outcome : Result Unit RunError) → Runs own outcome → Runs' own outcome) → ((failed : Bool) (words : List ℕ) → Stops failed words → Stops' failed words)

@@ -26,8 +26,8 @@ within false = refl
 
 -- a byte within quotes
 one : (e c : ℕ) (s : Quoting) (x : ℕ) (quotes : Bool) (xs : List ℕ) → is_quote x ≡ quotes
-    → split_outside_quotes e c s Open (x ∷ xs) ≡ onto_first x (split_outside_quotes e c (cond quotes Ready Open) xs)
-one e c s x quotes xs is = goes e c s Open x xs (within (eqb x e)) ∙ ap (λ b. onto_first x (split_outside_quotes e c (cond b Ready Open) xs)) is
+    → split_outside_quotes e c s Open (x ∷ xs) ≡ onto_first x (split_outside_quotes e c s (cond quotes Ready Open) xs)
+one e c s x quotes xs is = goes e c s Open x xs (within (eqb x e)) ∙ ap (λ b. onto_first x (split_outside_quotes e c s (cond b Ready Open) xs)) is
 
 -- a quote that opens quotes
 opens : (e c : ℕ) (s : Quoting) (xs : List ℕ) → eqb 34 e ≡ false → split_outside_quotes e c s Ready (34 ∷ xs) ≡ onto_first 34 (split_outside_quotes e c s Open xs)
