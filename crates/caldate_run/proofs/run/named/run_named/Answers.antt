@@ -66,8 +66,8 @@ returns-then-overlap-clause-ended g c =
       );
     }
 
-pub returns-in-Ok-numbers_in-clause-ended : goal.returns-in-Ok-numbers_in-clause-ended
-returns-in-Ok-numbers_in-clause-ended g c =
+pub returns-else-overlap-clause-ended : goal.returns-else-overlap-clause-ended
+returns-else-overlap-clause-ended g c =
     let front = c.read_header.new.input in
     let numbers = c.in-Ok-numbers_in.numbers in
     let header : c.header_of-header.result.now ≡ header_of c.args.field front = (cc) in
@@ -97,5 +97,5 @@ returns-in-Err-clause-reads g c = (true, c.in-Err.ensures.failed)
 pub returns-in-Err-numbers_in-clause-reads : goal.returns-in-Err-numbers_in-clause-reads
 returns-in-Err-numbers_in-clause-reads g c = (false, c.in-Ok.ensures.reads false _ (no_more _ _))
 
-pub returns-in-Ok-numbers_in-clause-reads : goal.returns-in-Ok-numbers_in-clause-reads
-returns-in-Ok-numbers_in-clause-reads g c = (_, c.in-Ok.ensures.reads _ _ c.answer_input-outcome.ensures.ended.reads)
+pub returns-else-overlap-clause-reads : goal.returns-else-overlap-clause-reads
+returns-else-overlap-clause-reads g c = (_, c.in-Ok.ensures.reads _ _ c.answer_input-outcome.ensures.ended.reads)
