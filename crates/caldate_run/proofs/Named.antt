@@ -39,8 +39,11 @@ ends_weaker : (filter : Filter) (field : Field) (left : Option (List ℕ)) (fron
     (λ name. (words : List ℕ) × Says 2 words × Stops' false words))
 ends_weaker filter field left front Runs Runs' Stops Stops' runs stops failed (inl h) = inl (h.0, (h.1.0, h.1.1, stops failed h.1.0 h.1.2))
 ends_weaker filter field left front Runs Runs' Stops Stops' runs stops failed (inr h) =
-    inr (h.0, match_weaker (numbers_in filter field (header_of field front)) _ _ _ _ (λ numbers. either_weaker (overlap (numbered filter field numbers).several) _ _ _ _ (λ s. (s.0, s.1, stops false s.0 s.2)) (λ r. (r.0, runs (numbered filter field numbers) r.0 r.1)))
-    (λ name s. (s.0, s.1, stops false s.0 s.2)) h.1)
+    inr (
+      h.0,
+      match_weaker (numbers_in filter field (header_of field front)) _ _ _ _ (λ numbers. either_weaker (overlap (numbered filter field numbers).several) _ _ _ _ (λ s. (s.0, s.1, stops false s.0 s.2)) (λ r. (r.0, runs (numbered filter field numbers) r.0 r.1)))
+          (λ name s. (s.0, s.1, stops false s.0 s.2)) h.1,
+    )
 
 pub named_weaker : (filter : Filter) (field : Field) (old : Option (List ℕ)) (Runs Runs' : Filter → Result Unit RunError → Type 0) (Stops Stops' : Bool → List ℕ → Type 0)
     → ((own : Filter) (outcome : Result Unit RunError) → Runs own outcome → Runs' own outcome) → ((failed : Bool) (words : List ℕ) → Stops failed words → Stops' failed words)

@@ -165,9 +165,13 @@ long_left filter before true kept line text old new field goes h e long is put s
 long_left filter before false kept line text old new field goes h e (inl long) is put some = absurd (false≢true long)
 long_left filter before false kept line text old new field goes h e (inr long) is put some =
     let out = instead filter.on_invalid (text_without field text) (reason why.TooLong) in
-    short_left filter before false kept line text old new (Some why.TooLong) goes refl h e
-    (out, put, some, of_long filter before text (Some why.TooLong) out (lt-ltb 4096 (length text) long)
-    (refl, ap (λ f. instead filter.on_invalid (text_without f text) (reason why.TooLong)) is))
+    short_left filter before false kept line text old new (Some why.TooLong) goes refl h e (
+      out,
+      put,
+      some,
+      of_long filter before text (Some why.TooLong) out (lt-ltb 4096 (length text) long)
+          (refl, ap (λ f. instead filter.on_invalid (text_without f text) (reason why.TooLong)) is),
+    )
 
 -- what goes out after a front that was passed on, with the end of the line
 pub ended : (b : Bool) (kept line front old mid new words : List ℕ) (out : Option (List ℕ)) (goes cut : Bool) → IsDroppedFront b kept line → mid ≡ old ++ words

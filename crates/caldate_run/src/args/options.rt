@@ -190,7 +190,8 @@ fn option_of(word: &[u8]) -> Option<OptionName> {
 fn has_room_for(options: &Options<'_>, option: OptionName) -> bool {
     match option {
         OptionName::Invalid => options.on_invalid.is_none(),
-        OptionName::Field => options.fields.is_none() || options.more.as_slice().len() + 1 < MAX_FIELDS,
+        OptionName::Field => options.fields.is_none()
+            || options.more.as_slice().len() + 1 < MAX_FIELDS,
         OptionName::Append => options.append.is_none(),
         OptionName::Csv => !options.csv,
         OptionName::Header => !options.header,

@@ -30,10 +30,10 @@ impl<'a> Model for Piece<'a> {
     ghost Value = { TextPiece };
 
     ghost view = { λ piece. record {
-        kept = piece.kept.now ++ option_to_list piece.separator;
-        source = piece.source.now;
-        asked = option_map (λ part. field_text piece.csv part.now) piece.part;
-        rank = piece.rank
+      kept = piece.kept.now ++ option_to_list piece.separator;
+      source = piece.source.now;
+      asked = option_map (λ part. field_text piece.csv part.now) piece.part;
+      rank = piece.rank;
     } };
 
     ghost invariant = { λ piece. IfSome piece.part (λ part. length part.now ≤ longest_text) };

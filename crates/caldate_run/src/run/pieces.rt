@@ -116,11 +116,7 @@ fn push_fields_from(
 }
 
 /// Returns the reason whose option comes first.
-fn earlier(
-    rank: u8,
-    own: Option<NoAnswer>,
-    later: Option<(u8, NoAnswer)>,
-) -> Option<(u8, NoAnswer)>
+fn earlier(rank: u8, own: Option<NoAnswer>, later: Option<(u8, NoAnswer)>) -> Option<(u8, NoAnswer)>
     ensures { result ≡ earlier rank own later }
 {
     match (own, later) {

@@ -203,12 +203,7 @@ fn is_simple(filter: &Filter<'_>) -> bool
 /// Appends the text, which isn't a CSV record, with the answer in place of the field, and returns
 /// whether the line goes out. Appends nothing if there is no answer.
 #[inline(always)]
-fn push_field(
-    buffer: &mut Buffer,
-    filter: &Filter<'_>,
-    field: Field,
-    text: &[u8],
-) -> Option<bool>
+fn push_field(buffer: &mut Buffer, filter: &Filter<'_>, field: Field, text: &[u8]) -> Option<bool>
     requires room { HasRoom longest_reply buffer.old }
     requires fits { length text.now ≤ longest_text }
     requires own { filter.now.field ≡ Some field }
@@ -324,11 +319,7 @@ fn push_without(buffer: &mut Buffer, field: Option<Field>, text: &[u8])
 }
 
 /// Appends what goes out for a line whose texts are answered.
-fn push_texts(
-    buffer: &mut Buffer,
-    filter: &Filter<'_>,
-    text: &[u8],
-) -> (bool, Option<NoAnswer>)
+fn push_texts(buffer: &mut Buffer, filter: &Filter<'_>, text: &[u8]) -> (bool, Option<NoAnswer>)
     requires room { HasRoom longest_reply buffer.old }
     requires fits { length text.now ≤ longest_text }
     ensures left { AppendsOut (λ out. (answer : Answer) × IsScanned filter.now text.now answer

@@ -12,16 +12,20 @@ loop-error-init g c =
 
 pub returns-in-Err : goal.returns-in-Err
 returns-in-Err g c =
-    record { ended = ended_early g.R.Source.remaining g.R.Source.read_gives g.W.Sink.contents g.W.Sink.write_gives c.args.filter.now c.args.most c.loop-error.reads c.in-Err.error c.args.input.now c.args.reader.now c.loop-error.reader
-    c.args.writer.now c.loop-error.writer c.answer_read.new.writer c.loop-error.output c.loop-error.input c.loop-error.progress c.loop-error.invariant c.in-Err.ensures.err }
+    record {
+      ended = ended_early g.R.Source.remaining g.R.Source.read_gives g.W.Sink.contents g.W.Sink.write_gives c.args.filter.now c.args.most c.loop-error.reads c.in-Err.error c.args.input.now c.args.reader.now c.loop-error.reader
+          c.args.writer.now c.loop-error.writer c.answer_read.new.writer c.loop-error.output c.loop-error.input c.loop-error.progress c.loop-error.invariant c.in-Err.ensures.err;
+    }
 
 pub returns-then-reads-eq0 : goal.returns-then-reads-eq0
 returns-then-reads-eq0 g c =
     let zero : c.loop-error.reads ≡ 0 = omega arith in
     let run = after_lines g.R.Source.remaining g.R.Source.read_gives g.W.Sink.contents g.W.Sink.write_gives c.args.filter.now c.args.most c.loop-error.reads c.args.input.now c.args.reader.now c.loop-error.reader
     c.args.writer.now c.loop-error.writer c.answer_read.new.writer c.loop-error.output c.answer_read.new.output c.loop-error.input c.answer_read.new.input c.loop-error.progress c.answer_read.new.progress c.loop-error.invariant c.in-Ok.ensures.ok in
-    record { ended = ended_unfinished g.R.Source.remaining g.R.Source.read_gives g.W.Sink.contents g.W.Sink.write_gives c.args.filter.now c.args.most c.loop-error.reads c.args.input.now c.args.reader.now c.loop-error.reader
-    c.args.writer.now c.answer_read.new.writer c.answer_read.new.output c.answer_read.new.input c.answer_read.new.progress run c.in-Ok.ensures.none c.in-Ok.ensures.done c.in-Ok.ensures.no_end zero }
+    record {
+      ended = ended_unfinished g.R.Source.remaining g.R.Source.read_gives g.W.Sink.contents g.W.Sink.write_gives c.args.filter.now c.args.most c.loop-error.reads c.args.input.now c.args.reader.now c.loop-error.reader
+          c.args.writer.now c.answer_read.new.writer c.answer_read.new.output c.answer_read.new.input c.answer_read.new.progress run c.in-Ok.ensures.none c.in-Ok.ensures.done c.in-Ok.ensures.no_end zero;
+    }
 
 pub returns-in_err-read_more : goal.returns-in_err-read_more
 returns-in_err-read_more g c =
@@ -29,10 +33,12 @@ returns-in_err-read_more g c =
     let gives = c.in_err-read_more.ensures.gives in
     let run = after_lines g.R.Source.remaining g.R.Source.read_gives g.W.Sink.contents g.W.Sink.write_gives c.args.filter.now c.args.most c.loop-error.reads c.args.input.now c.args.reader.now c.loop-error.reader
     c.args.writer.now c.loop-error.writer c.answer_read.new.writer c.loop-error.output c.answer_read.new.output c.loop-error.input c.answer_read.new.input c.loop-error.progress c.answer_read.new.progress c.loop-error.invariant c.in-Ok.ensures.ok in
-    record { ended = as_read (λ r. HasEnded g.R.Source.remaining g.R.Source.read_gives g.W.Sink.contents g.W.Sink.write_gives c.args.filter.now c.args.most c.args.input.now r c.args.reader.now c.read_more.new.reader c.args.writer.now c.answer_read.new.writer)
-    c.from_residual.result is
-    (ended_unread g.R.Source.remaining g.R.Source.read_gives g.W.Sink.contents g.W.Sink.write_gives c.args.filter.now c.args.most c.loop-error.reads (c.loop-error.reads - 1) gives.0 c.args.input.now c.args.reader.now c.loop-error.reader c.read_more.new.reader
-    c.args.writer.now c.answer_read.new.writer c.answer_read.new.output c.answer_read.new.input c.answer_read.new.progress run c.in-Ok.ensures.none c.in-Ok.ensures.done c.in-Ok.ensures.no_end c.in_err-read_more.ensures.err.1 (omega arith) gives.1) }
+    record {
+      ended = as_read (λ r. HasEnded g.R.Source.remaining g.R.Source.read_gives g.W.Sink.contents g.W.Sink.write_gives c.args.filter.now c.args.most c.args.input.now r c.args.reader.now c.read_more.new.reader c.args.writer.now c.answer_read.new.writer)
+          c.from_residual.result is
+          (ended_unread g.R.Source.remaining g.R.Source.read_gives g.W.Sink.contents g.W.Sink.write_gives c.args.filter.now c.args.most c.loop-error.reads (c.loop-error.reads - 1) gives.0 c.args.input.now c.args.reader.now c.loop-error.reader c.read_more.new.reader
+          c.args.writer.now c.answer_read.new.writer c.answer_read.new.output c.answer_read.new.input c.answer_read.new.progress run c.in-Ok.ensures.none c.in-Ok.ensures.done c.in-Ok.ensures.no_end c.in_err-read_more.ensures.err.1 (omega arith) gives.1);
+    }
 
 pub returns-in-Ok-answer_last : goal.returns-in-Ok-answer_last
 returns-in-Ok-answer_last g c =
@@ -40,9 +46,11 @@ returns-in-Ok-answer_last g c =
     c.args.writer.now c.loop-error.writer c.answer_read.new.writer c.loop-error.output c.answer_read.new.output c.loop-error.input c.answer_read.new.input c.loop-error.progress c.answer_read.new.progress c.loop-error.invariant c.in-Ok.ensures.ok in
     let last = after_end g.R.Source.remaining g.R.Source.read_gives g.W.Sink.contents g.W.Sink.write_gives c.args.filter.now c.args.most c.loop-error.reads _ c.args.input.now c.args.reader.now c.loop-error.reader c.read_more.new.reader
     c.args.writer.now c.answer_read.new.writer c.answer_read.new.output c.answer_read.new.input c.read_more.new.self c.answer_read.new.progress run c.in_ok-read_more.ensures.given c.if-branch-eq0.true c.in_ok-read_more.ensures.gives in
-    record { ended = ended_whole g.R.Source.remaining g.R.Source.read_gives g.W.Sink.contents g.W.Sink.write_gives c.args.filter.now c.args.most c.loop-error.reads c.outcome.result c.answer_last.new.progress.tally c.args.input.now c.args.reader.now c.read_more.new.reader
-    c.args.writer.now c.answer_read.new.writer c.answer_last.new.writer c.answer_read.new.output c.read_more.new.self c.answer_read.new.progress last
-    (c.in_ok-read_more.ensures.end c.if-branch-eq0.true).0 (rw c.as_bytes.ensures.value at c.in-Ok-answer_last.ensures.ok) c.outcome.ensures.ok c.outcome.ensures.err }
+    record {
+      ended = ended_whole g.R.Source.remaining g.R.Source.read_gives g.W.Sink.contents g.W.Sink.write_gives c.args.filter.now c.args.most c.loop-error.reads c.outcome.result c.answer_last.new.progress.tally c.args.input.now c.args.reader.now c.read_more.new.reader
+          c.args.writer.now c.answer_read.new.writer c.answer_last.new.writer c.answer_read.new.output c.read_more.new.self c.answer_read.new.progress last
+          (c.in_ok-read_more.ensures.end c.if-branch-eq0.true).0 (rw c.as_bytes.ensures.value at c.in-Ok-answer_last.ensures.ok) c.outcome.ensures.ok c.outcome.ensures.err;
+    }
 
 pub returns-in-Err-answer_last : goal.returns-in-Err-answer_last
 returns-in-Err-answer_last g c =
@@ -50,9 +58,11 @@ returns-in-Err-answer_last g c =
     c.args.writer.now c.loop-error.writer c.answer_read.new.writer c.loop-error.output c.answer_read.new.output c.loop-error.input c.answer_read.new.input c.loop-error.progress c.answer_read.new.progress c.loop-error.invariant c.in-Ok.ensures.ok in
     let last = after_end g.R.Source.remaining g.R.Source.read_gives g.W.Sink.contents g.W.Sink.write_gives c.args.filter.now c.args.most c.loop-error.reads _ c.args.input.now c.args.reader.now c.loop-error.reader c.read_more.new.reader
     c.args.writer.now c.answer_read.new.writer c.answer_read.new.output c.answer_read.new.input c.read_more.new.self c.answer_read.new.progress run c.in_ok-read_more.ensures.given c.if-branch-eq0.true c.in_ok-read_more.ensures.gives in
-    record { ended = ended_last g.R.Source.remaining g.R.Source.read_gives g.W.Sink.contents g.W.Sink.write_gives c.args.filter.now c.args.most c.loop-error.reads c.in-Err-answer_last.error c.args.input.now c.args.reader.now c.read_more.new.reader
-    c.args.writer.now c.answer_read.new.writer c.answer_last.new.writer c.answer_read.new.output c.read_more.new.self c.answer_read.new.progress last
-    (c.in_ok-read_more.ensures.end c.if-branch-eq0.true).0 (rw c.as_bytes.ensures.value at c.in-Err-answer_last.ensures.err) }
+    record {
+      ended = ended_last g.R.Source.remaining g.R.Source.read_gives g.W.Sink.contents g.W.Sink.write_gives c.args.filter.now c.args.most c.loop-error.reads c.in-Err-answer_last.error c.args.input.now c.args.reader.now c.read_more.new.reader
+          c.args.writer.now c.answer_read.new.writer c.answer_last.new.writer c.answer_read.new.output c.read_more.new.self c.answer_read.new.progress last
+          (c.in_ok-read_more.ensures.end c.if-branch-eq0.true).0 (rw c.as_bytes.ensures.value at c.in-Err-answer_last.ensures.err);
+    }
 
 pub loop-error-preserved : goal.loop-error-preserved
 loop-error-preserved g c =

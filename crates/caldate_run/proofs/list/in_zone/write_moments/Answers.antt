@@ -12,13 +12,16 @@ use Rattle.caldate_run.proofs.Outputs.{new_output, taken_all}
 use Rattle.caldate_run.proofs.list.in_zone.write_moments.Goals as goal
 
 pub loop-moment-init : goal.loop-moment-init
-loop-moment-init g c = ((
-  [],
-  instant c.args.first -ℤ pos 1,
-  new_output g.W.Sink.contents g.W.Sink.write_gives _ c.new-output.result c.new-output.ensures.buffer c.new-output.ensures.outcome,
-  c.first_from-next.ensures.value,
-  λ all items are. (items, are, refl),
-), c.first_from-next.ensures.same)
+loop-moment-init g c = (
+  (
+    [],
+    instant c.args.first -ℤ pos 1,
+    new_output g.W.Sink.contents g.W.Sink.write_gives _ c.new-output.result c.new-output.ensures.buffer c.new-output.ensures.outcome,
+    c.first_from-next.ensures.value,
+    λ all items are. (items, are, refl),
+  ),
+  c.first_from-next.ensures.same,
+)
 
 pub loop-moment-preserved : goal.loop-moment-preserved
 loop-moment-preserved g c =
