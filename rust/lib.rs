@@ -58,6 +58,7 @@ mod std_clock;
 #[cfg(feature = "std")]
 mod std_zones;
 mod values;
+mod zoned;
 mod zones;
 
 /// Traits with laws have a trait of this module above them. Other crates can't name it, so they

@@ -52,11 +52,13 @@ pub fn link(source: &Source, at: usize, edits: &mut Edits) {
 }
 
 /// Returns the targets of links to functions that are methods, each with the place after its link.
+/// A link to a function of another crate has the name of that crate.
 fn links(krate: &str, text: &str) -> Vec<(usize, String)> {
     let mut found = Vec::new();
-    for (_, owner, names) in METHODS.iter().filter(|row| row.0 == krate) {
+    for (of, owner, names) in METHODS {
+        let path = if *of == krate { String::new() } else { format!("{of}::") };
         for name in *names {
-            let link = format!("[`{name}`]");
+            let link = format!("[`{path}{name}`]");
             let places = text.match_indices(&link).map(|(start, _)| start + link.len());
             found.extend(places.filter(|end| !text[*end..].starts_with('(')).map(|end| (end, format!("(crate::{owner}::{name})"))));
         }

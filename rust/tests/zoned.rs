@@ -2,7 +2,9 @@
 
 use fotsevindre::error::{LocalTimeError, PeriodError};
 use fotsevindre::zone::start_of_day;
-use fotsevindre::{Date, Month, Period, PlainDateTime, Policy, SignedDuration, Time, Zone, ZonedDateTime};
+use fotsevindre::{
+    Date, Month, OffsetDateTime, Period, PlainDateTime, Policy, SignedDuration, Time, UtcOffset, Zone, ZonedDateTime,
+};
 
 const CET: &str = "CET-1CEST,M3.5.0,M10.5.0/3";
 const POLICIES: [Policy; 4] = [Policy::Compatible, Policy::Earlier, Policy::Later, Policy::Reject];
@@ -116,4 +118,49 @@ fn periods_of_dates() {
     assert_eq!(Period::new(1, -1, 0, 0, SignedDuration::ZERO), None);
     let start = reading("2024-01-31 23:30:00");
     assert_eq!(start.checked_add_period(period(0, 1, 0, 0, 1)), Some(reading("2024-03-01 0:30:00")));
+}
+
+#[test]
+fn parts_of_date_times() {
+    let berlin = Zone::parse_posix(CET).unwrap();
+    // The instant of the documentation: 2024-03-31 1:00 UTC.
+    let change = ZonedDateTime::from_unix_timestamp_nanos(1_711_846_800_000_000_000, &berlin).unwrap();
+    assert_eq!((change.date().to_string().as_str(), change.time()), ("2024-03-31", Time::from_hms(3, 0, 0).unwrap()));
+    assert_eq!((change.offset(), change.zone()), (UtcOffset::from_hms(2, 0, 0).unwrap(), &berlin));
+    assert_eq!(change.unix_timestamp_nanos(), 1_711_846_800_000_000_000);
+    assert_eq!((change.to_string(), format!("{change:>30}")), ("2024-03-31 3:00:00.0 +02:00:00".into(), change.to_string()));
+    assert_eq!(format!("{change:>32}"), format!("  {change}"));
+    assert_eq!(OffsetDateTime::from(change), change.to_offset_date_time());
+    // In the fold the offset stays. In the gap the policy decides.
+    let winter = ZonedDateTime::from_local(reading("2024-12-01 2:30:00"), &berlin, Policy::Reject).unwrap();
+    let autumn = Date::from_calendar_date(2024, Month::October, 27).unwrap();
+    assert_eq!(shown(winter.with_date(autumn, Policy::Earlier)).unwrap(), "2024-10-27 2:30:00.0 +01:00:00");
+    assert_eq!(shown(winter.with_local(reading("2024-03-31 2:30:00"), Policy::Reject)), Err(LocalTimeError::Skipped));
+}
+
+#[test]
+fn parts_of_periods() {
+    let parts = |period: Period| (period.years(), period.months(), period.weeks(), period.days(), period.duration());
+    let (hour, zero) = (SignedDuration::HOUR, SignedDuration::ZERO);
+    let all = Period::new(-1, -14, -2, -8, -hour).unwrap();
+    assert_eq!(parts(all), (-1, -14, -2, -8, -hour));
+    assert_eq!((all.whole_months(), all.whole_days()), (-26, -22));
+    assert_eq!(parts(Period::from_years(3)), (3, 0, 0, 0, zero));
+    assert_eq!(parts(Period::from_months(-3)), (0, -3, 0, 0, zero));
+    assert_eq!(parts(Period::from_weeks(3)), (0, 0, 3, 0, zero));
+    assert_eq!(parts(Period::from_days(-3)), (0, 0, 0, -3, zero));
+    assert_eq!(parts(Period::from_duration(hour)), (0, 0, 0, 0, hour));
+    assert_eq!(Period::from(hour), Period::from_duration(hour));
+    // Parts are kept as they are given.
+    assert_ne!(Period::from_years(1), Period::from_months(12));
+}
+
+#[test]
+fn errors_print() {
+    let printed = |error: &dyn std::error::Error| error.to_string();
+    assert_eq!(printed(&LocalTimeError::Skipped), "the clocks skip the local time");
+    assert_eq!(printed(&LocalTimeError::Repeated), "the clocks show the local time twice");
+    assert_eq!(printed(&LocalTimeError::OutOfRange), "the local time is out of range");
+    assert_eq!(printed(&PeriodError::HasDuration), "a period with a duration can't be added to a date");
+    assert_eq!(printed(&PeriodError::OutOfRange), "the resulting date is out of range");
 }

@@ -1,10 +1,11 @@
 //! Answers cases about date-times in a zone, one a line, for `tests/zoned`.
 
-use fotsevindre::error::LocalTimeError;
+use fotsevindre::error::{LocalTimeError, PeriodError};
 use fotsevindre::zone::start_of_day;
 use fotsevindre::{Date, OffsetDateTime, Period, PlainDateTime, Policy, SignedDuration, Zone, ZonedDateTime};
 use std::collections::HashMap;
 use std::fmt::Write as _;
+use std::hash::{BuildHasher, RandomState};
 use std::io::{self, Read, Write};
 
 const POLICIES: [Policy; 4] = [Policy::Compatible, Policy::Earlier, Policy::Later, Policy::Reject];
@@ -32,7 +33,8 @@ fn zone_of(path: &str) -> &'static Zone<'static> {
 fn answer(kind: &str, zone: &'static Zone<'static>, numbers: &[i64]) -> String {
     match (kind, numbers) {
         ("local", &[reading, policy]) => shown(ZonedDateTime::from_local(local(reading), zone, POLICIES[policy as usize])),
-        ("with", &[instant, reading, policy]) => shown(at(instant, zone).with_local(local(reading), POLICIES[policy as usize])),
+        ("time", &[instant, time, policy]) => shown(at(instant, zone).with_time(local(time).time(), POLICIES[policy as usize])),
+        ("date", &[instant, day, policy]) => shown(at(instant, zone).with_date(date(day), POLICIES[policy as usize])),
         ("period", &[instant, years, months, weeks, days, seconds, policy]) => {
             let period = period(years, months, weeks, days, seconds);
             shown(at(instant, zone).checked_add_period(period, POLICIES[policy as usize]))
@@ -41,9 +43,16 @@ fn answer(kind: &str, zone: &'static Zone<'static>, numbers: &[i64]) -> String {
         ("length", &[instant]) => {
             at(instant, zone).day_length().map_or("none".to_owned(), |length| length.whole_seconds().to_string())
         }
+        ("order", &[first, second]) => order(at(first, zone), at(second, &Zone::parse_posix("UTC0").expect("a zone"))),
+        ("plain", &[reading, years, months, weeks, days, seconds]) => {
+            let later = local(reading).checked_add_period(period(years, months, weeks, days, seconds));
+            later.map_or("none".to_owned(), |later| later.assume_utc().unix_timestamp_nanos().to_string())
+        }
+        ("day", &[day, years, months, weeks, days, seconds]) => {
+            julian_day(date(day).checked_add_period(period(years, months, weeks, days, seconds)))
+        }
         ("step", &[day, years, months, weeks, days, n]) => {
-            let step = date(day).nth_period(period(years, months, weeks, days, 0), n as i32);
-            step.map_or("none".to_owned(), |date| (date.to_julian_day() - 2_440_588).to_string())
+            julian_day(date(day).nth_period(period(years, months, weeks, days, 0), n as i32))
         }
         _ => panic!("an unknown case"),
     }
@@ -52,6 +61,22 @@ fn answer(kind: &str, zone: &'static Zone<'static>, numbers: &[i64]) -> String {
 fn shown(value: Result<ZonedDateTime<'_>, LocalTimeError>) -> String {
     match value {
         Ok(value) => format!("{} {}", value.unix_timestamp_nanos(), value.offset().whole_seconds()),
+        Err(error) => format!("{error:?}"),
+    }
+}
+
+/// Compares two instants: their order, whether they are equal and hash alike, and the duration.
+fn order(first: ZonedDateTime<'_>, second: ZonedDateTime<'_>) -> String {
+    let hasher = RandomState::new();
+    let is_alike = hasher.hash_one(first) == hasher.hash_one(second);
+    let nanoseconds = first.duration_since(&second).whole_nanoseconds();
+    format!("{:?} {} {is_alike} {nanoseconds}", first.cmp(&second), first == second)
+}
+
+/// Returns the day of a result since 1970-01-01, or the error.
+fn julian_day(result: Result<Date, PeriodError>) -> String {
+    match result {
+        Ok(date) => (date.to_julian_day() - 2_440_588).to_string(),
         Err(error) => format!("{error:?}"),
     }
 }
