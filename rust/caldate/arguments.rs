@@ -215,7 +215,10 @@ fn filter_text(filter: &Filter<'_>) -> String {
     let Some(first) = Date::from_calendar_date(2024, Month::March, 25).ok() else {
         return "no date".into();
     };
-    parts.push(format!("workdays={}", filter.workdays.workdays_between(first, first.saturating_add(cal_time::SignedDuration::days(14)))));
+    parts.push(format!(
+        "workdays={}",
+        filter.workdays.workdays_between(first, first.saturating_add(cal_time::SignedDuration::days(14)))
+    ));
     parts.join(" ")
 }
 
@@ -233,13 +236,7 @@ fn field_text(filter: &Filter<'_>, field: Field) -> String {
         Ok(numbers) => format!("{numbers:?}"),
         Err(name) => format!("no {}", String::from_utf8_lossy(name)),
     };
-    format!(
-        "fields={} names={numbers} separator={} csv={} appends={}",
-        fields.join(","),
-        field.separator,
-        field.csv,
-        field.appends
-    )
+    format!("fields={} names={numbers} separator={} csv={} appends={}", fields.join(","), field.separator, field.csv, field.appends)
 }
 
 fn reader_text(reader: &Reader) -> String {
