@@ -90,6 +90,15 @@ fn days_in_zones() {
     let skipped = Zone::parse_posix("<-03>3<-02>,M9.1.0/0,M4.1.0/0").unwrap();
     let start = start_of_day(Date::from_calendar_date(2024, Month::September, 1).unwrap(), &skipped).unwrap();
     assert_eq!(start.to_offset_date_time().to_string(), "2024-09-01 1:00:00.0 -02:00:00");
+    // Clocks that go from 23:30 to 0:30, as in Toronto in 1919, and clocks that show midnight twice.
+    for (text, month, day, wanted) in [
+        ("<-05>5<-04>,M3.5.0/23:30,M10.5.0", Month::April, 1, "2024-04-01 0:30:00.0 -04:00:00"),
+        ("<-05>5<-04>,M3.2.0,M11.1.0/0:01", Month::November, 3, "2024-11-03 0:00:00.0 -04:00:00"),
+    ] {
+        let zone = Zone::parse_posix(text).unwrap();
+        let start = start_of_day(Date::from_calendar_date(2024, month, day).unwrap(), &zone).unwrap();
+        assert_eq!(start.to_string(), wanted, "{text}");
+    }
 }
 
 #[test]
