@@ -23,7 +23,7 @@ mod order;
 ///
 /// It is in the range if what the clocks show is. Date-times in zones compare and hash by their
 /// instants, whatever their zones are.
-#[derive(Drop)]
+#[derive(Debug, Drop)]
 pub struct ZonedDateTime<'z> {
     pub(crate) zone: &'z Zone<'z>,
     pub(crate) moment: OffsetDateTime,
