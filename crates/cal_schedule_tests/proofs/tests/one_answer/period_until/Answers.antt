@@ -1,7 +1,7 @@
 use Rattle.std.proofs.Common.{◌≡◌, arith, inl, inr}
 use Rattle.std.proofs.lemmas.Bool.{cases_lt}
 use Rattle.std.proofs.lemmas.Int.{ints}
-use Rattle.cal_schedule.specs.Until.{months_of}
+use Rattle.cal_schedule.specs.Period.{months_of}
 use Rattle.cal_schedule.proofs.OneAnswer.{period-one, until-one}
 use Rattle.cal_schedule_tests.proofs.tests.one_answer.period_until.Goals as goal
 
