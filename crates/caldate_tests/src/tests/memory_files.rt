@@ -13,6 +13,7 @@ const GMT_1: &[u8] =
     b"TZif2\0\0\0\0\0\0\0\0\0\0\0\0\0\0\0\0\0\0\0\0\0\0\0\0\0\0\0\0\0\0\0\0\0\0\x01\0\0\0\x04\0\0\x0e\x10\0\0+01\0TZif2\0\0\0\0\0\0\0\0\0\0\0\0\0\0\0\0\0\0\0\0\0\0\0\0\0\0\0\0\0\0\0\0\0\0\x01\0\0\0\x04\0\0\x0e\x10\0\0+01\0\n<+01>-1\n";
 
 /// The file of the zone `Etc/GMT-1`, and no other.
+#[derive(Drop)]
 pub struct MemoryFiles;
 
 impl<'a> DataFiles<'a> for MemoryFiles {
