@@ -113,6 +113,24 @@ fn instants_compare_in_all_zones() {
     assert!(noon.checked_sub(hour).unwrap() < there);
     let last = ZonedDateTime::from_offset_date_time(PlainDateTime::MAX.assume_utc(), &utc).unwrap();
     assert_eq!((last.in_zone(&berlin), last.checked_add(SignedDuration::NANOSECOND)), (None, None));
+    // The day after the last date has no start.
+    assert_eq!(last.day_length(), None);
+}
+
+#[test]
+fn examples_of_the_documentation() {
+    let berlin = Zone::parse_posix(CET).unwrap();
+    let later = ZonedDateTime::from_local(reading("2024-10-27 2:30:00"), &berlin, Policy::Later).unwrap();
+    for policy in POLICIES {
+        let moved = later.with_time(Time::from_hms(2, 45, 0).unwrap(), policy);
+        assert_eq!(shown(moved).as_deref(), Ok("2024-10-27 2:45:00.0 +01:00:00"), "{policy:?}");
+    }
+    let before = ZonedDateTime::from_local(reading("2024-03-30 2:30:00"), &berlin, Policy::Reject).unwrap();
+    let moved = before.with_date(Date::from_calendar_date(2024, Month::March, 31).unwrap(), Policy::Compatible).unwrap();
+    assert_eq!(moved.to_string(), "2024-03-31 3:30:00.0 +02:00:00");
+    let earlier = moved.checked_sub(SignedDuration::HOUR).unwrap();
+    assert_eq!(earlier.to_string(), "2024-03-31 1:30:00.0 +01:00:00");
+    assert_eq!(moved.duration_since(&earlier), SignedDuration::HOUR);
 }
 
 #[test]

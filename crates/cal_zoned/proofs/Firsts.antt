@@ -2,7 +2,7 @@
 use Rattle.std.proofs.Common.{◌≡◌, ℕ, suc, ◌+◌, ◌-◌, ◌<◌, ◌≤◌, length, refl, sym, ap, ◌∙◌, subst, arith, inl, inr}
 use Rattle.std.proofs.lemmas.Int.{ints, clamps, by_lt_z}
 use Rattle.std.proofs.lemmas.Bool.{cases_lt, cases_eq}
-use Rattle.std.specs.Prelude.{Option, Some, None, SomeIff, IfSome, ◌↔◌, ◌⊎◌, ℤ, pos, ◌<ℤ◌, ◌≤ℤ◌, ◌+ℤ◌, ◌-ℤ◌, ◌*ℤ◌}
+use Rattle.std.specs.Prelude.{Option, Some, None, SomeIff, IfNone, IfSome, ◌↔◌, ◌⊎◌, ℤ, pos, ◌<ℤ◌, ◌≤ℤ◌, ◌+ℤ◌, ◌-ℤ◌, ◌*ℤ◌}
 use Rattle.std.specs.Int.{int_min, int_max, int_rem_euclid}
 use Rattle.cal_time.specs.SignedDuration.{second}
 use Rattle.cal_datetime.specs.OffsetDateTime.{LocalAndOffset, instant, unix_epoch, unix_seconds, epoch_day}
@@ -297,6 +297,21 @@ start-one zone M a b p q =
     let e = first_from-one zone M p.instant q.instant p.first q.first in
     same_value (at_instant zone q.instant) (IsDateTime (reading_at zone q.instant)) a b
     (subst (λ (z : ℤ). SomeIff a (IsDateTime (reading_at zone z)) (at_instant zone z)) e p.value) q.value
+
+pub if_none : (r : Option ℤ) (A : Type 0) → A → IfNone r A
+if_none None A a = a
+if_none (Some z) A a = tt
+
+IsNone : Option InZone → Type 0
+IsNone None = Unit {0}
+IsNone (Some v) = ⊥
+
+-- a start that is out of range is no date-time
+pub no_start : (zone other : Timeline) (n m : ℕ) (v : InZone) → zone ≡ other → m ≡ n → IsStart zone (date_time m 0) None → IsStart other (date_time n 0) (Some v) → ⊥
+unfolding IsNone
+no_start zone other n m v same day out start =
+    let own = subst (λ (t : Timeline). IsStart t (date_time n 0) None) same (subst (λ (k : ℕ). IsStart zone (date_time k 0) None) day out) in
+    subst IsNone (start-one other (date_time n 0) None (Some v) own start) tt
 
 -- ---- if clocks show the date at all, they show it at its start
 pub start_shows : (zone : Timeline) → Order zone → (M z y : ℤ) → IsFirstFrom zone M z → M ≤ℤ reading_at zone y → z ≤ℤ y

@@ -1,5 +1,6 @@
 -- Days in a zone.
-use Rattle.std.specs.Prelude.{ℤ, ℕ, ◌+◌, ◌-ℤ◌, ◌≡◌, ◌≤ℤ◌, ◌<ℤ◌, Option, SomeIff}
+use Rattle.std.specs.Prelude.{ℤ, ℕ, ◌+◌, ◌-ℤ◌, ◌≡◌, ◌≤ℤ◌, ◌<ℤ◌, Option, Some, SomeIff}
+use Rattle.cal_time.specs.Date.{IsDate}
 use Rattle.cal_datetime.specs.DateTime.{IsDateTime, date_time}
 use Rattle.cal_zone.specs.Timeline.{Timeline}
 use Rattle.cal_zoned.specs.Zoned.{InZone, at_instant, reading_at}
@@ -24,3 +25,11 @@ pub record IsDayLength (zone : Timeline) (n : ℕ) (d : ℤ) : Type 0 where
   pub from : IsFirstFrom zone (date_time n 0) start
   pub to : IsFirstFrom zone (date_time (n + 1) 0) end
   pub length : d ≡ end -ℤ start
+
+-- Day n has a length: the next day is in the range, and so is what the clocks show at both starts.
+pub record HasDayLength (zone : Timeline) (n : ℕ) : Type 0 where
+  pub next : IsDate (n + 1)
+  pub start : InZone
+  pub end : InZone
+  pub from : IsStart zone (date_time n 0) (Some start)
+  pub to : IsStart zone (date_time (n + 1) 0) (Some end)

@@ -63,7 +63,8 @@ impl<'z> ZonedDateTime<'z> {
     }
 
     /// Creates a date-time in a zone from a date-time at an offset, at the same instant. Returns
-    /// `None` if what the clocks of the zone show then is out of range.
+    /// `None` if what the clocks of the zone show then is out of range. In Berlin 2024-07-01 10:00
+    /// +00:00:00 is 12:00 +02:00:00.
     pub fn from_offset_date_time(moment: OffsetDateTime, zone: &'z Zone<'z>) -> Option<Self>
         ensures { let z = instant moment
             in SomeIff result (IsDateTime (reading_at zone.now z)) (at_instant zone.now z) }
@@ -164,7 +165,7 @@ impl<'z> ZonedDateTime<'z> {
     }
 
     /// Converts to another zone, at the same instant. Returns `None` if what its clocks show then is
-    /// out of range.
+    /// out of range. 2024-07-01 12:00 in Berlin is 10:00 in UTC.
     pub fn in_zone<'o>(&self, zone: &'o Zone<'o>) -> Option<ZonedDateTime<'o>>
         ensures { let z = instant_in self.now
             in SomeIff result (IsDateTime (reading_at zone.now z)) (at_instant zone.now z) }

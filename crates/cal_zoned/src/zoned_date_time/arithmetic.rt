@@ -20,7 +20,7 @@ impl<'z> ZonedDateTime<'z> {
     }
 
     /// Subtracts a duration from the instant. Returns `None` if what the clocks show then is out of
-    /// range.
+    /// range. In Berlin an hour before 2024-03-31 3:30 +02:00:00 is 1:30 +01:00:00.
     pub fn checked_sub(&self, duration: SignedDuration) -> Option<Self>
         ensures { let z = instant_in self.now -ℤ duration
             in SomeIff result (IsDateTime (reading_at self.now.zone z)) (at_instant self.now.zone z) }
@@ -31,7 +31,8 @@ impl<'z> ZonedDateTime<'z> {
         )
     }
 
-    /// Returns the duration since another instant, in any zone.
+    /// Returns the duration since another instant, in any zone. In Berlin it is an hour from
+    /// 2024-03-31 1:30 +01:00:00 to 3:30 +02:00:00.
     pub fn duration_since(&self, earlier: &ZonedDateTime<'_>) -> SignedDuration
         ensures { result ≡ instant_in self.now -ℤ instant_in earlier.now }
     {

@@ -1,7 +1,7 @@
 //! The day of a date-time in a zone.
-ghost use Rattle.std.specs.Prelude.{◌≡◌, ◌-ℤ◌, ◌<◌, ◌^◌, unsigned_abs, IfSome};
+ghost use Rattle.std.specs.Prelude.{◌≡◌, IfNone, IfSome};
 ghost use Rattle.cal_datetime.specs.DateTime.{date_at, date_time};
-ghost use Rattle.cal_zoned.specs.Day.{IsDayLength, IsStart};
+ghost use Rattle.cal_zoned.specs.Day.{HasDayLength, IsDayLength, IsStart};
 
 use crate::{ZonedDateTime, start_of_day};
 use cal_time::SignedDuration;
@@ -18,9 +18,10 @@ impl<'z> ZonedDateTime<'z> {
 
     /// Returns the length of the day, from its start to the start of the next day. In Berlin it is
     /// 23 hours for 2024-03-31, and 25 hours for 2024-10-27. Returns `None` if one of the two starts
-    /// is out of range.
+    /// is out of range, as for the last date.
     pub fn day_length(&self) -> Option<SignedDuration>
         ensures value { IfSome result (IsDayLength self.now.zone (date_at self.now.moment.local)) }
+        ensures none { IfNone result (¬ (HasDayLength self.now.zone (date_at self.now.moment.local))) }
     {
         let date = self.date();
         let next = date.next_day()?;

@@ -37,7 +37,8 @@ impl<'z> ZonedDateTime<'z> {
         }
     }
 
-    /// Replaces the time of day that the clocks show, as [`ZonedDateTime::with_local`] does.
+    /// Replaces the time of day that the clocks show, as [`ZonedDateTime::with_local`] does. In
+    /// Berlin 2024-10-27 2:30 +01:00:00 with the time 2:45 is 2:45 +01:00:00 by each policy.
     ///
     /// # Errors
     ///
@@ -48,7 +49,8 @@ impl<'z> ZonedDateTime<'z> {
         self.with_local(self.local().replace_time(time), policy)
     }
 
-    /// Replaces the date that the clocks show, as [`ZonedDateTime::with_local`] does.
+    /// Replaces the date that the clocks show, as [`ZonedDateTime::with_local`] does. In Berlin
+    /// 2024-03-30 2:30 with the date 2024-03-31 is 3:30 +02:00:00 by [`Policy::Compatible`].
     ///
     /// # Errors
     ///
