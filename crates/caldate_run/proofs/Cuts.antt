@@ -8,7 +8,7 @@ use Rattle.std.proofs.lemmas.Bool.Decides.{nat_tests}
 use Rattle.std.proofs.lemmas.List.{append-nil, take_rest}
 use Rattle.caldate_run.specs.Fields.{Cut, HasFirst, IsAfter, cut_of, each_begun, each_ended, fields_of, has_too_few, is_open, joined_fields, quotes_of, quoting_after, split_fields, split_outside_quotes}
 use Rattle.caldate_run.specs.declared.run.quoting.Quoting.{Quoting}
-use Rattle.caldate_run.specs.declared.request.Field.{Field}
+use Rattle.caldate_run.specs.declared.field.Field.{Field}
 use Rattle.caldate_run.proofs.Quotes.{onto_some}
 
 -- ---- fields with their separators

@@ -8,7 +8,7 @@ use Rattle.caldate_run.specs.Fields.{fields_of}
 use Rattle.caldate_run.specs.Header.{HasLine, first_part, has_name, header_of, name_number}
 use Rattle.caldate_run.specs.Lines.{split_input, text_of}
 use Rattle.caldate_run.specs.RunStates.{FirstEnds, NoEnd}
-use Rattle.caldate_run.specs.declared.request.Field.{Field}
+use Rattle.caldate_run.specs.declared.field.Field.{Field}
 use Rattle.caldate_run.specs.declared.run.quoting.Quoting.TheVariants.{Ready}
 use Rattle.caldate_run.proofs.Splits.{parts_some}
 

@@ -13,7 +13,7 @@ use Rattle.cal_text.specs.declared.error.ParseError.{ParseError}
 use Rattle.caldate_run.specs.Holidays.{AreHolidays, IsHoliday, IsInvalidAt, IsInvalidLine, IsValidLine, is_left_out}
 use Rattle.caldate_run.specs.Lines.{is_end, lines_of, text_of, without_empty_last}
 use Rattle.caldate_run.specs.RunStates.{HasNoFeed}
-use Rattle.caldate_run.proofs.Steps.{part_counts}
+use Rattle.caldate_run.proofs.Splits.{part_counts}
 
 -- a line, and those after it
 pub first_cut : (line after : List ℕ) → HasNoFeed line → lines_of (line ++ 10 ∷ after) ≡ line ∷ lines_of after

@@ -6,8 +6,7 @@ use Rattle.std.proofs.KnownBytes.{Appends-kept, Appends-trans}
 use Rattle.std.proofs.Math.Nat.{min-eq_left}
 use Rattle.std.proofs.Math.Seq.{take-append-add}
 use Rattle.std.proofs.lemmas.List.{append-nil, take-append-le, take_rest}
-use Rattle.caldate_run.specs.Outputs.{AppendsFront}
-use Rattle.caldate_run.specs.Runs.{HasRead}
+use Rattle.caldate_run.specs.Outputs.{AppendsFront, HasRead}
 use Rattle.caldate_run.proofs.Ends.{empty}
 
 -- a read into the free end of a buffer

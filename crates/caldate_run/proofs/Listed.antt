@@ -11,8 +11,8 @@ use Rattle.cal_recurrence.specs.declared.zoned_set.ZonedSet.{ZonedSet}
 use Rattle.cal_time.specs.Date.{IsDate}
 use Rattle.cal_schedule.specs.Months.{IsMonthsLater}
 use Rattle.cal_schedule.proofs.MonthMoves.{IsMonthNumber-date, one_later}
-use Rattle.caldate_run.specs.Lists.{AreListed, IfAll, IsEnd, IsUnitsAfter, Lists, WritesLines, line_of}
-use Rattle.caldate_run.specs.Outputs.{WritesPage}
+use Rattle.caldate_run.specs.Lists.{AreListed, IsEnd, IsUnitsAfter, Lists, WritesLines, line_of}
+use Rattle.caldate_run.specs.Outputs.{IfAll, WritesPage}
 use Rattle.caldate_run.specs.Recurring.{AreListedIn, IsEndIn, IsNextIn}
 use Rattle.caldate_run.specs.declared.run.run_error.RunError.{RunError}
 use Rattle.caldate_run.specs.declared.request.Listing.{Listing}

@@ -4,9 +4,10 @@ use Rattle.std.proofs.Common.{◌≡◌, ◌⊎◌, ◌<◌, ◌∙◌, ℕ, ℤ
 use Rattle.std.specs.Prelude.{MatchBool, MatchResult}
 use Rattle.caldate_run.specs.Ending.{Says}
 use Rattle.caldate_run.specs.Fields.{overlap}
-use Rattle.caldate_run.specs.Header.{EndsNamed, HasHeader, HasLine, header_of, numbered, numbers_in}
+use Rattle.caldate_run.specs.Header.{HasHeader, HasLine, header_of}
+use Rattle.caldate_run.specs.Named.{EndsNamed, numbered, numbers_in}
 use Rattle.caldate_run.specs.RunStates.{NoEnd}
-use Rattle.caldate_run.specs.declared.request.Field.{Field}
+use Rattle.caldate_run.specs.declared.field.Field.{Field}
 use Rattle.caldate_run.specs.declared.request.Filter.{Filter}
 use Rattle.caldate_run.specs.declared.run.quoting.Quoting.TheVariants.{Ready}
 use Rattle.caldate_run.specs.declared.run.run_error.RunError.{RunError}

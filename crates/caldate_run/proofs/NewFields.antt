@@ -4,7 +4,7 @@ use Rattle.std.specs.Prelude.{◌&&◌, ◌||◌, nat_le, slice_index}
 use Rattle.std.proofs.lemmas.Bool.{or_parts}
 use Rattle.std.proofs.lemmas.List.{append-nil}
 use Rattle.caldate_run.specs.Fields.{as_field, doubled, end_of_field, escaped, in_place_of, in_quotes, is_quote, is_quoted, is_special, needs_quotes}
-use Rattle.caldate_run.specs.declared.request.Field.{Field}
+use Rattle.caldate_run.specs.declared.field.Field.{Field}
 
 -- ---- a text that is not a record
 pub plain_quotes : (field : Field) (part : List ℕ) → field.csv ≡ false → is_quoted field part ≡ false

@@ -5,8 +5,8 @@ use Rattle.std.proofs.lemmas.Option.{none-some}
 use Rattle.cal_text.specs.declared.any.DateOrMoment.{DateOrMoment}
 use Rattle.caldate_run.specs.Answers.{Answer, IsAnswer, IsNotRead, IsReadAs}
 use Rattle.caldate_run.specs.Targets.{IsAnswerAt, IsAnswerBeside, IsAnswerWith, IsOther, IsReadOther, fields_beside, other_field, target_fields, with_text}
-use Rattle.caldate_run.specs.declared.request.Field.{Field}
-use Rattle.caldate_run.specs.declared.request.FieldNumbers.{FieldNumbers}
+use Rattle.caldate_run.specs.declared.field.Field.{Field}
+use Rattle.caldate_run.specs.declared.field_numbers.FieldNumbers.{FieldNumbers}
 use Rattle.caldate_run.specs.declared.request.Filter.{Filter}
 use Rattle.caldate_run.specs.declared.request.Request.{Request}
 use Rattle.caldate_run.specs.declared.run.no_answer.NoAnswer.{NoAnswer}

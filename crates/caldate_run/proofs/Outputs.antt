@@ -7,8 +7,7 @@ use Rattle.std.proofs.lemmas.List.{append-nil}
 use Rattle.std.specs.Prelude.{is_ok}
 use Rattle.caldate_run.specs.Calls.{Sends, Writes, most_retries, write_failure}
 use Rattle.caldate_run.specs.Calls.Writes.{no_more}
-use Rattle.caldate_run.specs.Lists.{IfAll}
-use Rattle.caldate_run.specs.Outputs.{AppendsFront, HasTaken, Outputs, WritesPage}
+use Rattle.caldate_run.specs.Outputs.{IfAll, AppendsFront, HasTaken, Outputs, WritesPage}
 use Rattle.caldate_run.specs.declared.output.Output.{Output}
 use Rattle.caldate_run.specs.declared.run.run_error.RunError.{RunError}
 use Rattle.caldate_run.proofs.Calls.{sent_all, writes_then}

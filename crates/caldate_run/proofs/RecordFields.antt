@@ -3,9 +3,8 @@ use Rattle.std.proofs.Common.{◌≡◌, ℕ, ◌<◌, Bool, true, false, cond, 
 use Rattle.std.specs.Prelude.{not, ◌&&◌, All, map}
 use Rattle.std.specs.List.{join_with_byte, onto_first, slice_split}
 use Rattle.std.proofs.lemmas.List.Elements.{All-cons, All-head, All-nil, All-tail}
-use Rattle.caldate_run.specs.Fields.{as_field, in_place_of, in_quotes, is_quote, is_open, is_quoted, is_special, needs_quotes, quoting_after, split_fields, split_outside_quotes}
-use Rattle.caldate_run.specs.Fields.{doubled as doubled_quotes}
-use Rattle.caldate_run.specs.declared.request.Field.{Field}
+use Rattle.caldate_run.specs.Fields.{as_field, in_place_of, in_quotes, is_quote, is_open, is_quoted, is_special, needs_quotes, quoting_after, split_fields, split_outside_quotes, doubled as doubled_quotes}
+use Rattle.caldate_run.specs.declared.field.Field.{Field}
 use Rattle.caldate_run.specs.Records.{IsEscaped, IsField, IsRecord, IsRecordField, records_text}
 use Rattle.caldate_run.specs.RunStates.{onto}
 use Rattle.caldate_run.specs.declared.run.quoting.Quoting.TheVariants.{Off, Ready, Open, Bare}
@@ -13,8 +12,7 @@ use Rattle.caldate_run.specs.declared.run.quoting.Quoting.{Quoting}
 use Rattle.caldate_run.specs.Lines.{all_lines, is_end, without_empty_last}
 use Rattle.std.proofs.lemmas.Bool.{false≢true, ne_eqb, or_parts}
 use Rattle.caldate_run.proofs.Cuts.{record_some}
-use Rattle.caldate_run.proofs.Splits.{onto_onto}
-use Rattle.caldate_run.proofs.Steps.{part_counts}
+use Rattle.caldate_run.proofs.Splits.{onto_onto, part_counts}
 use Rattle.caldate_run.specs.Records.IsEscaped.{none, byte, doubled}
 use Rattle.caldate_run.specs.Records.IsField.{bare, escaped}
 use Rattle.caldate_run.proofs.NewFields.{not_special}

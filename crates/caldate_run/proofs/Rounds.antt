@@ -9,7 +9,8 @@ use Rattle.caldate_run.specs.Calls.{Gives, Reads, Writes, has_read_failure, is_o
 use Rattle.caldate_run.specs.Calls.Reads.{no_more, too_many}
 use Rattle.caldate_run.specs.Lines.{all_lines, ended_lines, unended}
 use Rattle.caldate_run.specs.Replies.{IsReplyTo}
-use Rattle.caldate_run.specs.Runs.{Advances, AnswersAll, CompletesFrom, EndsEarly, EndsFrom, HasEnded, HasRead, HasRun, IsRunResult}
+use Rattle.caldate_run.specs.Runs.{Advances, AnswersAll, CompletesFrom, EndsEarly, EndsFrom, HasEnded, HasRun, IsRunResult}
+use Rattle.caldate_run.specs.Outputs.{HasRead}
 use Rattle.caldate_run.specs.RunStates.{NoEnd, no_lines, quoting_of}
 use Rattle.caldate_run.specs.declared.output.Output.{Output}
 use Rattle.caldate_run.specs.declared.request.Filter.{Filter}

@@ -9,7 +9,7 @@ use Rattle.caldate_run.specs.Scans.{IsFirstText, IsReadWith, IsText, IsTextAt, N
 use Rattle.caldate_run.specs.declared.request.Filter.{Filter}
 use Rattle.caldate_run.specs.declared.run.no_answer.NoAnswer.{NoAnswer}
 use Rattle.caldate_run.specs.declared.run.no_answer.NoAnswer.TheVariants as why
-use Rattle.caldate_run.proofs.Replied.{taken_back}
+use Rattle.caldate_run.proofs.Appends.{taken_back}
 
 -- ---- whether bytes are a text
 abbrev result : NoAnswer → Result DateOrMoment NoAnswer

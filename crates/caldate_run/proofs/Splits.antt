@@ -4,11 +4,11 @@ use Rattle.std.specs.Prelude.{not, ◌&&◌}
 use Rattle.std.specs.List.{onto_first}
 use Rattle.caldate_run.specs.Fields.{is_open, quoting_after, split_outside_quotes}
 use Rattle.caldate_run.specs.Header.{first_part}
-use Rattle.caldate_run.specs.Lines.{quotes_in, separator_of, split_from, split_input}
+use Rattle.caldate_run.specs.Lines.{quotes_in, separator_of, split_from, split_input, without_empty_last}
 use Rattle.caldate_run.specs.RunStates.{FirstEnds, NoEnd, onto, quoting_in}
 use Rattle.caldate_run.specs.declared.run.quoting.Quoting.{Quoting}
 use Rattle.caldate_run.specs.declared.run.quoting.Quoting.TheVariants.{Off, Ready}
-use Rattle.caldate_run.specs.declared.request.Field.{Field}
+use Rattle.caldate_run.specs.declared.field.Field.{Field}
 use Rattle.caldate_run.proofs.Cuts.{record_some}
 use Rattle.caldate_run.proofs.Quotes.{onto_one}
 
@@ -81,3 +81,11 @@ pub line_some : (field : Option Field) (q : Quoting) (bytes line after : List �
 line_some field q [] line after some n first = absurd (omega (arith, some))
 line_some field q (x ∷ xs) line after some n first =
     first_some x _ _ line (sym ((passes_front field q (x ∷ []) [] n).0 (xs ++ [])) ∙ first [])
+
+-- ---- a last part that is empty
+pub part_counts : (part : List ℕ) (parts : List (List ℕ)) → 0 < length parts
+    → without_empty_last (part ∷ parts) ≡ part ∷ without_empty_last parts
+part_counts [] [] h = absurd (omega arith)
+part_counts (b ∷ bs) [] h = absurd (omega arith)
+part_counts [] (p ∷ parts) h = refl
+part_counts (b ∷ bs) (p ∷ parts) h = refl

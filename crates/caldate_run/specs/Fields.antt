@@ -3,8 +3,8 @@ use Rattle.std.specs.Prelude.{◌≡◌, ℕ, ◌+◌, ◌-◌, ◌==◌, ◌&&�
 use Rattle.std.specs.List.{join_with_byte, onto_first, slice_split, zip}
 use Rattle.caldate_run.specs.declared.run.quoting.Quoting.{Quoting}
 use Rattle.caldate_run.specs.declared.run.quoting.Quoting.TheVariants.{Off, Ready, Open, Bare}
-use Rattle.caldate_run.specs.declared.request.Field.{Field}
-use Rattle.caldate_run.specs.declared.request.FieldNumbers.{FieldNumbers}
+use Rattle.caldate_run.specs.declared.field.Field.{Field}
+use Rattle.caldate_run.specs.declared.field_numbers.FieldNumbers.{FieldNumbers}
 use Rattle.caldate_run.specs.declared.several_fields.RankedField.{RankedField}
 
 -- The same field with other numbers.

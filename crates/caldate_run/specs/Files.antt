@@ -1,7 +1,7 @@
 -- Several texts as one input, each with the line feed that its last line may lack.
 use Rattle.std.specs.Prelude.{◌≡◌, ◌⊎◌, ◌<◌, ℕ, length, Bool, true, false, not, ⊤, List, [], ◌∷◌, ◌++◌, Option, Some, None, Result, if◌then◌else◌}
 use Rattle.caldate_run.specs.Lines.{is_end}
-use Rattle.caldate_run.specs.Runs.{WritesPage}
+use Rattle.caldate_run.specs.Outputs.{WritesPage}
 use Rattle.caldate_run.specs.declared.run.run_error.RunError.{RunError}
 
 -- A line is unfinished after these bytes, if it was so or not before them.

@@ -1,19 +1,11 @@
 -- The header, the first line of an input, and fields by their names in it.
-use Rattle.std.specs.Prelude.{◌⊎◌, ℕ, ◌+◌, ◌<◌, ◌&&◌, nat_le, nat_lt, Bool, true, false, unwrap_or, drop, get_or, List, [], ◌∷◌, bytes_eq, length, MatchResult, Option, Some, None, Result, Ok, Err, slice_index, if◌then◌else◌, ◌++◌, codes, MatchBool}
+use Rattle.std.specs.Prelude.{◌⊎◌, ℕ, ◌+◌, ◌<◌, nat_lt, Bool, List, [], ◌∷◌, bytes_eq, length, Option, Some, None, Result, Ok, Err, if◌then◌else◌}
 use Rattle.std.specs.Option.{option_map_or}
-use Rattle.std.specs.Io.KnownBytes.{Consumes, IsAtEnd}
-use Rattle.caldate_run.specs.Ending.{Says}
-use Rattle.caldate_run.specs.Fields.{field_text, fields_of, no_names, overlap, renumbered}
+use Rattle.std.specs.Io.KnownBytes.{IsAtEnd}
+use Rattle.caldate_run.specs.Fields.{field_text, fields_of}
 use Rattle.caldate_run.specs.Lines.{split_input, text_of}
 use Rattle.caldate_run.specs.Room.{longest_text}
-use Rattle.caldate_run.specs.RunStates.{NoEnd}
-use Rattle.caldate_run.specs.Targets.{target_name, with_target}
-use Rattle.caldate_run.specs.declared.run.quoting.Quoting.TheVariants.{Ready}
-use Rattle.caldate_run.specs.declared.request.Field.{Field}
-use Rattle.caldate_run.specs.declared.request.Filter.{Filter}
-use Rattle.caldate_run.specs.declared.request.Request.{Request}
-use Rattle.caldate_run.specs.declared.request.Target.TheVariants.{Fields}
-use Rattle.caldate_run.specs.declared.run.run_error.RunError.{RunError}
+use Rattle.caldate_run.specs.declared.field.Field.{Field}
 
 -- ---- the header
 -- The text of the first line, which may not have its line feed.
@@ -63,32 +55,3 @@ abbrev pub numbers_of : Field → List ℕ → List (Option (List ℕ)) → Resu
 numbers_of field header [] = Ok []
 numbers_of field header (name ∷ names) = of_both (λ n others. n ∷ others) (number_in field header name) (numbers_of field header names)
 
--- The numbers of the fields to answer and of the field that has TEXT, each if it has a name.
-abbrev pub numbers_in : Filter → Field → List ℕ → Result (List (Option ℕ) × Option ℕ) (List ℕ)
-numbers_in filter field header = of_both (λ own target. (own, target)) (numbers_of field header filter.names) (number_in field header (target_name filter.request))
-
--- The same filter with these numbers in place of its names.
-abbrev pub with_number : Option ℕ → Request → Request
-with_number None request = request
-with_number (Some n) request = with_target (Fields (record { first = n; joined = 0 })) request
-
-abbrev pub numbered : Filter → Field → (List (Option ℕ) × Option ℕ) → Filter
-numbered filter field numbers = record filter {
-  field = Some (record field { first = unwrap_or (get_or numbers.0 0 None) field.first });
-  several = renumbered numbers.0 filter.several;
-  names = no_names;
-  request = with_number numbers.1 filter.request;
-}
-
--- The reader gave `front` first. If a read failed before the header ended, the run stops. Otherwise
--- the filter runs over the whole input with the numbers that the header gives its names. If the
--- header lacks a name, or two fields overlap, the run stops with the error of the header.
-pub record EndsNamed (filter : Filter) (field : Field) (old : Option (List ℕ)) (Runs : Filter → Result Unit RunError → Type 0) (Stops : Bool → List ℕ → Type 0) : Type 0 where
-  pub front : List ℕ
-  pub left : Option (List ℕ)
-  pub given : Consumes old left front
-  pub ends : (NoEnd (Some field) Ready front × ((words : List ℕ) × Says 2 words × Stops true words))
-      ⊎ (HasHeader field left front × MatchResult (numbers_in filter field (header_of field front))
-      (λ numbers. MatchBool (overlap (numbered filter field numbers).several) ((words : List ℕ) × Says 2 words × Stops false words)
-      ((outcome : Result Unit RunError) × Runs (numbered filter field numbers) outcome))
-      (λ name. (words : List ℕ) × Says 2 words × Stops false words))

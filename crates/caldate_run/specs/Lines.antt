@@ -4,7 +4,7 @@ use Rattle.std.specs.List.{slice_split}
 use Rattle.caldate_run.specs.Fields.{split_outside_quotes}
 use Rattle.caldate_run.specs.declared.run.quoting.Quoting.{Quoting}
 use Rattle.caldate_run.specs.declared.run.quoting.Quoting.TheVariants.{Off, Ready}
-use Rattle.caldate_run.specs.declared.request.Field.{Field}
+use Rattle.caldate_run.specs.declared.field.Field.{Field}
 
 -- A line feed, byte 10, ends a line.
 abbrev pub is_end : ℕ → Bool

@@ -1,5 +1,5 @@
 -- The dates of a list in steps of one length, and the bytes that the writer takes.
-use Rattle.std.specs.Prelude.{◌≡◌, ℕ, ⊤, ◌+◌, ◌≤◌, Bool, true, false, pos, List, [], ◌∷◌, ◌++◌, Option, Result, is_ok}
+use Rattle.std.specs.Prelude.{◌≡◌, ℕ, ⊤, ◌+◌, ◌≤◌, Bool, pos, List, [], ◌∷◌, ◌++◌, Option, Result, is_ok}
 use Rattle.std.specs.List.{flat_map}
 use Rattle.cal_schedule.specs.Months.{IsMonthsLater}
 use Rattle.cal_text.specs.AnyForm.{date_text}
@@ -33,11 +33,6 @@ pub record IsWithin (listing : Listing) (count : ℕ) (day : ℕ) : Type 0 where
   pub date : IsDate day
   pub after : IsUnitsAfter listing.step.unit count listing.first day
   pub not_past : day ≤ listing.last
-
--- If all is listed, this holds at the end.
-abbrev pub IfAll : Bool → Type 0 → Type 0
-IfAll true P = P
-IfAll false P = ⊤
 
 -- These are the days of the list from `count` days or months after the first day on, each a step
 -- after the one before it, and `Ends` holds of the count after them.

@@ -1,6 +1,6 @@
 -- The bytes that a buffered output was given, and those that the writer took.
-use Rattle.std.specs.Prelude.{◌≡◌, ℕ, ⊤, ◌<◌, List, ◌++◌, length, Option, Result, Ok, Err}
-use Rattle.std.specs.Io.KnownBytes.{Appends}
+use Rattle.std.specs.Prelude.{◌≡◌, ℕ, ⊤, ◌<◌, Bool, true, false, List, ◌++◌, length, Option, Result, Ok, Err}
+use Rattle.std.specs.Io.KnownBytes.{Appends, Consumes}
 use Rattle.std.specs.declared.io.Error.{Error}
 use Rattle.caldate_run.specs.Calls.{Writes, write_failure}
 use Rattle.caldate_run.specs.declared.output.Output.{Output}
@@ -39,3 +39,12 @@ pub record Outputs {S : Type 0} (contents : S → Option (List ℕ)) (write : S 
 -- The output was given no more bytes.
 abbrev pub PassesOn : {S : Type 0} → (S → Option (List ℕ)) → (S → List ℕ → Result ℕ Error → S → Type 0) → Output → Output → S → S → Type 0
 PassesOn {S} contents write old new s t = (given : List ℕ) (start : S) → Outputs contents write given start old s → Outputs contents write given start new t
+
+-- If all went out, this holds at the end.
+abbrev pub IfAll : Bool → Type 0 → Type 0
+IfAll true P = P
+IfAll false P = ⊤
+
+-- The reader gave some bytes, which come after the old ones.
+abbrev pub HasRead : Option (List ℕ) → Option (List ℕ) → List ℕ → List ℕ → Type 0
+HasRead before after old new = (given : List ℕ) × Consumes before after given × (new ≡ old ++ given)

@@ -10,8 +10,8 @@ use Rattle.cal_recurrence.specs.declared.recurrence.Recurrence.{Recurrence}
 use Rattle.cal_recurrence.specs.declared.zoned_set.ZonedSet.{ZonedSet}
 use Rattle.cal_zone.specs.Timeline.{Timeline}
 use Rattle.caldate_run.specs.ClockWords.{moment_in, rfc3339_or_unix_text}
-use Rattle.caldate_run.specs.Lists.{IfAll, WritesLines, line_of}
-use Rattle.caldate_run.specs.Outputs.{WritesPage}
+use Rattle.caldate_run.specs.Lists.{WritesLines, line_of}
+use Rattle.caldate_run.specs.Outputs.{IfAll, WritesPage}
 use Rattle.caldate_run.specs.declared.list.remaining.Remaining.{Remaining}
 use Rattle.caldate_run.specs.declared.list.remaining.Remaining.TheVariants as left
 use Rattle.caldate_run.specs.declared.request.Occurrences.{Occurrences}

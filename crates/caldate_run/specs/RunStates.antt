@@ -7,7 +7,7 @@ use Rattle.caldate_run.specs.Room.{longest_text}
 use Rattle.caldate_run.specs.declared.run.quoting.Quoting.{Quoting}
 use Rattle.caldate_run.specs.declared.run.quoting.Quoting.TheVariants.{Ready}
 use Rattle.caldate_run.specs.declared.on_invalid.OnInvalid.{OnInvalid}
-use Rattle.caldate_run.specs.declared.request.Field.{Field}
+use Rattle.caldate_run.specs.declared.field.Field.{Field}
 use Rattle.caldate_run.specs.declared.on_invalid.OnInvalid.TheVariants as invalid
 use Rattle.caldate_run.specs.declared.run.progress.Progress.{Progress}
 use Rattle.caldate_run.specs.declared.run.tally.Tally.{Tally}
@@ -70,6 +70,10 @@ passed mode kept = []
 -- The number of a line, counted in 64 bits.
 abbrev pub counted : ℕ → ℕ
 counted n = min n (2 ^ 64 - 1)
+
+-- A count and one more, at most 2^64 - 1.
+abbrev pub more : ℕ → ℕ
+more n = min (n + 1) (2 ^ 64 - 1)
 
 -- The run is at a line, of which a front may have been dropped, after `before` lines.
 abbrev pub AtLine : Progress → List ℕ → (ℕ → List ℕ → Type 0) → Type 0

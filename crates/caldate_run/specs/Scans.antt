@@ -3,10 +3,9 @@ use Rattle.std.specs.Prelude.{◌≡◌, ◌⊎◌, ℕ, suc, ◌+◌, ◌-◌, 
 use Rattle.cal_text.specs.Position.{Begins}
 use Rattle.cal_text.specs.declared.any.DateOrMoment.{DateOrMoment}
 use Rattle.caldate_run.specs.Answers.{Answer, IsAnswer, IsNotRead, IsReadAs, keeps}
-use Rattle.caldate_run.specs.Offsets.{is_digit}
+use Rattle.caldate_run.specs.Offsets.{is_digit, is_letter}
 use Rattle.caldate_run.specs.Room.{longest_text}
 use Rattle.caldate_run.specs.Spellings.{is_sign}
-use Rattle.caldate_run.specs.Zones.{is_letter}
 use Rattle.caldate_run.specs.declared.on_invalid.OnInvalid.TheVariants as invalid
 use Rattle.caldate_run.specs.declared.request.Filter.{Filter}
 use Rattle.caldate_run.specs.declared.run.no_answer.NoAnswer.{NoAnswer}

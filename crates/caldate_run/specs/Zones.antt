@@ -7,10 +7,6 @@ use Rattle.caldate_run.specs.declared.zones.read_zone_error.ReadZoneError.{ReadZ
 use Rattle.caldate_run.specs.declared.zones.read_zone_error.ReadZoneError.TheVariants.{File, Zone}
 
 -- ---- names
--- A letter of ASCII.
-abbrev pub is_letter : ℕ → Bool
-is_letter byte = (nat_le 65 byte && nat_le byte 90) || (nat_le 97 byte && nat_le byte 122)
-
 -- A letter, a digit, `_`, `-`, `+` or `/`.
 abbrev pub is_name_byte : ℕ → Bool
 is_name_byte byte = is_letter byte || ((nat_le 48 byte && nat_le byte 57) || (byte == 95 || (byte == 45 || (byte == 43 || byte == 47))))

@@ -7,15 +7,15 @@ ghost use Rattle.caldate_run.specs.Bounds.{lies_in};
 ghost use Rattle.caldate_run.specs.Forms.{IsInForm, format_text};
 ghost use Rattle.caldate_run.specs.Readers.{IsUnreadIn};
 ghost use Rattle.caldate_run.specs.Readings.{IsTextIn};
-ghost use Rattle.caldate_run.specs.Reasons.{reason, refused_text};
 ghost use Rattle.caldate_run.specs.Room.{HasRoom, longest_answer};
-ghost use Rattle.caldate_run.specs.Runs.{AppendsSome, AppendsAnswer};
+ghost use Rattle.caldate_run.specs.Appends.{AppendsSome, AppendsAnswer};
 ghost use Rattle.caldate_run.specs.Scans.{IsReadWith};
 ghost use Rattle.caldate_run.specs.declared.reading.Reading.TheVariants.{Any};
 ghost use Rattle.caldate_run.specs.declared.reading.reader.Reader.{Reader};
 ghost use Rattle.caldate_run.specs.declared.reading.reader.Reader.TheVariants.{Named};
 ghost use Rattle.caldate_run.specs.declared.run.no_answer.NoAnswer.{NoAnswer};
 
+pub(crate) mod bounds;
 pub(crate) mod clock;
 pub(crate) mod counts;
 pub(crate) mod forms;
@@ -30,7 +30,7 @@ use crate::answer::texts::{
     push_basic, push_date, push_month, push_quarter, push_rfc3339, push_signed, push_unix,
     push_whole_unix,
 };
-use crate::args::bounds::{is_comparable, lies_in};
+use crate::answer::bounds::{is_comparable, lies_in};
 use crate::output::buffer::Buffer;
 use crate::reading::reader::Reader;
 use crate::reading::{Reading, read, read_in, reason_of};
@@ -40,11 +40,7 @@ use cal_datetime::OffsetDateTime;
 use cal_format::Format;
 use cal_schedule::Workdays;
 use cal_text::{DateOrMoment, MomentForm};
-use cal_time::error::ComponentRange;
 use cal_time::{Date, ShortText, SignedDuration, Time, UtcOffset};
-
-/// The maximum length of the text of a line, in bytes.
-pub const LONGEST_TEXT: usize = 4096;
 
 /// The maximum length of a text that a format prints: 15 bytes for each of 64 items.
 const LONGEST_PRINTED: usize = 960;
@@ -187,42 +183,6 @@ pub fn read_with(filter: &Filter<'_>, text: &[u8]) -> Result<DateOrMoment, NoAns
     match read(filter.readers.as_slice(), &filter.assumptions, text) {
         Ok(found) => placed(&filter.clock, found),
         Err(why) => Err(why),
-    }
-}
-
-/// Appends a reason, such as `unreadable at 4`.
-pub fn push_reason(buffer: &mut Buffer, why: NoAnswer)
-    requires { HasRoom 80 buffer.old }
-    ensures text { buffer.new ≡ buffer.old ++ reason why }
-    ensures short { length buffer.new ≤ length buffer.old + 80 }
-{
-    match why {
-        NoAnswer::TooLong => buffer.push(b"line too long"),
-        NoAnswer::NoField => buffer.push(b"no such field"),
-        NoAnswer::NoOtherField => buffer.push(b"no other field"),
-        NoAnswer::UnreadOtherField => buffer.push(b"other field unreadable"),
-        NoAnswer::NoForm => buffer.push(b"in no form of --read"),
-        NoAnswer::None => buffer.push(b"none"),
-        NoAnswer::Skipped => buffer.push(b"skipped time"),
-        NoAnswer::Repeated => buffer.push(b"repeated time"),
-        NoAnswer::Rejected(component) => push_refusal(buffer, component),
-        NoAnswer::Unreadable(position) => {
-            buffer.push(b"unreadable at ");
-            buffer.push_number(position as u64);
-        }
-    }
-}
-
-/// Appends `refused` and the name of the component, and `conditional` if the error is conditional.
-fn push_refusal(buffer: &mut Buffer, error: ComponentRange)
-    requires { HasRoom 64 buffer.old }
-    ensures text { buffer.new ≡ buffer.old ++ refused_text error }
-    ensures short { length buffer.new ≤ length buffer.old + 64 }
-{
-    buffer.push(b"refused ");
-    buffer.push(error.name().as_bytes());
-    if error.is_conditional() {
-        buffer.push(b" conditional");
     }
 }
 

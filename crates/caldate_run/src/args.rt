@@ -38,9 +38,9 @@ use crate::data_files::DataFiles;
 use crate::field_name::FieldName;
 use crate::field_names::MAX_FIELDS;
 use crate::on_invalid::OnInvalid;
-use crate::request::{
-    Clock, Command, DayMove, Field, FieldNumbers, Filter, Place, Policy, Request, TimeUnit,
-};
+use crate::field::Field;
+use crate::field_numbers::FieldNumbers;
+use crate::request::{Clock, Command, DayMove, Filter, Place, Policy, Request, TimeUnit};
 use crate::run::lines::next_line;
 use crate::run::quoting::Quoting;
 use crate::several_fields::{RankedField, SeveralFields};

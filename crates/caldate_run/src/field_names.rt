@@ -5,7 +5,7 @@ ghost use Rattle.caldate_run.specs.Header.{number_in, numbers_of};
 
 use crate::field_name::FieldName;
 use crate::header::number_in;
-use crate::request::Field;
+use crate::field::Field;
 use std::marker::Model;
 
 /// The maximum number of fields.

@@ -4,14 +4,14 @@ ghost use Rattle.caldate_run.specs.Calls.{Writes, write_failure};
 ghost use Rattle.caldate_run.specs.Fields.{fields_of};
 ghost use Rattle.caldate_run.specs.Header.{has_name, header_of, name_number, number_in, number_of};
 ghost use Rattle.caldate_run.specs.Room.{HasRoom, longest_text};
-ghost use Rattle.caldate_run.specs.Runs.{WritesPage};
+ghost use Rattle.caldate_run.specs.Outputs.{WritesPage};
 
-use crate::answer::LONGEST_TEXT;
+use crate::run::lines::LONGEST_TEXT;
 use crate::input::field_text::FieldText;
 use crate::input::fields::first_field;
 use crate::output::buffer::Buffer;
 use crate::output::write_all;
-use crate::request::Field;
+use crate::field::Field;
 use crate::run::excerpt::push_quoted;
 use crate::run::lines::{cut_return, next_line};
 use crate::run::quoting::Quoting;

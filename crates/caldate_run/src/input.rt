@@ -5,7 +5,7 @@ ghost use Rattle.std.specs.Io.KnownBytes.{ReadConsumes, Consumes, IsAtEnd, Keeps
 ghost use Rattle.std.specs.declared.io.Error.{Error};
 ghost use Rattle.caldate_run.specs.Calls.{Gives, most_retries};
 ghost use Rattle.caldate_run.specs.Room.{capacity};
-ghost use Rattle.caldate_run.specs.Runs.{HasRead};
+ghost use Rattle.caldate_run.specs.Outputs.{HasRead};
 
 pub(crate) mod field_text;
 pub(crate) mod fields;

@@ -11,7 +11,8 @@ ghost use Rattle.caldate_run.specs.declared.run.quoting.Quoting.TheVariants.{Rea
 ghost use Rattle.caldate_run.specs.declared.run.run_error.RunError.{RunError};
 
 use crate::answer::read_with;
-use crate::request::{Field, Filter, Occurrences, Span};
+use crate::field::Field;
+use crate::request::{Filter, Occurrences, Span};
 use crate::run::no_answer::NoAnswer;
 use cal_text::DateOrMoment;
 use cal_zone::laws::one_local;

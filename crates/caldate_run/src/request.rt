@@ -1,11 +1,12 @@
 //! Requests, and how they apply to the lines.
 ghost use Rattle.std.specs.Prelude.{◌≡◌, MatchOption, None, Some};
 ghost use Rattle.caldate_run.specs.Answers.{keeps};
-ghost use Rattle.caldate_run.specs.Fields.{with_numbers};
 ghost use Rattle.caldate_run.specs.Targets.{target_fields, target_name};
 
+use crate::field::Field;
 use crate::field_name::FieldName;
 use crate::field_names::FieldNames;
+use crate::field_numbers::FieldNumbers;
 use crate::on_invalid::OnInvalid;
 use crate::reading::Readers;
 use crate::reading::reader::Assumptions;
@@ -228,43 +229,6 @@ impl<'a> Request<'a> {
             Request::Until(_, Some(TimeUnit::Workdays)) => true,
             Request::Since(_, Some(TimeUnit::Workdays)) => true,
             _ => false,
-        }
-    }
-}
-
-/// The numbers of one field, or of neighbouring fields.
-#[derive(Clone, Copy)]
-pub struct FieldNumbers {
-    /// The number of the first field, counted from 1.
-    pub first: u16,
-    /// How many fields after the first one are joined to it.
-    pub joined: u16,
-}
-
-/// One field of a line, or neighbouring fields.
-#[derive(Clone, Copy)]
-pub struct Field {
-    /// The number of the first field, counted from 1.
-    pub first: u16,
-    /// How many fields after the first one are joined to it.
-    pub joined: u16,
-    /// The byte between two fields.
-    pub separator: u8,
-    /// `true` if the line is a CSV record (RFC 4180): a separator within quotes ends no field.
-    pub csv: bool,
-    /// `true` if the answer becomes a new last field, and this field stays.
-    pub appends: bool,
-}
-
-impl Field {
-    /// Returns the same field with other numbers.
-    pub fn with_numbers(self, numbers: FieldNumbers) -> Self
-        ensures { result ≡ with_numbers self numbers }
-    {
-        Field {
-            first: numbers.first,
-            joined: numbers.joined,
-            ..self
         }
     }
 }

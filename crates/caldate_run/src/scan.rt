@@ -1,6 +1,6 @@
 //! The texts in a line that have a form.
 ghost use Rattle.std.specs.Prelude.{◌≡◌, ℕ, ◌+◌, ◌<◌, ◌≤◌, IfSome, MatchOption, false, length, slice_index, take, true};
-ghost use Rattle.caldate_run.specs.Offsets.{is_digit};
+ghost use Rattle.caldate_run.specs.Offsets.{is_digit, is_letter};
 ghost use Rattle.caldate_run.specs.Scans.{HasNoText, IsFirstText, IsLongestText, IsReadWith, IsText, IsTextAt, NoneFrom, AreUsual, StartWithDigits, byte_before, has_form, is_of_word, may_begin, part_at};
 
 pub(crate) mod bound;
@@ -18,7 +18,6 @@ use crate::scan::digit_bound::digit_bound;
 use crate::scan::digit_start::{digits_place, start_with_digits};
 use crate::scan::found_text::FoundText;
 use crate::scan::start::{all_usual, has_short_year, is_usual_end, usual_place};
-use crate::zones::is_letter;
 use cal_text::DateOrMoment;
 
 /// Returns the first text from a place of the line on. In `due 2024-02-29, paid`, it has place 4
@@ -194,4 +193,11 @@ fn is_digit(byte: u8) -> bool
     ensures { result ≡ is_digit byte }
 {
     byte.is_ascii_digit()
+}
+
+/// Returns whether the byte is a letter of ASCII.
+pub fn is_letter(byte: u8) -> bool
+    ensures { result ≡ is_letter byte }
+{
+    (byte >= b'A' && byte <= b'Z') || (byte >= b'a' && byte <= b'z')
 }

@@ -3,7 +3,7 @@ ghost use Rattle.std.specs.Prelude.{◌≡◌, ◌+◌, ◌<◌, ◌≤◌, ◌+
 ghost use Rattle.caldate_run.specs.Fields.{inserted, inserted_if, overlap, overlap_after, renumber, renumbered};
 
 use crate::field_names::MAX_FIELDS;
-use crate::request::FieldNumbers;
+use crate::field_numbers::FieldNumbers;
 use std::marker::Model;
 
 /// One of several fields to answer.

@@ -1,11 +1,13 @@
 //! Time zones by name, from files.
 ghost use Rattle.std.specs.Prelude.{◌≡◌, is_none, not, position};
-ghost use Rattle.caldate_run.specs.Zones.{IsReadZone, is_letter, is_name_byte, is_zone_name};
+ghost use Rattle.caldate_run.specs.Zones.{IsReadZone, is_name_byte, is_zone_name};
+ghost use Rattle.caldate_run.specs.Offsets.{is_letter};
 
 pub mod read_zone_error;
 pub mod zone_source;
 
 use crate::args::offset::offset_of;
+use crate::scan::is_letter;
 use crate::streams::Source;
 use crate::zones::read_zone_error::ReadZoneError;
 use crate::zones::zone_source::{MAX_FILE_BYTES, read_whole};
@@ -39,13 +41,6 @@ fn has_name_bytes(word: &[u8]) -> bool
         rest = others;
     }
     true
-}
-
-/// Returns whether the byte is a letter of ASCII.
-pub fn is_letter(byte: u8) -> bool
-    ensures { result ≡ is_letter byte }
-{
-    (byte >= b'A' && byte <= b'Z') || (byte >= b'a' && byte <= b'z')
 }
 
 fn is_name_byte(byte: u8) -> bool

@@ -11,7 +11,7 @@ ghost use Rattle.cal_time.specs.DateText.{text};
 ghost use Rattle.cal_text.specs.declared.any.MomentForm.TheVariants.{Rfc3339};
 ghost use Rattle.caldate_run.specs.Forms.{IsInForm, month_text, quarter_text, units_in};
 ghost use Rattle.caldate_run.specs.Room.{HasRoom, longest_answer};
-ghost use Rattle.caldate_run.specs.Runs.{AppendsSome};
+ghost use Rattle.caldate_run.specs.Appends.{AppendsSome};
 ghost use Rattle.caldate_run.specs.declared.request.Form.TheVariants.{Basic, Moment};
 
 use crate::answer::forms::{basic_text, month_text, quarter_text, unix_text};

@@ -1,7 +1,7 @@
 //! The message for invalid arguments.
 ghost use Rattle.std.specs.Prelude.{ℕ, List, ◌≡◌, ◌+◌, ◌<◌, ◌≤◌, [], length};
 ghost use Rattle.caldate_run.specs.Calls.{Writes, write_failure};
-ghost use Rattle.caldate_run.specs.Runs.{WritesPage};
+ghost use Rattle.caldate_run.specs.Outputs.{WritesPage};
 
 use crate::args::messages::{Message, message_for};
 use crate::args::options::is_option;

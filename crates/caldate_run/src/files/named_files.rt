@@ -3,7 +3,7 @@ ghost use Rattle.std.specs.Prelude.{◌≡◌, ◌+◌, ◌<◌, ◌≤◌, ℕ,
 ghost use Rattle.std.specs.IoError.{error_kind};
 ghost use Rattle.caldate_run.specs.Calls.{Writes, write_failure};
 ghost use Rattle.caldate_run.specs.Files.{FailsOrKeeps, ReportsFile};
-ghost use Rattle.caldate_run.specs.Runs.{WritesPage};
+ghost use Rattle.caldate_run.specs.Outputs.{WritesPage};
 
 use crate::files::Texts;
 use crate::output::buffer::Buffer;

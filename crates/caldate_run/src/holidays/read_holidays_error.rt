@@ -1,7 +1,7 @@
 //! Why a file has no holidays, in words.
 ghost use Rattle.std.specs.Prelude.{◌+◌, ◌≤◌, length};
 
-use crate::answer::push_reason;
+use crate::run::no_answer::push_reason;
 use crate::output::buffer::Buffer;
 use crate::reading::reason_of;
 use crate::zones::read_zone_error::{FileError, file_words};

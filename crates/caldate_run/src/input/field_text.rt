@@ -3,7 +3,7 @@ ghost use Rattle.std.specs.Prelude.{◌≡◌, ◌+◌, ◌≤◌, ◌++◌, [],
 ghost use Rattle.caldate_run.specs.Fields.{field_text, is_quote, unquoted};
 ghost use Rattle.caldate_run.specs.Room.{longest_text};
 
-use crate::answer::LONGEST_TEXT;
+use crate::run::lines::LONGEST_TEXT;
 use crate::run::lines::has_quote;
 use std::marker::Model;
 

@@ -2,7 +2,7 @@
 ghost use Rattle.std.specs.Prelude.{◌≡◌, ◌+◌, ◌<◌, ◌≤◌, ◌++◌, ◌∷◌, [], Some, None, IfSome, IsTrue, MatchOption, drop, length, take};
 ghost use Rattle.caldate_run.specs.Fields.{HasFirst, IsAfter, cut_of, fields_of, is_quoted, quotes_of};
 
-use crate::request::Field;
+use crate::field::Field;
 use crate::run::lines::part_end;
 use crate::run::quoting::Quoting;
 

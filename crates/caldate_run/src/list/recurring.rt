@@ -1,7 +1,7 @@
 //! Lists of the dates or moments of a recurrence.
 ghost use Rattle.caldate_run.specs.Calls.{Writes, write_failure};
 ghost use Rattle.caldate_run.specs.Recurring.{ListsOccurrences, lines_left};
-ghost use Rattle.caldate_run.specs.Runs.{WritesPage};
+ghost use Rattle.caldate_run.specs.Outputs.{WritesPage};
 
 use crate::list::in_zone::list_in_zone;
 use crate::list::remaining::Remaining;

@@ -3,9 +3,9 @@ ghost use Rattle.std.specs.Prelude.{◌≡◌, ◌+◌, ◌≤◌, ℕ, List, []
 ghost use Rattle.caldate_run.specs.Calls.{Writes, write_failure};
 ghost use Rattle.caldate_run.specs.Ending.{ReportsOutcome, Says, status_of};
 ghost use Rattle.caldate_run.specs.Room.{HasRoom};
-ghost use Rattle.caldate_run.specs.Runs.{WritesPage};
+ghost use Rattle.caldate_run.specs.Outputs.{WritesPage};
 
-use crate::answer::push_reason;
+use crate::run::no_answer::push_reason;
 use crate::output::buffer::Buffer;
 use crate::output::write_all;
 use crate::run::run_error::{RunError, is_closed};

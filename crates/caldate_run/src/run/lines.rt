@@ -4,8 +4,11 @@ ghost use Rattle.caldate_run.specs.Lines.{has_return, quotes_in, separator_of, t
 ghost use Rattle.caldate_run.specs.Fields.{is_quote, quoting_past, split_outside_quotes};
 ghost use Rattle.caldate_run.specs.RunStates.{FirstEnds, HasNoFeed, NoEnd, quoting_in};
 
-use crate::request::Field;
+use crate::field::Field;
 use crate::run::quoting::Quoting;
+
+/// The maximum length of the text of a line, in bytes.
+pub const LONGEST_TEXT: usize = 4096;
 
 /// Returns the first complete line, without its line feed, and the bytes after it.
 #[tactic(auto, using(crate::proofs::Parts::first_ends, crate::proofs::Parts::none_ends, std::proofs::lemmas::List::take_rest))]

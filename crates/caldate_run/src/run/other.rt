@@ -3,7 +3,7 @@ ghost use Rattle.std.specs.Prelude.{◌≡◌, ◌+◌, ◌≤◌, List, Some, �
 ghost use Rattle.caldate_run.specs.Answers.{IsAnswerTo, keeps};
 ghost use Rattle.caldate_run.specs.Fields.{field_text};
 ghost use Rattle.caldate_run.specs.Room.{HasRoom, longest_answer, longest_text};
-ghost use Rattle.caldate_run.specs.Runs.{AppendsAnswer, AppendsSome};
+ghost use Rattle.caldate_run.specs.Appends.{AppendsAnswer, AppendsSome};
 ghost use Rattle.caldate_run.specs.Targets.{IsAnswerAt, IsOther, IsReadOther, other_field, target_fields, with_target};
 ghost use Rattle.caldate_run.specs.declared.request.Target.TheVariants.{Text};
 
@@ -11,7 +11,8 @@ use crate::answer::{push_answer, push_between, read_with};
 use crate::input::field_text::{FieldText, plain_text};
 use crate::input::fields::cut_field;
 use crate::output::buffer::Buffer;
-use crate::request::{Field, Filter, Request};
+use crate::field::Field;
+use crate::request::{Filter, Request};
 use crate::run::no_answer::NoAnswer;
 use cal_schedule::Workdays;
 use cal_text::DateOrMoment;

@@ -7,7 +7,7 @@ ghost use Rattle.caldate_run.specs.Room.{HasRoom, longest_text};
 use crate::input::field_text::{FieldText, plain_text};
 use crate::input::fields::cut_field;
 use crate::output::buffer::Buffer;
-use crate::request::Field;
+use crate::field::Field;
 use std::marker::Model;
 
 /// Bytes that stay, perhaps with a separator, and then the bytes that the answer to a text replaces.

@@ -7,11 +7,13 @@ ghost use Rattle.caldate_run.specs.Reasons.{reason};
 ghost use Rattle.caldate_run.specs.Room.{HasRoom, longest_answer, longest_field, longest_out, longest_reply, longest_text};
 ghost use Rattle.caldate_run.specs.Runs.{AppendsOut};
 
-use crate::answer::push_reason;
+use crate::run::no_answer::push_reason;
 use crate::input::fields::is_quoted;
 use crate::on_invalid::OnInvalid;
 use crate::output::buffer::Buffer;
-use crate::request::{Field, FieldNumbers, Filter};
+use crate::field::Field;
+use crate::field_numbers::FieldNumbers;
+use crate::request::Filter;
 use crate::run::no_answer::NoAnswer;
 use crate::run::other::push_answer_at;
 use crate::run::piece::{Piece, field_piece, new_field, whole};

@@ -4,7 +4,7 @@ ghost use Rattle.caldate_run.specs.Fields.{doubled, end_of_field, escaped, is_sp
 ghost use Rattle.caldate_run.specs.Room.{HasRoom, longest_answer, longest_field};
 
 use crate::output::buffer::Buffer;
-use crate::request::Field;
+use crate::field::Field;
 
 /// The maximum length of an answer, in bytes.
 pub const LONGEST_ANSWER: usize = 1000;

@@ -1,6 +1,6 @@
 //! Counts of the lines of a run.
 ghost use Rattle.std.specs.Prelude.{◌≡◌, Some, MatchOption};
-ghost use Rattle.caldate_run.specs.Replies.{more};
+ghost use Rattle.caldate_run.specs.RunStates.{more};
 
 use crate::run::unanswered::UnansweredLine;
 

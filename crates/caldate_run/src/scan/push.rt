@@ -2,10 +2,11 @@
 ghost use Rattle.std.specs.Prelude.{◌≡◌, ◌+◌, ◌≤◌, [], OnErr, false, length, true};
 ghost use Rattle.caldate_run.specs.Answers.{keeps};
 ghost use Rattle.caldate_run.specs.Room.{HasRoom, longest_reply, longest_text};
-ghost use Rattle.caldate_run.specs.Runs.{AppendsAnswer};
+ghost use Rattle.caldate_run.specs.Appends.{AppendsAnswer};
 ghost use Rattle.caldate_run.specs.Scans.{HasNoText, IsReplaced, IsScanned, IsSelected};
 
-use crate::answer::{LONGEST_TEXT, push_read};
+use crate::run::lines::LONGEST_TEXT;
+use crate::answer::push_read;
 use crate::on_invalid::OnInvalid;
 use crate::output::buffer::Buffer;
 use crate::request::Filter;

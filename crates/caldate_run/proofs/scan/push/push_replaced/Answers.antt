@@ -1,10 +1,10 @@
 use Rattle.std.proofs.Common.{◌≡◌, ◌∙◌, ◌≤◌, ◌<◌, ◌++◌, [], Some, None, Ok, Err, ap, append-nil, arith, length, length-append, drop, refl, subst, sym}
 use Rattle.caldate_run.specs.Answers.{IsAnswer}
-use Rattle.caldate_run.specs.Runs.{AppendsAnswer, AppendsSome}
+use Rattle.caldate_run.specs.Appends.{AppendsAnswer, AppendsSome}
 use Rattle.caldate_run.specs.Scans.{IsReadWith, with_words}
 use Rattle.caldate_run.specs.Scans.IsReplaced.{no_more, answered, too_long, unanswered}
 use Rattle.caldate_run.specs.declared.run.no_answer.NoAnswer.TheVariants as why
-use Rattle.caldate_run.proofs.Replied.{taken_back}
+use Rattle.caldate_run.proofs.Appends.{taken_back}
 use Rattle.caldate_run.proofs.Scans.{back, fitted_long, fitted_short, last_out, next_out}
 use Rattle.caldate_run.proofs.scan.push.push_replaced.Goals as goal
 

@@ -2,7 +2,7 @@ use Rattle.std.proofs.Common.{◌≡◌, ◌∙◌, [], false, inl, inr, refl, s
 use Rattle.std.specs.Prelude.{MatchBool}
 use Rattle.caldate_run.specs.Answers.{keeps}
 use Rattle.caldate_run.specs.Scans.{IsReplaced, IsScanned, IsSelected}
-use Rattle.caldate_run.proofs.Replied.{puts_other}
+use Rattle.caldate_run.proofs.Appends.{puts_other}
 use Rattle.caldate_run.proofs.scan.push.push_scanned.Goals as goal
 
 pub returns-then-ends_at-clause-answered : goal.returns-then-ends_at-clause-answered

@@ -1,8 +1,8 @@
 use Rattle.std.proofs.Common.{◌≡◌, ◌∙◌, ◌++◌, Some, None, Ok, Err, ap, inr, refl, subst, sym}
 use Rattle.caldate_run.specs.Answers.{IsAnswer}
-use Rattle.caldate_run.specs.Runs.{AppendsAnswer, AppendsSome}
+use Rattle.caldate_run.specs.Appends.{AppendsAnswer, AppendsSome}
 use Rattle.caldate_run.specs.Scans.{IsReadWith}
-use Rattle.caldate_run.proofs.Replied.{taken_back}
+use Rattle.caldate_run.proofs.Appends.{taken_back}
 use Rattle.caldate_run.proofs.scan.push.push_selected.Goals as goal
 
 pub push_read-requires-clause-read : goal.push_read-requires-clause-read

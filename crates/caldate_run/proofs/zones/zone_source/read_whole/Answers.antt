@@ -1,7 +1,7 @@
 use Rattle.std.proofs.Common.{◌≡◌, ◌-◌, ◌≤◌, ℕ, List, Option, length, rules, sym, subst, take}
 use Rattle.std.proofs.KnownBytes.{Consumes-trans}
 use Rattle.std.specs.Io.KnownBytes.{Consumes}
-use Rattle.caldate_run.specs.Runs.{HasRead}
+use Rattle.caldate_run.specs.Outputs.{HasRead}
 use Rattle.caldate_run.proofs.Known.{given_more}
 use Rattle.caldate_run.proofs.zones.zone_source.read_whole.Goals as goal
 

@@ -1,6 +1,6 @@
 use Rattle.std.proofs.Common.{◌∙◌, ◌++◌, codes, decimal, ap, sym, append_assoc}
 use Rattle.caldate_run.specs.Reasons.{reason}
-use Rattle.caldate_run.proofs.answer.push_reason.Goals as goal
+use Rattle.caldate_run.proofs.run.no_answer.push_reason.Goals as goal
 
 pub returns-in-Unreadable-clause-text : goal.returns-in-Unreadable-clause-text
 returns-in-Unreadable-clause-text c =

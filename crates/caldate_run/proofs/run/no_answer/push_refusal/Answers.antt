@@ -1,5 +1,5 @@
 use Rattle.std.proofs.Common.{◌≡◌, true, sym, ◌∙◌, append_assoc}
-use Rattle.caldate_run.proofs.answer.push_refusal.Goals as goal
+use Rattle.caldate_run.proofs.run.no_answer.push_refusal.Goals as goal
 
 pub returns-then-is_conditional-clause-text : goal.returns-then-is_conditional-clause-text
 returns-then-is_conditional-clause-text c =
