@@ -4,25 +4,25 @@ use Rattle.std.specs.Prelude.{IsSomeAnd, MatchBool, MatchOption, is_some, nat_lt
 use Rattle.std.proofs.Math.Seq.{take-append-add}
 use Rattle.std.proofs.lemmas.Bool.{false≢true, le-ltb, lt-ltb}
 use Rattle.std.proofs.lemmas.List.{append-nil, get_or-append-add}
-use Rattle.caldate_run.specs.Answers.{Answer}
+use Rattle.caldate_lines.specs.Fields.{text_without}
+use Rattle.caldate_lines.specs.Lines.{has_return, text_of}
+use Rattle.caldate_lines.specs.Reasons.{reason}
+use Rattle.caldate_lines.specs.RunStates.{more, IsDroppedFront, passed}
+use Rattle.caldate_lines.specs.declared.no_answer.NoAnswer.{NoAnswer}
+use Rattle.caldate_lines.specs.declared.no_answer.NoAnswer.TheVariants as why
+use Rattle.caldate_lines.specs.declared.on_invalid.OnInvalid.{OnInvalid}
+use Rattle.caldate_lines.specs.declared.on_invalid.OnInvalid.TheVariants as invalid
+use Rattle.caldate_lines.specs.declared.field.Field.{Field}
+use Rattle.caldate_lines.specs.declared.tally.Tally.{Tally}
+use Rattle.caldate_lines.specs.declared.unanswered.UnansweredLine.{UnansweredLine}
+use Rattle.caldate_answers.specs.Answers.{Answer}
+use Rattle.caldate_answers.specs.Appends.{AppendsAnswer, AppendsSome}
+use Rattle.caldate_answers.specs.Scans.{IsScanned}
+use Rattle.caldate_answers.specs.declared.request.Filter.{Filter}
 use Rattle.caldate_run.proofs.Steps.{passed_none}
-use Rattle.caldate_run.specs.Fields.{text_without}
-use Rattle.caldate_run.specs.Lines.{has_return, text_of}
 use Rattle.caldate_run.specs.Pieces.{IsAnswered, instead, pieces_of}
-use Rattle.caldate_run.specs.Reasons.{reason}
 use Rattle.caldate_run.specs.Replies.{Describes, IsCounted, IsLine, IsOutcome, IsOutcomeOfText, IsReplyTo, own_field, skipped, stops, with_end}
-use Rattle.caldate_run.specs.RunStates.{more, IsDroppedFront, passed}
 use Rattle.caldate_run.specs.Runs.{AppendsOut}
-use Rattle.caldate_run.specs.Appends.{AppendsAnswer, AppendsSome}
-use Rattle.caldate_run.specs.Scans.{IsScanned}
-use Rattle.caldate_run.specs.declared.run.no_answer.NoAnswer.{NoAnswer}
-use Rattle.caldate_run.specs.declared.run.no_answer.NoAnswer.TheVariants as why
-use Rattle.caldate_run.specs.declared.on_invalid.OnInvalid.{OnInvalid}
-use Rattle.caldate_run.specs.declared.on_invalid.OnInvalid.TheVariants as invalid
-use Rattle.caldate_run.specs.declared.field.Field.{Field}
-use Rattle.caldate_run.specs.declared.request.Filter.{Filter}
-use Rattle.caldate_run.specs.declared.run.tally.Tally.{Tally}
-use Rattle.caldate_run.specs.declared.run.unanswered.UnansweredLine.{UnansweredLine}
 
 -- ---- a line of which a front was let go
 same_return : (kept line : List ℕ) → 0 < length line → has_return (kept ++ line) ≡ has_return line

@@ -4,23 +4,23 @@ use Rattle.std.specs.Io.KnownBytes.{Appends}
 use Rattle.std.proofs.Math.Nat.{min-eq_left}
 use Rattle.std.proofs.lemmas.List.{append-nil, take-append-le, take_all}
 use Rattle.std.proofs.lemmas.Bool.{false≢true}
-use Rattle.caldate_run.specs.Lines.{all_lines, ended_lines, last_part, split_from, split_input, text_of, unended, without_empty_last, without_last}
+use Rattle.caldate_lines.specs.Lines.{all_lines, ended_lines, last_part, split_from, split_input, text_of, unended, without_empty_last, without_last}
+use Rattle.caldate_lines.specs.Outputs.{AppendsFront}
+use Rattle.caldate_lines.specs.RunStates.{AreReplies, AtLine, FirstEnds, IsDroppedFront, NoEnd, Replies, RunState, counted, no_lines, onto, passed, quoting_in, quoting_of}
+use Rattle.caldate_lines.specs.declared.no_answer.NoAnswer.{NoAnswer}
+use Rattle.caldate_lines.specs.declared.on_invalid.OnInvalid.{OnInvalid}
+use Rattle.caldate_lines.specs.declared.on_invalid.OnInvalid.TheVariants as invalid
+use Rattle.caldate_lines.specs.declared.progress.Progress.{Progress}
+use Rattle.caldate_lines.specs.declared.field.Field.{Field}
+use Rattle.caldate_lines.specs.declared.quoting.Quoting.{Quoting}
+use Rattle.caldate_lines.specs.declared.quoting.Quoting.TheVariants.{Ready}
+use Rattle.caldate_lines.specs.declared.tally.Tally.{Tally}
+use Rattle.caldate_lines.specs.declared.unanswered.UnansweredLine.{UnansweredLine}
+use Rattle.caldate_lines.proofs.Quotes.{onto_one}
+use Rattle.caldate_lines.proofs.Splits.{line_some, of_none, onto_onto, onto_parts, parts_some, passes_front}
+use Rattle.caldate_answers.specs.declared.request.Filter.{Filter}
 use Rattle.caldate_run.specs.Replies.{Describes, EndsAt, IsOutcome, IsReplyTo, stops}
 use Rattle.caldate_run.specs.Runs.{AnswersEnded, AnswersFront, IsPassedOn, EndsUnanswered, StopsAt}
-use Rattle.caldate_run.specs.Outputs.{AppendsFront}
-use Rattle.caldate_run.specs.RunStates.{AreReplies, AtLine, FirstEnds, IsDroppedFront, NoEnd, Replies, RunState, counted, no_lines, onto, passed, quoting_in, quoting_of}
-use Rattle.caldate_run.specs.declared.run.no_answer.NoAnswer.{NoAnswer}
-use Rattle.caldate_run.specs.declared.on_invalid.OnInvalid.{OnInvalid}
-use Rattle.caldate_run.specs.declared.on_invalid.OnInvalid.TheVariants as invalid
-use Rattle.caldate_run.specs.declared.run.progress.Progress.{Progress}
-use Rattle.caldate_run.specs.declared.field.Field.{Field}
-use Rattle.caldate_run.specs.declared.request.Filter.{Filter}
-use Rattle.caldate_run.specs.declared.run.quoting.Quoting.{Quoting}
-use Rattle.caldate_run.specs.declared.run.quoting.Quoting.TheVariants.{Ready}
-use Rattle.caldate_run.specs.declared.run.tally.Tally.{Tally}
-use Rattle.caldate_run.specs.declared.run.unanswered.UnansweredLine.{UnansweredLine}
-use Rattle.caldate_run.proofs.Quotes.{onto_one}
-use Rattle.caldate_run.proofs.Splits.{line_some, of_none, onto_onto, onto_parts, parts_some, passes_front}
 
 -- ---- replies
 one_reply : (IsReply : Replies) (before n : ℕ) (lines : List (List ℕ)) (line out reply : List ℕ) (t u v : Tally) → n ≡ before + length lines

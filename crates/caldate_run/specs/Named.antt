@@ -1,17 +1,17 @@
 -- A run with names of fields, by the numbers that a header gives them.
 use Rattle.std.specs.Prelude.{◌⊎◌, ℕ, Bool, true, false, unwrap_or, get_or, List, MatchResult, Option, Some, None, Result, MatchBool}
 use Rattle.std.specs.Io.KnownBytes.{Consumes}
-use Rattle.caldate_run.specs.Ending.{Says}
-use Rattle.caldate_run.specs.Fields.{no_names, overlap, renumbered}
-use Rattle.caldate_run.specs.RunStates.{NoEnd}
-use Rattle.caldate_run.specs.Targets.{target_name, with_target}
-use Rattle.caldate_run.specs.declared.run.quoting.Quoting.TheVariants.{Ready}
-use Rattle.caldate_run.specs.declared.field.Field.{Field}
-use Rattle.caldate_run.specs.declared.request.Filter.{Filter}
-use Rattle.caldate_run.specs.declared.request.Request.{Request}
-use Rattle.caldate_run.specs.declared.request.Target.TheVariants.{Fields}
-use Rattle.caldate_run.specs.declared.run.run_error.RunError.{RunError}
-use Rattle.caldate_run.specs.Header.{HasHeader, header_of, number_in, numbers_of, of_both}
+use Rattle.caldate_lines.specs.Ending.{Says}
+use Rattle.caldate_lines.specs.Fields.{no_names, overlap, renumbered}
+use Rattle.caldate_lines.specs.RunStates.{NoEnd}
+use Rattle.caldate_lines.specs.declared.quoting.Quoting.TheVariants.{Ready}
+use Rattle.caldate_lines.specs.declared.field.Field.{Field}
+use Rattle.caldate_lines.specs.declared.run_error.RunError.{RunError}
+use Rattle.caldate_lines.specs.Header.{HasHeader, header_of, number_in, numbers_of, of_both}
+use Rattle.caldate_answers.specs.Targets.{target_name, with_target}
+use Rattle.caldate_answers.specs.declared.request.Filter.{Filter}
+use Rattle.caldate_answers.specs.declared.request.Request.{Request}
+use Rattle.caldate_answers.specs.declared.request.Target.TheVariants.{Fields}
 
 -- The numbers of the fields to answer and of the field that has TEXT, each if it has a name.
 abbrev pub numbers_in : Filter → Field → List ℕ → Result (List (Option ℕ) × Option ℕ) (List ℕ)

@@ -2,22 +2,22 @@
 use Rattle.std.specs.Prelude.{◌≡◌, ◌⊎◌, ℕ, ◌<◌, Bool, true, List, [], ◌∷◌, ◌++◌, length, is_some, unwrap_or, Option, Some, None, Result, Ok, Err}
 use Rattle.std.specs.Io.KnownBytes.{Appends, Consumes, IsAtEnd}
 use Rattle.std.specs.declared.io.Error.{Error}
-use Rattle.caldate_run.specs.Calls.{Reads, Writes, has_read_failure, kind_of, write_failure}
-use Rattle.caldate_run.specs.Lines.{all_lines, ended_lines, text_of, unended}
-use Rattle.caldate_run.specs.Outputs.{AppendsFront, Outputs}
+use Rattle.caldate_lines.specs.Calls.{Reads, Writes, has_read_failure, kind_of, write_failure}
+use Rattle.caldate_lines.specs.Lines.{all_lines, ended_lines, text_of, unended}
+use Rattle.caldate_lines.specs.Outputs.{AppendsFront, Outputs}
+use Rattle.caldate_lines.specs.Room.{longest_text}
+use Rattle.caldate_lines.specs.RunStates.{AreReplies, AtLine, IsDroppedFront, Replies, RunState, counted, no_lines, passed}
+use Rattle.caldate_lines.specs.declared.output.Output.{Output}
+use Rattle.caldate_lines.specs.declared.run_error.RunError.{RunError}
+use Rattle.caldate_lines.specs.declared.run_error.RunError.TheVariants.{Read, Write, Stopped, Unanswered}
+use Rattle.caldate_lines.specs.declared.no_answer.NoAnswer.{NoAnswer}
+use Rattle.caldate_lines.specs.declared.on_invalid.OnInvalid.{OnInvalid}
+use Rattle.caldate_lines.specs.declared.on_invalid.OnInvalid.TheVariants as invalid
+use Rattle.caldate_lines.specs.declared.progress.Progress.{Progress}
+use Rattle.caldate_lines.specs.declared.tally.Tally.{Tally}
+use Rattle.caldate_lines.specs.declared.unanswered.UnansweredLine.{UnansweredLine}
+use Rattle.caldate_answers.specs.declared.request.Filter.{Filter}
 use Rattle.caldate_run.specs.Replies.{EndsAt, IsOutcome, IsReplyTo, stops}
-use Rattle.caldate_run.specs.Room.{longest_text}
-use Rattle.caldate_run.specs.RunStates.{AreReplies, AtLine, IsDroppedFront, Replies, RunState, counted, no_lines, passed}
-use Rattle.caldate_run.specs.declared.output.Output.{Output}
-use Rattle.caldate_run.specs.declared.run.run_error.RunError.{RunError}
-use Rattle.caldate_run.specs.declared.run.run_error.RunError.TheVariants.{Read, Write, Stopped, Unanswered}
-use Rattle.caldate_run.specs.declared.run.no_answer.NoAnswer.{NoAnswer}
-use Rattle.caldate_run.specs.declared.on_invalid.OnInvalid.{OnInvalid}
-use Rattle.caldate_run.specs.declared.on_invalid.OnInvalid.TheVariants as invalid
-use Rattle.caldate_run.specs.declared.run.progress.Progress.{Progress}
-use Rattle.caldate_run.specs.declared.request.Filter.{Filter}
-use Rattle.caldate_run.specs.declared.run.tally.Tally.{Tally}
-use Rattle.caldate_run.specs.declared.run.unanswered.UnansweredLine.{UnansweredLine}
 
 -- The new bytes are the old ones and what goes out, if anything does.
 abbrev pub AppendsOut : (Option (List ℕ) → Type 0) → Bool → List ℕ → List ℕ → Type 0
