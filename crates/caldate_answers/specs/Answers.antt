@@ -31,7 +31,6 @@ use Rattle.caldate_answers.specs.declared.request.Request.{Request}
 use Rattle.caldate_answers.specs.declared.request.Request.TheVariants.{To, Print, Add, Move, Floor, Until, Since, At, Keep}
 use Rattle.caldate_answers.specs.declared.request.Target.TheVariants as target
 use Rattle.caldate_answers.specs.declared.request.TimeUnit.{TimeUnit}
-use Rattle.caldate_answers.specs.declared.request.TimeUnit.TheVariants as unit
 
 -- Moment m moves to day n and keeps its time of day and offset.
 abbrev pub on_day : LocalAndOffset → ℕ → LocalAndOffset
