@@ -1,5 +1,5 @@
 -- The answer to the text of a line.
-use Rattle.std.specs.Prelude.{◌≡◌, ◌⊎◌, ℕ, ◌+◌, ◌-◌, ◌*◌, ◌%◌, max, ◌&&◌, Bool, true, false, not, ℤ, pos, ◌+ℤ◌, ◌-ℤ◌, List, Option, Some, None, is_some, Result, Ok, Err, if◌then◌else◌}
+use Rattle.std.specs.Prelude.{◌≡◌, ◌⊎◌, ℕ, ◌+◌, ◌-◌, ◌*◌, ◌%◌, max, ◌&&◌, Bool, true, false, not, ℤ, pos, ◌+ℤ◌, ◌-ℤ◌, List, MatchOption, Option, Some, None, is_some, Result, Ok, Err, if◌then◌else◌}
 use Rattle.std.specs.Fmt.{signed_decimal}
 use Rattle.std.specs.Option.{option_map_or}
 use Rattle.cal_time.specs.Date.{IsDate, julian_day_at}
@@ -18,24 +18,26 @@ use Rattle.caldate_run.specs.Counts.{IsCount}
 use Rattle.caldate_run.specs.Bounds.{lies_in}
 use Rattle.caldate_run.specs.Forms.{IsInForm, format_text}
 pub use Rattle.caldate_run.specs.Found.{day_of, form_read, is_date, moment_of}
+use Rattle.caldate_run.specs.ClockMoves.{IsMovedOn}
+pub use Rattle.caldate_run.specs.Moves.{floored, on_day}
 use Rattle.caldate_run.specs.Moves.{MovesTo}
 use Rattle.caldate_run.specs.Readers.{IsFoundBy, IsUnread}
 use Rattle.caldate_run.specs.declared.run.no_answer.NoAnswer.{NoAnswer}
 use Rattle.caldate_run.specs.declared.run.no_answer.NoAnswer.TheVariants as why
+use Rattle.caldate_run.specs.declared.request.Clock.{Clock}
 use Rattle.caldate_run.specs.declared.request.DayMove.{DayMove}
 use Rattle.caldate_run.specs.declared.request.Filter.{Filter}
+use Rattle.caldate_run.specs.declared.request.Form.{Form}
 use Rattle.caldate_run.specs.declared.request.Form.TheVariants.{Moment}
+use Rattle.caldate_run.specs.declared.request.Move.{Move}
 use Rattle.caldate_run.specs.declared.request.Place.{Place}
 use Rattle.caldate_run.specs.declared.request.Place.TheVariants as place
 use Rattle.caldate_run.specs.declared.request.Request.{Request}
-use Rattle.caldate_run.specs.declared.request.Request.TheVariants.{To, Print, Add, Move, Floor, Until, Since, At, Keep}
+use Rattle.caldate_run.specs.declared.request.Move.TheVariants as move
+use Rattle.caldate_run.specs.declared.request.Request.TheVariants.{To, Print, Move, MoveAt, Until, Since, At, Keep}
 use Rattle.caldate_run.specs.declared.request.Target.TheVariants as target
 use Rattle.caldate_run.specs.declared.request.TimeUnit.{TimeUnit}
 use Rattle.caldate_run.specs.declared.request.TimeUnit.TheVariants as unit
-
--- Moment m moves to day n and keeps its time of day and offset.
-abbrev pub on_day : LocalAndOffset → ℕ → LocalAndOffset
-on_day m n = record { local = date_time n (time_at m.local); offset = m.offset }
 
 -- A date moves by only the whole days of a duration, a moment by all of it.
 pub record IsDayLater (n : ℕ) (d : ℤ) (m : LocalAndOffset) : Type 0 where
@@ -81,25 +83,34 @@ IsAt place from words = (m : LocalAndOffset) × IsShownAt (offset_in place from)
 abbrev pub IsMoved : WorkWeek → DayMove → DateOrMoment → List ℕ → Type 0
 IsMoved workdays by found words = (n : ℕ) × MovesTo workdays by (day_of found) n × IsInForm (form_read found) (on_day (moment_of found) n) words
 
--- The time of day is rounded down to a multiple of n minutes after midnight, or of 1 minute for 0.
-abbrev pub floored : ℕ → LocalAndOffset → LocalAndOffset
-floored n m =
-    let minutes = hour_of (time_at m.local) * 60 + minute_of (time_at m.local) in
-    record { local = date_time (date_at m.local) ((minutes - minutes % max n 1) * duration.minute); offset = m.offset }
+-- The words are the moment in a form, moved by the clocks of a zone.
+abbrev pub IsMovedAt : Clock → WorkWeek → Move → Form → LocalAndOffset → List ℕ → Type 0
+IsMovedAt clock workdays by form from words = (m : LocalAndOffset) × IsMovedOn clock workdays by from m × IsInForm form m words
 
 -- The words replace the text that was read. `keep` leaves it as it is. TEXT of `until` and `since`
 -- must be given: if other fields have it, it is put in at each line.
 abbrev pub IsAnswerTo : WorkWeek → Request → List ℕ → DateOrMoment → List ℕ → Type 0
 IsAnswerTo workdays (To form) text found words = IsInForm form (moment_of found) words
 IsAnswerTo workdays (Print items) text found words = words ≡ format_text items (moment_of found)
-IsAnswerTo workdays (Add d) text found words = (m : LocalAndOffset) × IsLater found d m × IsInForm (form_read found) m words
-IsAnswerTo workdays (Move by) text found words = IsMoved workdays by found words
-IsAnswerTo workdays (Floor n) text found words = IsInForm (form_read found) (floored n (moment_of found)) words
+IsAnswerTo workdays (Move (move.Add d)) text found words = (m : LocalAndOffset) × IsLater found d m × IsInForm (form_read found) m words
+IsAnswerTo workdays (Move (move.Day by)) text found words = IsMoved workdays by found words
+IsAnswerTo workdays (Move (move.Floor n)) text found words = IsInForm (form_read found) (floored n (moment_of found)) words
+IsAnswerTo workdays (MoveAt clock by) text found words = IsMovedAt clock workdays by (Moment Rfc3339) (moment_of found) words
 IsAnswerTo workdays (Until (target.Text to) unit) text found words = IsBetween workdays unit found to words
 IsAnswerTo workdays (Since (target.Text from) unit) text found words = IsBetween workdays unit from found words
 IsAnswerTo workdays (At place) text found words = IsAt place (moment_of found) words
 IsAnswerTo workdays (Keep bounds) text found words = (lies_in bounds found ≡ Some true) × (words ≡ text)
 IsAnswerTo workdays other text found words = ⊥
+
+-- With a clock, a moment moves by what the clock shows. A date moves as without one.
+abbrev pub IsAnswerOn : Clock → WorkWeek → Request → List ℕ → DateOrMoment → List ℕ → Type 0
+IsAnswerOn clock workdays (Move by) text (read.Moment form m) words = IsMovedAt clock workdays by (Moment form) m words
+IsAnswerOn clock workdays request text found words = IsAnswerTo workdays request text found words
+
+abbrev pub IsAnswerBy : Filter → List ℕ → DateOrMoment → List ℕ → Type 0
+IsAnswerBy filter text found words =
+    MatchOption filter.clock (IsAnswerTo filter.workdays filter.request text found words)
+    (λ clock. IsAnswerOn clock filter.workdays filter.request text found words)
 
 -- `keep` answers with the text itself.
 abbrev pub keeps : Request → Bool
@@ -122,8 +133,8 @@ abbrev pub Answer : Type 0
 Answer = Result (Option (List ℕ)) NoAnswer
 
 -- The date or moment that was read has no answer, and its line is not left out.
-abbrev pub HasNone : WorkWeek → Request → List ℕ → DateOrMoment → Type 0
-HasNone workdays request text found = (leaves_out request found ≡ false) × ((words : List ℕ) → ¬ IsAnswerTo workdays request text found words)
+abbrev pub HasNone : Filter → List ℕ → DateOrMoment → Type 0
+HasNone filter text found = (leaves_out filter.request found ≡ false) × ((words : List ℕ) → ¬ IsAnswerBy filter text found words)
 
 -- The text is read, as this date or moment. With a clock, its local time is a reading of the clock.
 abbrev pub IsReadAs : Filter → List ℕ → DateOrMoment → Type 0
@@ -137,7 +148,7 @@ IsNotRead filter text any = IsUnread filter.assumptions filter.readers text any
 
 -- The answer to a text.
 abbrev pub IsAnswer : Filter → List ℕ → Answer → Type 0
-IsAnswer filter text (Ok (Some words)) = (found : DateOrMoment) × IsReadAs filter text found × IsAnswerTo filter.workdays filter.request text found words
+IsAnswer filter text (Ok (Some words)) = (found : DateOrMoment) × IsReadAs filter text found × IsAnswerBy filter text found words
 IsAnswer filter text (Ok None) = (found : DateOrMoment) × IsReadAs filter text found × (leaves_out filter.request found ≡ true)
-IsAnswer filter text (Err why.None) = (found : DateOrMoment) × IsReadAs filter text found × HasNone filter.workdays filter.request text found
+IsAnswer filter text (Err why.None) = (found : DateOrMoment) × IsReadAs filter text found × HasNone filter text found
 IsAnswer filter text (Err other) = IsNotRead filter text other

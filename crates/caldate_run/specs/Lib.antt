@@ -2,6 +2,7 @@ pub mod Answers
 pub mod Bounds
 pub mod Calls
 pub mod ClockWords
+pub mod ClockMoves
 pub mod Clocks
 pub mod Counts
 pub mod Ending

@@ -2,7 +2,7 @@
 ghost use Rattle.std.specs.Prelude.{◌≡◌, ◌+◌, ◌≤◌, ◌++◌, ◌∷◌, ℕ, List, None, Some, Ok, Err, IfOk, IfErr, false, true, length, MatchOption};
 ghost use Rattle.cal_datetime.specs.OffsetDateTime.{LocalAndOffset};
 ghost use Rattle.cal_text.specs.declared.any.DateOrMoment.{DateOrMoment};
-ghost use Rattle.caldate_run.specs.Answers.{IsAnswer, IsAnswerTo, IsAt, IsBetween, IsDayLater, IsLater, IsMomentLater, IsMoved, IsNotRead, IsReadAs, compares, floored, form_read, is_date, keeps, moment_of, offset_in, on_day, until_text};
+ghost use Rattle.caldate_run.specs.Answers.{IsAnswer, IsAnswerBy, IsAnswerOn, IsAnswerTo, IsAt, IsBetween, IsDayLater, IsLater, IsMomentLater, IsMoved, IsMovedAt, IsNotRead, IsReadAs, compares, floored, form_read, is_date, keeps, moment_of, offset_in, on_day, until_text};
 ghost use Rattle.caldate_run.specs.Bounds.{lies_in};
 ghost use Rattle.caldate_run.specs.Forms.{IsInForm, format_text};
 ghost use Rattle.caldate_run.specs.Readers.{IsUnreadIn};
@@ -17,6 +17,7 @@ ghost use Rattle.caldate_run.specs.declared.reading.reader.Reader.TheVariants.{N
 ghost use Rattle.caldate_run.specs.declared.run.no_answer.NoAnswer.{NoAnswer};
 
 pub(crate) mod clock;
+pub(crate) mod clock_moves;
 pub(crate) mod counts;
 pub(crate) mod forms;
 pub(crate) mod moves;
@@ -24,6 +25,7 @@ pub(crate) mod signed;
 pub(crate) mod texts;
 
 use crate::answer::clock::placed;
+use crate::answer::clock_moves::moved_on;
 use crate::answer::counts::count_between;
 use crate::answer::moves::moved_day;
 use crate::answer::texts::{
@@ -34,7 +36,9 @@ use crate::args::bounds::{is_comparable, lies_in};
 use crate::output::buffer::Buffer;
 use crate::reading::reader::Reader;
 use crate::reading::{Reading, read, read_in, reason_of};
-use crate::request::{Bounds, DayMove, Filter, Form, Place, Request, Target, TimeUnit};
+use crate::request::{
+    Bounds, Clock, DayMove, Filter, Form, Move, Place, Request, Target, TimeUnit,
+};
 use crate::run::no_answer::NoAnswer;
 use cal_datetime::OffsetDateTime;
 use cal_format::Format;
@@ -165,7 +169,7 @@ fn push_found(
     ensures few { keeps filter.now.request ≡ false
         → length buffer.new ≤ length buffer.old + longest_answer }
 {
-    if push_answer_to(buffer, &filter.workdays, &filter.request, text, found) {
+    if push_answer_by(buffer, filter, text, found) {
         Ok(true)
     } else if compares(&filter.request, found) {
         Ok(false)
@@ -228,6 +232,81 @@ fn push_refusal(buffer: &mut Buffer, error: ComponentRange)
 
 /// Appends the answer for the date or moment of `text`, or nothing. Returns whether it did.
 #[inline(always)]
+fn push_answer_by(
+    buffer: &mut Buffer,
+    filter: &Filter<'_>,
+    text: &[u8],
+    found: &DateOrMoment,
+) -> bool
+    requires { HasRoom (length text.now + longest_answer) buffer.old }
+    ensures has { result ≡ true → AppendsSome (IsAnswerBy filter.now text.now found.now)
+        buffer.old buffer.new }
+    ensures none { result ≡ false → (buffer.new ≡ buffer.old)
+        × ((words : List ℕ) → ¬ IsAnswerBy filter.now text.now found.now words) }
+    ensures short { length buffer.new ≤ length buffer.old + length text.now + longest_answer }
+    ensures few { keeps filter.now.request ≡ false
+        → length buffer.new ≤ length buffer.old + longest_answer }
+{
+    match &filter.clock {
+        Some(clock) => {
+            push_answer_on(buffer, clock, &filter.workdays, &filter.request, text, found)
+        }
+        None => push_answer_to(buffer, &filter.workdays, &filter.request, text, found),
+    }
+}
+
+/// Appends the answer by the clocks of a zone, or nothing. Returns whether it did.
+#[inline(never)]
+fn push_answer_on(
+    buffer: &mut Buffer,
+    clock: &Clock<'_>,
+    workdays: &Workdays<'_>,
+    request: &Request<'_>,
+    text: &[u8],
+    found: &DateOrMoment,
+) -> bool
+    requires { HasRoom (length text.now + longest_answer) buffer.old }
+    ensures has { result ≡ true → AppendsSome
+        (IsAnswerOn clock.now workdays.now request.now text.now found.now) buffer.old buffer.new }
+    ensures none { result ≡ false → (buffer.new ≡ buffer.old)
+        × ((words : List ℕ) → ¬ IsAnswerOn clock.now workdays.now request.now text.now found.now words) }
+    ensures short { length buffer.new ≤ length buffer.old + length text.now + longest_answer }
+    ensures few { keeps request.now ≡ false
+        → length buffer.new ≤ length buffer.old + longest_answer }
+{
+    match (request, found) {
+        (Request::Move(by), DateOrMoment::Moment(form, moment)) => {
+            push_moved_at(buffer, clock, workdays, *by, Form::Moment(*form), *moment)
+        }
+        _ => push_answer_to(buffer, workdays, request, text, found),
+    }
+}
+
+/// Appends a moment moved by the clocks of a zone, or nothing. Returns whether it did.
+fn push_moved_at(
+    buffer: &mut Buffer,
+    clock: &Clock<'_>,
+    workdays: &Workdays<'_>,
+    by: Move,
+    form: Form,
+    moment: OffsetDateTime,
+) -> bool
+    requires { HasRoom longest_answer buffer.old }
+    ensures has { result ≡ true → AppendsSome (IsMovedAt clock.now workdays.now by form moment)
+        buffer.old buffer.new }
+    ensures none { result ≡ false → (buffer.new ≡ buffer.old)
+        × ((words : List ℕ) → ¬ IsMovedAt clock.now workdays.now by form moment words) }
+    ensures short { length buffer.new ≤ length buffer.old + longest_answer }
+{
+    match moved_on(clock, workdays, by, moment) {
+        Some(moved) => push_in_form(buffer, form, moved),
+        None => false,
+    }
+}
+
+/// Appends the answer by no clock for the date or moment of `text`, or nothing. Returns whether it
+/// did.
+#[inline(always)]
 fn push_answer_to(
     buffer: &mut Buffer,
     workdays: &Workdays<'_>,
@@ -250,12 +329,16 @@ fn push_answer_to(
             push_printed(buffer, format, moment_of(found));
             true
         }
-        Request::Add(duration) => match later(found, *duration) {
+        Request::Move(Move::Add(duration)) => match later(found, *duration) {
             Some(later) => push_in_form(buffer, form_read(found), later),
             None => false,
         },
-        Request::Move(by) => push_moved(buffer, workdays, *by, found),
-        Request::Floor(minutes) => {
+        Request::Move(Move::Day(by)) => push_moved(buffer, workdays, *by, found),
+        Request::MoveAt(clock, by) => {
+            let form = Form::Moment(MomentForm::Rfc3339);
+            push_moved_at(buffer, clock, workdays, *by, form, moment_of(found))
+        }
+        Request::Move(Move::Floor(minutes)) => {
             let floor = floored(*minutes, moment_of(found));
             push_in_form(buffer, form_read(found), floor)
         }
@@ -333,7 +416,7 @@ fn on_day(moment: OffsetDateTime, date: Date) -> OffsetDateTime
 }
 
 /// Rounds the time of day down to a multiple of `minutes` minutes, or of 1 for 0.
-fn floored(minutes: u16, moment: OffsetDateTime) -> OffsetDateTime
+pub(crate) fn floored(minutes: u16, moment: OffsetDateTime) -> OffsetDateTime
     ensures { result ≡ floored minutes moment }
 {
     let time = moment.time();

@@ -4,12 +4,12 @@ ghost use Rattle.cal_text.specs.declared.any.DateOrMoment.{DateOrMoment};
 ghost use Rattle.caldate_run.specs.Clocks.{IsByPolicy, IsOnClock, IsPlaced, why_none};
 ghost use Rattle.caldate_run.specs.declared.run.no_answer.NoAnswer.{NoAnswer};
 
-use crate::request::{Clock, Policy};
+use crate::request::Clock;
 use crate::run::no_answer::NoAnswer;
 use cal_datetime::OffsetDateTime;
 use cal_text::{DateOrMoment, MomentForm};
-use cal_zone::Local;
 use cal_zone::laws::one_local;
+use cal_zone::{Local, Policy};
 
 /// Replaces a moment by the one at which clocks show its local time, if there are clocks.
 #[inline(always)]

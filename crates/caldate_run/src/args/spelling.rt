@@ -6,7 +6,7 @@ use crate::args::names::{
     COMMANDS, CommandName, PERIODS, ROUNDINGS, UNITS, VERBS, Verb, spells, spells_unit,
     value_named, value_of_unit,
 };
-use crate::request::{DayMove, Period, Request, TimeUnit};
+use crate::request::{DayMove, Move, Period, TimeUnit};
 use cal_time::Weekday;
 use std::str;
 
@@ -75,10 +75,10 @@ pub fn period_of(word: &[u8]) -> Option<Period> {
 }
 
 /// Parses the argument of `start`.
-pub fn start_of(word: &[u8]) -> Option<Request<'static>> {
+pub fn start_of(word: &[u8]) -> Option<Move> {
     match period_of(word) {
-        Some(period) => Some(Request::Move(DayMove::Start(period))),
-        None => Some(Request::Floor(value_of_unit(word, &ROUNDINGS)?)),
+        Some(period) => Some(Move::Day(DayMove::Start(period))),
+        None => Some(Move::Floor(value_of_unit(word, &ROUNDINGS)?)),
     }
 }
 
