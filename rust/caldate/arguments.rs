@@ -15,17 +15,18 @@ use cal_format::Format;
 use cal_text::DateOrMoment;
 use cal_time::{Date, Month, Time, UtcOffset};
 use cal_zone::{Policy, Zone};
-use caldate_run::args::arguments::{MAX_BYTES, join};
-use caldate_run::args::asked_by;
-use caldate_run::data_files::system_files::SystemFiles;
-use caldate_run::holidays::MAX_HOLIDAYS;
-use caldate_run::on_invalid::OnInvalid;
+use caldate_answers::reading::reader::Reader;
+use caldate_answers::reading::value_format::ValueFormat;
+use caldate_answers::reading::{DateOrder, Reading};
+use caldate_answers::request::*;
+use caldate_args::args::arguments::{MAX_BYTES, join};
+use caldate_args::args::asked_by;
+use caldate_args::data_files::system_files::SystemFiles;
+use caldate_args::holidays::MAX_HOLIDAYS;
+use caldate_args::zones::zone_source::{MAX_FILE_BYTES, MAX_PATH_BYTES, find_folder};
+use caldate_lines::field::Field;
+use caldate_lines::on_invalid::OnInvalid;
 use caldate_run::program::perform;
-use caldate_run::reading::reader::Reader;
-use caldate_run::reading::value_format::ValueFormat;
-use caldate_run::reading::{DateOrder, Reading};
-use caldate_run::request::*;
-use caldate_run::zones::zone_source::{MAX_FILE_BYTES, MAX_PATH_BYTES, find_folder};
 use std::env::{Env, FillError};
 use std::fs::Files;
 use std::io::{Read, Write};
@@ -136,7 +137,7 @@ fn answer(call: &Call<'_>) -> Vec<u8> {
     }
 }
 
-fn message_of(error: caldate_run::args::usage_error::UsageError<'_>, words: &[u8]) -> Vec<u8> {
+fn message_of(error: caldate_args::args::usage_error::UsageError<'_>, words: &[u8]) -> Vec<u8> {
     let mut message = Vec::new();
     let mut output = Vec::new();
     let now = Some(start());
@@ -250,8 +251,8 @@ fn reader_text(reader: &Reader) -> String {
         Reader::Named(Reading::Date(DateOrder::MonthFirst)) => "mdy".into(),
         Reader::Named(Reading::Unix(unit)) => unix_name(*unit).into(),
         Reader::Named(Reading::Local(_)) | Reader::Local => "local".into(),
-        Reader::Spelled(caldate_run::reading::spelling::Spelling::Iso) => "iso".into(),
-        Reader::Spelled(caldate_run::reading::spelling::Spelling::Seconds) => "unix".into(),
+        Reader::Spelled(caldate_answers::reading::spelling::Spelling::Iso) => "iso".into(),
+        Reader::Spelled(caldate_answers::reading::spelling::Spelling::Seconds) => "unix".into(),
         Reader::Format(format) => value_format_text(format),
         Reader::Yearless(format) => format!("yearless {}", value_format_text(format)),
     }

@@ -1,20 +1,21 @@
 //! Answers by TEXT in other fields of the line.
 ghost use Rattle.std.specs.Prelude.{◌≡◌, ◌+◌, ◌≤◌, List, Some, ℕ, false, is_some, length, true};
-ghost use Rattle.caldate_run.specs.Answers.{IsAnswerTo, keeps};
-ghost use Rattle.caldate_run.specs.Fields.{field_text};
-ghost use Rattle.caldate_run.specs.Room.{HasRoom, longest_answer, longest_text};
-ghost use Rattle.caldate_run.specs.Runs.{AppendsAnswer, AppendsSome};
-ghost use Rattle.caldate_run.specs.Targets.{IsAnswerAt, IsOther, IsReadOther, other_field, target_fields, with_target};
-ghost use Rattle.caldate_run.specs.declared.request.Target.TheVariants.{Text};
+ghost use Rattle.caldate_lines.specs.Fields.{field_text};
+ghost use Rattle.caldate_lines.specs.Room.{HasRoom, longest_answer, longest_text};
+ghost use Rattle.caldate_answers.specs.Answers.{IsAnswerTo, keeps};
+ghost use Rattle.caldate_answers.specs.Appends.{AppendsAnswer, AppendsSome};
+ghost use Rattle.caldate_answers.specs.Targets.{IsAnswerAt, IsOther, IsReadOther, other_field, target_fields, with_target};
+ghost use Rattle.caldate_answers.specs.declared.request.Target.TheVariants.{Text};
 
-use crate::answer::{push_answer, push_between, read_with};
-use crate::input::field_text::{FieldText, plain_text};
-use crate::input::fields::cut_field;
-use crate::output::buffer::Buffer;
-use crate::request::{Field, Filter, Request};
-use crate::run::no_answer::NoAnswer;
 use cal_schedule::Workdays;
 use cal_text::DateOrMoment;
+use caldate_answers::answer::{push_answer, push_between, read_with};
+use caldate_answers::request::{Filter, Request};
+use caldate_lines::field::Field;
+use caldate_lines::input::field_text::{FieldText, plain_text};
+use caldate_lines::input::fields::cut_field;
+use caldate_lines::no_answer::NoAnswer;
+use caldate_lines::output::buffer::Buffer;
 
 /// Returns the other fields that have TEXT, if they do. Field 1 in `until field 1` has the
 /// separator of the field to answer.

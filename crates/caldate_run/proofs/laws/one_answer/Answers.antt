@@ -1,4 +1,4 @@
-use Rattle.caldate_run.proofs.OneAnswer.{one_answer}
+use Rattle.caldate_answers.proofs.OneAnswer.{one_answer}
 use Rattle.caldate_run.proofs.laws.one_answer.Goals as goal
 
 pub returns : goal.returns

@@ -1,0 +1,8 @@
+//! The arguments of `caldate`: from words to a command, and the files that they name.
+#![tactic(auto)]
+
+pub mod args;
+pub mod data_files;
+pub mod files;
+pub mod holidays;
+pub mod zones;
