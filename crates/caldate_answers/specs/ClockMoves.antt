@@ -14,15 +14,14 @@ use Rattle.caldate_answers.specs.declared.request.Move.TheVariants.{Day, Add, Fl
 
 -- A date-time stays as it is on its own day. On another day the clocks show the same time of day, and
 -- the policy says which date-time this means.
-pub record IsOnDay (policy : Policy) (from : InZone) (n : ℕ) (r : InZone) : Type 0 where
-  pub same : n ≡ date_at from.moment.local → r ≡ from
-  pub moved : ¬ (n ≡ date_at from.moment.local) → IsResolved policy from.zone (with_date from.moment.local n) (Ok r)
+abbrev pub IsOnDay : Policy → InZone → ℕ → InZone → Type 0
+IsOnDay policy from n r =
+    MatchBool (n == date_at from.moment.local) (r ≡ from) (IsResolved policy from.zone (with_date from.moment.local n) (Ok r))
 
 -- The start of the day, for 1440 minutes, or the time of day rounded down.
 abbrev pub IsRounded : Policy → ℕ → InZone → InZone → Type 0
-IsRounded policy n from r = MatchBool (n == 1440)
-    (IsStart from.zone (date_time (date_at from.moment.local) 0) (Some r))
-    (IsKept policy from (floored n from.moment).local (Ok r))
+IsRounded policy n from r =
+    MatchBool (n == 1440) (IsStart from.zone (date_time (date_at from.moment.local) 0) (Some r)) (IsKept policy from (floored n from.moment).local (Ok r))
 
 -- A move of days goes by the date and the time of day that the clocks show, and one by a duration by
 -- the instant.

@@ -1,11 +1,13 @@
 //! The answer to the text of a line.
-ghost use Rattle.std.specs.Prelude.{◌≡◌, ◌+◌, ◌≤◌, ◌++◌, ◌∷◌, ℕ, List, None, Some, Ok, Err, IfOk, IfErr, false, true, length, MatchOption};
+ghost use Rattle.std.specs.Prelude.{◌≡◌, ◌+◌, ◌≤◌, ◌++◌, ◌∷◌, ℕ, ℤ, List, None, Some, Ok, Err, IfOk, IfErr, false, true, length, MatchOption};
+ghost use Rattle.std.specs.Fmt.{signed_decimal};
 ghost use Rattle.cal_datetime.specs.OffsetDateTime.{LocalAndOffset};
 ghost use Rattle.cal_text.specs.declared.any.DateOrMoment.{DateOrMoment};
 ghost use Rattle.caldate_lines.specs.Room.{HasRoom, longest_answer};
 ghost use Rattle.caldate_lines.specs.declared.no_answer.NoAnswer.{NoAnswer};
-ghost use Rattle.caldate_answers.specs.Answers.{IsAnswer, IsAnswerBy, IsAnswerOn, IsAnswerTo, IsAt, IsBetween, IsDayLater, IsLater, IsMomentLater, IsMoved, IsMovedAt, IsNotRead, IsReadAs, compares, floored, form_read, is_date, keeps, moment_of, offset_in, on_day, until_text};
+ghost use Rattle.caldate_answers.specs.Answers.{IsAnswer, IsAnswerTo, IsAt, IsBetween, IsBetweenBy, IsDayLater, IsLater, IsMomentLater, IsMoved, IsMovedAt, IsMovedBy, IsNotRead, IsOnMovedDay, IsReadAs, compares, floored, form_read, is_date, keeps, moment_of, offset_in, on_day, until_text};
 ghost use Rattle.caldate_answers.specs.Bounds.{lies_in};
+ghost use Rattle.caldate_answers.specs.ClockCounts.{IsCountOn};
 ghost use Rattle.caldate_answers.specs.Forms.{IsInForm, format_text};
 ghost use Rattle.caldate_answers.specs.Readers.{IsUnreadIn};
 ghost use Rattle.caldate_answers.specs.Readings.{IsTextIn};
@@ -17,6 +19,7 @@ ghost use Rattle.caldate_answers.specs.declared.reading.reader.Reader.TheVariant
 
 pub(crate) mod bounds;
 pub(crate) mod clock;
+pub(crate) mod clock_counts;
 pub(crate) mod clock_moves;
 pub(crate) mod counts;
 pub(crate) mod forms;
@@ -26,6 +29,7 @@ pub(crate) mod texts;
 
 use crate::answer::bounds::{is_comparable, lies_in};
 use crate::answer::clock::placed;
+use crate::answer::clock_counts::count_on;
 use crate::answer::clock_moves::moved_on;
 use crate::answer::counts::count_between;
 use crate::answer::moves::moved_day;
@@ -43,6 +47,8 @@ use cal_format::Format;
 use cal_schedule::Workdays;
 use cal_text::{DateOrMoment, MomentForm};
 use cal_time::{Date, ShortText, SignedDuration, Time, UtcOffset};
+use cal_zone::Zone;
+use cal_zone::laws::one_local;
 use caldate_lines::no_answer::NoAnswer;
 use caldate_lines::output::buffer::Buffer;
 
@@ -165,7 +171,14 @@ fn push_found(
     ensures few { keeps filter.now.request ≡ false
         → length buffer.new ≤ length buffer.old + longest_answer }
 {
-    if push_answer_by(buffer, filter, text, found) {
+    if push_answer_to(
+        buffer,
+        &filter.clock,
+        &filter.workdays,
+        &filter.request,
+        text,
+        found,
+    ) {
         Ok(true)
     } else if compares(&filter.request, found) {
         Ok(false)
@@ -192,83 +205,9 @@ pub fn read_with(filter: &Filter<'_>, text: &[u8]) -> Result<DateOrMoment, NoAns
 
 /// Appends the answer for the date or moment of `text`, or nothing. Returns whether it did.
 #[inline(always)]
-fn push_answer_by(
-    buffer: &mut Buffer,
-    filter: &Filter<'_>,
-    text: &[u8],
-    found: &DateOrMoment,
-) -> bool
-    requires { HasRoom (length text.now + longest_answer) buffer.old }
-    ensures has { result ≡ true → AppendsSome (IsAnswerBy filter.now text.now found.now)
-        buffer.old buffer.new }
-    ensures none { result ≡ false → (buffer.new ≡ buffer.old)
-        × ((words : List ℕ) → ¬ IsAnswerBy filter.now text.now found.now words) }
-    ensures short { length buffer.new ≤ length buffer.old + length text.now + longest_answer }
-    ensures few { keeps filter.now.request ≡ false
-        → length buffer.new ≤ length buffer.old + longest_answer }
-{
-    match &filter.clock {
-        Some(clock) => {
-            push_answer_on(buffer, clock, &filter.workdays, &filter.request, text, found)
-        }
-        None => push_answer_to(buffer, &filter.workdays, &filter.request, text, found),
-    }
-}
-
-/// Appends the answer by the clocks of a zone, or nothing. Returns whether it did.
-#[inline(never)]
-fn push_answer_on(
-    buffer: &mut Buffer,
-    clock: &Clock<'_>,
-    workdays: &Workdays<'_>,
-    request: &Request<'_>,
-    text: &[u8],
-    found: &DateOrMoment,
-) -> bool
-    requires { HasRoom (length text.now + longest_answer) buffer.old }
-    ensures has { result ≡ true → AppendsSome
-        (IsAnswerOn clock.now workdays.now request.now text.now found.now) buffer.old buffer.new }
-    ensures none { result ≡ false → (buffer.new ≡ buffer.old)
-        × ((words : List ℕ) → ¬ IsAnswerOn clock.now workdays.now request.now text.now found.now words) }
-    ensures short { length buffer.new ≤ length buffer.old + length text.now + longest_answer }
-    ensures few { keeps request.now ≡ false
-        → length buffer.new ≤ length buffer.old + longest_answer }
-{
-    match (request, found) {
-        (Request::Move(by), DateOrMoment::Moment(form, moment)) => {
-            push_moved_at(buffer, clock, workdays, *by, Form::Moment(*form), *moment)
-        }
-        _ => push_answer_to(buffer, workdays, request, text, found),
-    }
-}
-
-/// Appends a moment moved by the clocks of a zone, or nothing. Returns whether it did.
-fn push_moved_at(
-    buffer: &mut Buffer,
-    clock: &Clock<'_>,
-    workdays: &Workdays<'_>,
-    by: Move,
-    form: Form,
-    moment: OffsetDateTime,
-) -> bool
-    requires { HasRoom longest_answer buffer.old }
-    ensures has { result ≡ true → AppendsSome (IsMovedAt clock.now workdays.now by form moment)
-        buffer.old buffer.new }
-    ensures none { result ≡ false → (buffer.new ≡ buffer.old)
-        × ((words : List ℕ) → ¬ IsMovedAt clock.now workdays.now by form moment words) }
-    ensures short { length buffer.new ≤ length buffer.old + longest_answer }
-{
-    match moved_on(clock, workdays, by, moment) {
-        Some(moved) => push_in_form(buffer, form, moved),
-        None => false,
-    }
-}
-
-/// Appends the answer by no clock for the date or moment of `text`, or nothing. Returns whether it
-/// did.
-#[inline(always)]
 fn push_answer_to(
     buffer: &mut Buffer,
+    clock: &Option<Clock<'_>>,
     workdays: &Workdays<'_>,
     request: &Request<'_>,
     text: &[u8],
@@ -276,9 +215,9 @@ fn push_answer_to(
 ) -> bool
     requires { HasRoom (length text.now + longest_answer) buffer.old }
     ensures has { result ≡ true → AppendsSome
-        (IsAnswerTo workdays.now request.now text.now found.now) buffer.old buffer.new }
+        (IsAnswerTo clock.now workdays.now request.now text.now found.now) buffer.old buffer.new }
     ensures none { result ≡ false → (buffer.new ≡ buffer.old)
-        × ((words : List ℕ) → ¬ IsAnswerTo workdays.now request.now text.now found.now words) }
+        × ((words : List ℕ) → ¬ IsAnswerTo clock.now workdays.now request.now text.now found.now words) }
     ensures short { length buffer.new ≤ length buffer.old + length text.now + longest_answer }
     ensures few { keeps request.now ≡ false
         → length buffer.new ≤ length buffer.old + longest_answer }
@@ -289,26 +228,16 @@ fn push_answer_to(
             push_printed(buffer, format, moment_of(found));
             true
         }
-        Request::Move(Move::Add(duration)) => match later(found, *duration) {
-            Some(later) => push_in_form(buffer, form_read(found), later),
-            None => false,
-        },
-        Request::Move(Move::Day(by)) => push_moved(buffer, workdays, *by, found),
+        Request::Move(by) => push_moved_by(buffer, clock, workdays, *by, found),
         Request::MoveAt(clock, by) => {
             let form = Form::Moment(MomentForm::Rfc3339);
             push_moved_at(buffer, clock, workdays, *by, form, moment_of(found))
         }
-        Request::Move(Move::Floor(minutes)) => {
-            let floor = floored(*minutes, moment_of(found));
-            push_in_form(buffer, form_read(found), floor)
-        }
         Request::Until(Target::Text(to), unit) => {
-            push_between(buffer, workdays, *unit, found, to);
-            true
+            push_between_by(buffer, clock, workdays, *unit, found, to)
         }
         Request::Since(Target::Text(from), unit) => {
-            push_between(buffer, workdays, *unit, from, found);
-            true
+            push_between_by(buffer, clock, workdays, *unit, from, found)
         }
         Request::Until(Target::Fields(_), _) => false,
         Request::Until(Target::Name(_), _) => false,
@@ -458,18 +387,89 @@ fn moment_later(moment: OffsetDateTime, duration: SignedDuration) -> Option<Offs
     moment.checked_add(duration)
 }
 
+/// Appends the moved date or moment, or nothing. Returns whether there is one.
+#[inline(always)]
+fn push_moved_by(
+    buffer: &mut Buffer,
+    clock: &Option<Clock<'_>>,
+    workdays: &Workdays<'_>,
+    by: Move,
+    found: &DateOrMoment,
+) -> bool
+    requires { HasRoom longest_answer buffer.old }
+    ensures has { result ≡ true → AppendsSome (IsMovedBy clock.now workdays.now by found.now)
+        buffer.old buffer.new }
+    ensures none { result ≡ false → (buffer.new ≡ buffer.old)
+        × ((words : List ℕ) → ¬ IsMovedBy clock.now workdays.now by found.now words) }
+    ensures short { length buffer.new ≤ length buffer.old + longest_answer }
+{
+    match (clock, found) {
+        (Some(clock), DateOrMoment::Moment(form, moment)) => {
+            push_moved_at(buffer, clock, workdays, by, Form::Moment(*form), *moment)
+        }
+        _ => push_moved(buffer, workdays, by, found),
+    }
+}
+
+/// Appends a moment moved by the clocks of a zone, or nothing. Returns whether it did.
+#[inline(never)]
+fn push_moved_at(
+    buffer: &mut Buffer,
+    clock: &Clock<'_>,
+    workdays: &Workdays<'_>,
+    by: Move,
+    form: Form,
+    moment: OffsetDateTime,
+) -> bool
+    requires { HasRoom longest_answer buffer.old }
+    ensures has { result ≡ true → AppendsSome (IsMovedAt clock.now workdays.now by form moment)
+        buffer.old buffer.new }
+    ensures none { result ≡ false → (buffer.new ≡ buffer.old)
+        × ((words : List ℕ) → ¬ IsMovedAt clock.now workdays.now by form moment words) }
+    ensures short { length buffer.new ≤ length buffer.old + longest_answer }
+{
+    one_local(&clock.zone);
+    match moved_on(clock, workdays, by, moment) {
+        Some(moved) => push_in_form(buffer, form, moved),
+        None => false,
+    }
+}
+
+/// Appends the moved date or moment by no clock, or nothing. Returns whether there is one.
+#[inline(always)]
+fn push_moved(buffer: &mut Buffer, workdays: &Workdays<'_>, by: Move, found: &DateOrMoment) -> bool
+    requires { HasRoom longest_answer buffer.old }
+    ensures has { result ≡ true → AppendsSome (IsMoved workdays.now by found.now)
+        buffer.old buffer.new }
+    ensures none { result ≡ false → (buffer.new ≡ buffer.old)
+        × ((words : List ℕ) → ¬ IsMoved workdays.now by found.now words) }
+    ensures short { length buffer.new ≤ length buffer.old + longest_answer }
+{
+    match by {
+        Move::Day(by) => push_on_moved_day(buffer, workdays, by, found),
+        Move::Add(duration) => match later(found, duration) {
+            Some(later) => push_in_form(buffer, form_read(found), later),
+            None => false,
+        },
+        Move::Floor(minutes) => {
+            let floor = floored(minutes, moment_of(found));
+            push_in_form(buffer, form_read(found), floor)
+        }
+    }
+}
+
 /// Appends the moved day at the same time of day, or nothing. Returns whether there is one.
-fn push_moved(
+fn push_on_moved_day(
     buffer: &mut Buffer,
     workdays: &Workdays<'_>,
     by: DayMove,
     found: &DateOrMoment,
 ) -> bool
     requires { HasRoom longest_answer buffer.old }
-    ensures has { result ≡ true → AppendsSome (IsMoved workdays.now by found.now)
+    ensures has { result ≡ true → AppendsSome (IsOnMovedDay workdays.now by found.now)
         buffer.old buffer.new }
     ensures none { result ≡ false → (buffer.new ≡ buffer.old)
-        × ((words : List ℕ) → ¬ IsMoved workdays.now by found.now words) }
+        × ((words : List ℕ) → ¬ IsOnMovedDay workdays.now by found.now words) }
     ensures short { length buffer.new ≤ length buffer.old + longest_answer }
 {
     let moment = moment_of(found);
@@ -504,7 +504,63 @@ fn offset_in(place: &Place<'_>, moment: OffsetDateTime) -> UtcOffset
     }
 }
 
-/// Appends the number of units, or without a unit the days or the duration.
+/// Appends the number of units, or without a unit the days or the duration. Returns whether there
+/// is one: `false` only with a clock, if what it shows is out of range.
+#[inline(always)]
+pub fn push_between_by(
+    buffer: &mut Buffer,
+    clock: &Option<Clock<'_>>,
+    workdays: &Workdays<'_>,
+    unit: Option<TimeUnit>,
+    from: &DateOrMoment,
+    to: &DateOrMoment,
+) -> bool
+    requires { HasRoom longest_answer buffer.old }
+    ensures has { result ≡ true → AppendsSome
+        (IsBetweenBy clock.now workdays.now unit from.now to.now) buffer.old buffer.new }
+    ensures none { result ≡ false → (buffer.new ≡ buffer.old)
+        × ((words : List ℕ) → ¬ IsBetweenBy clock.now workdays.now unit from.now to.now words) }
+    ensures short { length buffer.new ≤ length buffer.old + longest_answer }
+{
+    match (clock, unit) {
+        (Some(clock), Some(unit)) => {
+            push_count_on(buffer, &clock.zone, workdays, unit, from, to)
+        }
+        _ => {
+            push_between(buffer, workdays, unit, from, to);
+            true
+        }
+    }
+}
+
+/// Appends the number of units by the clocks of a zone, or nothing. Returns whether there is one.
+#[inline(never)]
+fn push_count_on(
+    buffer: &mut Buffer,
+    zone: &Zone<'_>,
+    workdays: &Workdays<'_>,
+    unit: TimeUnit,
+    from: &DateOrMoment,
+    to: &DateOrMoment,
+) -> bool
+    requires { HasRoom longest_answer buffer.old }
+    ensures has { result ≡ true → AppendsSome (λ words. (z : ℤ)
+        × IsCountOn zone.now workdays.now unit from.now to.now z × (words ≡ signed_decimal z))
+        buffer.old buffer.new }
+    ensures none { result ≡ false → (buffer.new ≡ buffer.old)
+        × ((z : ℤ) → ¬ IsCountOn zone.now workdays.now unit from.now to.now z) }
+    ensures short { length buffer.new ≤ length buffer.old + longest_answer }
+{
+    match count_on(zone, workdays, unit, from, to) {
+        Some(count) => {
+            push_signed(buffer, count);
+            true
+        }
+        None => false,
+    }
+}
+
+/// Appends the number of units, or without a unit the days or the duration, by no clock.
 pub fn push_between(
     buffer: &mut Buffer,
     workdays: &Workdays<'_>,
