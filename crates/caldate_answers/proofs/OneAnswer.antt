@@ -1,7 +1,7 @@
 -- A text has one answer.
 use Rattle.std.proofs.Common.{◌≡◌, ◌⊎◌, ℕ, suc, ◌+◌, Bool, true, false, List, [], ◌∷◌, ◌++◌, Option, Some, None, Result, Ok, Err, inl, inr, ap, refl, sym, subst, ◌∙◌, arith}
 use Rattle.std.specs.Option.{option_map_or}
-use Rattle.std.specs.Prelude.{⊤, is_some, not}
+use Rattle.std.specs.Prelude.{is_some, not}
 use Rattle.std.specs.Fmt.{signed_decimal}
 use Rattle.std.specs.Io.KnownBytes.{Appends}
 use Rattle.std.proofs.lemmas.Bool.{false≢true}
@@ -59,12 +59,10 @@ one_moved workdays (move.Floor n) found a b h k = in_form (form_read found) (flo
 
 -- the zone of a clock, and of a request, in which a reading has one meaning
 abbrev pub IsOneClock : Option Clock → Type 0
-IsOneClock None = ⊤
-IsOneClock (Some clock) = OneLocal clock.zone
+IsOneClock given = (clock : Clock) → given ≡ Some clock → OneLocal clock.zone
 
 abbrev pub IsOneRequest : Request → Type 0
-IsOneRequest (MoveAt clock by) = OneLocal clock.zone
-IsOneRequest other = ⊤
+IsOneRequest request = (clock : Clock) (by : AnyMove) → request ≡ MoveAt clock by → OneLocal clock.zone
 
 abbrev pub IsOneFilter : Filter → Type 0
 IsOneFilter filter = IsOneClock filter.clock × IsOneRequest filter.request
@@ -75,7 +73,7 @@ one_moved_at clock workdays by form m a b one h k = in_form_at form h.0 k.0 a b 
 one_moved_by : (clock : Option Clock) (workdays : WorkWeek) (by : AnyMove) (found : DateOrMoment) (a b : List ℕ) → IsOneClock clock → IsMovedBy clock workdays by found a → IsMovedBy clock workdays by found b → a ≡ b
 one_moved_by None workdays by found a b one h k = one_moved workdays by found a b h k
 one_moved_by (Some clock) workdays by (read.Date form n) a b one h k = one_moved workdays by (read.Date form n) a b h k
-one_moved_by (Some clock) workdays by (read.Moment form m) a b one h k = one_moved_at clock workdays by (Moment form) m a b one h k
+one_moved_by (Some clock) workdays by (read.Moment form m) a b one h k = one_moved_at clock workdays by (Moment form) m a b (one clock refl) h k
 
 between_by : (clock : Option Clock) (workdays : WorkWeek) (unit : Option TimeUnit) (from to : DateOrMoment) (a b : List ℕ)
     → IsBetweenBy clock workdays unit from to a → IsBetweenBy clock workdays unit from to b → a ≡ b
@@ -88,7 +86,7 @@ one_answer_to : (clock : Option Clock) (workdays : WorkWeek) (q : Request) (text
 one_answer_to clock workdays (To form) text found a b one own h k = in_form form (moment_of found) a b h k
 one_answer_to clock workdays (Print items) text found a b one own h k = h ∙ sym k
 one_answer_to clock workdays (Move by) text found a b one own h k = one_moved_by clock workdays by found a b one h k
-one_answer_to clock workdays (MoveAt other by) text found a b one own h k = one_moved_at other workdays by (Moment Rfc3339) (moment_of found) a b own h k
+one_answer_to clock workdays (MoveAt other by) text found a b one own h k = one_moved_at other workdays by (Moment Rfc3339) (moment_of found) a b (own other by refl) h k
 one_answer_to clock workdays (Until (target.Text to) unit) text found a b one own h k = between_by clock workdays unit found to a b h k
 one_answer_to clock workdays (Until (target.Fields numbers) unit) text found a b one own h k = absurd h
 one_answer_to clock workdays (Until (target.Name name) unit) text found a b one own h k = absurd h

@@ -13,7 +13,7 @@ pub returns-in-Some-clause-none : goal.returns-in-Some-clause-none
 returns-in-Some-clause-none c = λ no.
     let found = c.args.found.now in
     let later = c.in-Some.later in
-    let none = c.push_in_form-in-Some.ensures.none no in (
+    let none = c.push_in_form.ensures.none no in (
       none.0,
       λ words h.
           let h = subst (λ by. IsMoved c.args.workdays.now by found words) c.in-Add.is h in
