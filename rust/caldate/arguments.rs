@@ -21,6 +21,7 @@ use caldate_answers::reading::{DateOrder, Reading};
 use caldate_answers::request::*;
 use caldate_args::args::arguments::{MAX_BYTES, join};
 use caldate_args::args::asked_by;
+use caldate_args::command::*;
 use caldate_args::data_files::system_files::SystemFiles;
 use caldate_args::holidays::MAX_HOLIDAYS;
 use caldate_args::zones::zone_source::{MAX_FILE_BYTES, MAX_PATH_BYTES, find_folder};

@@ -5,13 +5,13 @@
 use cal_time::Date;
 use caldate_args::args::arguments::{MAX_BYTES, join};
 use caldate_args::args::asked_by;
-use caldate_run::clock::read_clock;
 use caldate_args::data_files::system_files::SystemFiles;
 use caldate_args::files::Joined;
 use caldate_args::files::named_files::NamedFiles;
 use caldate_args::holidays::MAX_HOLIDAYS;
-use caldate_run::program::{perform, perform_on_files};
 use caldate_args::zones::zone_source::{MAX_FILE_BYTES, MAX_PATH_BYTES, find_folder};
+use caldate_run::clock::read_clock;
+use caldate_run::program::{perform, perform_on_files};
 use std::io;
 use std::process::ExitCode;
 

@@ -1,5 +1,5 @@
 -- The shapes of dates with their parts in another order, and what a scanner read of one.
-use Rattle.std.proofs.Common.{◌≡◌, ◌↔◌, ◌⊎◌, ℕ, suc, length, ◌<◌, inl, inr, List, [], ◌∷◌, ◌++◌, refl, sym, ap, subst, ◌∙◌, arith, lit≤}
+use Rattle.std.proofs.Common.{◌≡◌, ◌↔◌, ◌⊎◌, ℕ, suc, length, inl, inr, List, [], ◌∷◌, ◌++◌, refl, ap, subst, ◌∙◌, lit≤}
 use Rattle.cal_time.specs.DateText.{digits_at_least}
 use Rattle.cal_time.specs.declared.error.ComponentRange.{ComponentRange}
 use Rattle.cal_text.specs.Shape.{End, Byte, Digits, ParsesDigits, unmatched_bytes}

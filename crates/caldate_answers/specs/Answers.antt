@@ -38,7 +38,6 @@ use Rattle.caldate_answers.specs.declared.request.Request.{Request}
 use Rattle.caldate_answers.specs.declared.request.Request.TheVariants.{To, Print, Move, MoveAt, Until, Since, At, Keep}
 use Rattle.caldate_answers.specs.declared.request.Target.TheVariants as target
 use Rattle.caldate_answers.specs.declared.request.TimeUnit.{TimeUnit}
-use Rattle.caldate_answers.specs.declared.request.TimeUnit.TheVariants as unit
 
 -- A date moves by only the whole days of a duration, a moment by all of it.
 pub record IsDayLater (n : ℕ) (d : ℤ) (m : LocalAndOffset) : Type 0 where

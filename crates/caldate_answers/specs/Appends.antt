@@ -1,5 +1,5 @@
 -- Bytes that are appended.
-use Rattle.std.specs.Prelude.{◌≡◌, ℕ, Bool, true, false, List, ◌++◌, Option, Some, None, Result, Ok, Err}
+use Rattle.std.specs.Prelude.{◌≡◌, ℕ, Bool, true, false, List, ◌++◌, Some, None, Result, Ok, Err}
 use Rattle.caldate_lines.specs.declared.no_answer.NoAnswer.{NoAnswer}
 use Rattle.caldate_answers.specs.Answers.{Answer}
 

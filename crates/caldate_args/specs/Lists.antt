@@ -7,12 +7,12 @@ use Rattle.cal_text.specs.declared.any.DateForm.TheVariants.{Calendar}
 use Rattle.cal_time.specs.Date.{IsDate}
 use Rattle.caldate_lines.specs.Outputs.{WritesPage}
 use Rattle.caldate_lines.specs.declared.run_error.RunError.{RunError}
-use Rattle.caldate_answers.specs.declared.request.Command.{Command}
-use Rattle.caldate_answers.specs.declared.request.Command.TheVariants.{Dates}
-use Rattle.caldate_answers.specs.declared.request.Listing.{Listing}
-use Rattle.caldate_answers.specs.declared.request.Step.{Step}
-use Rattle.caldate_answers.specs.declared.request.StepUnit.{StepUnit}
-use Rattle.caldate_answers.specs.declared.request.StepUnit.TheVariants.{Days, Months}
+use Rattle.caldate_args.specs.declared.command.Command.{Command}
+use Rattle.caldate_args.specs.declared.command.Command.TheVariants.{Dates}
+use Rattle.caldate_args.specs.declared.command.Listing.{Listing}
+use Rattle.caldate_args.specs.declared.command.Step.{Step}
+use Rattle.caldate_args.specs.declared.command.StepUnit.{StepUnit}
+use Rattle.caldate_args.specs.declared.command.StepUnit.TheVariants.{Days, Months}
 
 -- A step has 1 to 51539607540 days or months. The maximum is 4294967295 years.
 abbrev pub IsStep : Step → Type 0

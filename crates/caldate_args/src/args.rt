@@ -33,6 +33,7 @@ use crate::args::spelling::{
 use crate::args::target::target_at;
 use crate::args::usage_error::{Expected, UsageError, usage_error_at};
 use crate::args::words::{cut, ended, ends_at, only_at, word_as, word_at};
+use crate::command::Command;
 use crate::data_files::DataFiles;
 use crate::zones::is_zone_like;
 use cal_datetime::{OffsetDateTime, PlainDateTime};
@@ -40,7 +41,7 @@ use cal_schedule::Workdays;
 use cal_time::{SignedDuration, Weekday};
 use cal_zone::{Policy, Zone};
 use caldate_answers::answer::moves;
-use caldate_answers::request::{Clock, Command, DayMove, Filter, Move, Place, Request, TimeUnit};
+use caldate_answers::request::{Clock, DayMove, Filter, Move, Place, Request, TimeUnit};
 use caldate_lines::field::Field;
 use caldate_lines::field_name::FieldName;
 use caldate_lines::field_names::MAX_FIELDS;

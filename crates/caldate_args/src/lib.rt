@@ -2,6 +2,7 @@
 #![tactic(auto)]
 
 pub mod args;
+pub mod command;
 pub mod data_files;
 pub mod files;
 pub mod holidays;

@@ -13,10 +13,10 @@ use Rattle.cal_schedule.specs.Months.{IsMonthsLater}
 use Rattle.cal_schedule.proofs.MonthMoves.{IsMonthNumber-date, one_later}
 use Rattle.caldate_lines.specs.Outputs.{IfAll, WritesPage}
 use Rattle.caldate_lines.specs.declared.run_error.RunError.{RunError}
-use Rattle.caldate_answers.specs.declared.request.Listing.{Listing}
-use Rattle.caldate_answers.specs.declared.request.StepUnit.{StepUnit}
-use Rattle.caldate_answers.specs.declared.request.StepUnit.TheVariants.{Days, Months}
 use Rattle.caldate_answers.proofs.OneAnswer.{took-one}
+use Rattle.caldate_args.specs.declared.command.Listing.{Listing}
+use Rattle.caldate_args.specs.declared.command.StepUnit.{StepUnit}
+use Rattle.caldate_args.specs.declared.command.StepUnit.TheVariants.{Days, Months}
 use Rattle.caldate_args.specs.Lists.{AreListed, IsEnd, IsUnitsAfter, Lists, WritesLines, line_of}
 use Rattle.caldate_run.specs.Recurring.{AreListedIn, IsEndIn, IsNextIn}
 

@@ -18,7 +18,8 @@ ghost use Rattle.caldate_run.specs.Recurring.{ListsOccurrences};
 use cal_text::DateOrMoment;
 use cal_zone::laws::one_local;
 use caldate_answers::answer::read_with;
-use caldate_answers::request::{Clock, Filter, Occurrences, Request, Span};
+use caldate_answers::request::{Clock, Filter, Request};
+use caldate_args::command::{Occurrences, Span};
 use caldate_lines::field::Field;
 use caldate_lines::no_answer::NoAnswer;
 

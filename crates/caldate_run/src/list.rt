@@ -11,7 +11,7 @@ pub(crate) mod remaining;
 use cal_schedule::checked_add_months;
 use cal_text::date::CalendarText;
 use cal_time::Date;
-use caldate_answers::request::{Listing, StepUnit};
+use caldate_args::command::{Listing, StepUnit};
 use caldate_lines::output::Output;
 use caldate_lines::run_error::RunError;
 use caldate_lines::streams::Sink;

@@ -3,11 +3,11 @@
 use crate::tests::memory_files::MemoryFiles;
 use crate::tests::streams::Dripping;
 use caldate_args::args::parse_args;
-use caldate_run::list::list;
-use caldate_answers::request::Command;
+use caldate_args::command::Command;
 use caldate_lines::ending::end;
-use caldate_run::run::run;
 use caldate_lines::run_error::RunError;
+use caldate_run::list::list;
+use caldate_run::run::run;
 use std::alloc::{AllocError, Global};
 use std::fmt::Debug;
 use std::io::{ErrorKind, Read, Write};

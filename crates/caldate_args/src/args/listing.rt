@@ -6,12 +6,13 @@ use crate::args::spelling::{parse_u32, unit_of};
 use crate::args::usage_error::{Expected, UsageError, usage_error_at};
 use crate::args::words::{ends_at, found_at, keyword_at, word_as, word_at};
 use crate::args::zone_at;
+use crate::command::{Command, Listing, Occurrences, Span, Step, StepUnit};
 use crate::data_files::DataFiles;
 use cal_datetime::OffsetDateTime;
 use cal_recurrence::{Recurrence, parse};
 use cal_text::DateOrMoment;
 use cal_time::Date;
-use caldate_answers::request::{Command, Listing, Occurrences, Span, Step, StepUnit, TimeUnit};
+use caldate_answers::request::TimeUnit;
 use caldate_lines::lines::index_of;
 
 /// Parses `list from A to B`, `list from A to B by N UNIT` or `list from A to B by RULE`, perhaps

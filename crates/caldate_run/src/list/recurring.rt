@@ -5,7 +5,7 @@ ghost use Rattle.caldate_run.specs.Recurring.{ListsOccurrences, lines_left};
 
 use crate::list::in_zone::list_in_zone;
 use crate::list::remaining::Remaining;
-use caldate_answers::request::{Occurrences, Span};
+use caldate_args::command::{Occurrences, Span};
 use caldate_lines::output::Output;
 use caldate_lines::run_error::RunError;
 use caldate_lines::streams::Sink;

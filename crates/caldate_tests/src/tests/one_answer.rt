@@ -2,12 +2,12 @@
 ghost use Rattle.std.specs.Prelude.{◌≡◌, List, ℕ, Some, IsOk};
 ghost use Rattle.caldate_args.specs.Lists.{IsStep};
 
+use caldate_args::command::{Listing, Occurrences};
+use caldate_lines::run_error::RunError;
+use caldate_lines::streams::Sink;
 use caldate_run::laws::one_list;
 use caldate_run::list::list;
 use caldate_run::list::recurring::list_occurrences;
-use caldate_answers::request::{Listing, Occurrences};
-use caldate_lines::run_error::RunError;
-use caldate_lines::streams::Sink;
 
 fn lists<W: Sink>(
     listing: &Listing,

@@ -1,4 +1,4 @@
-use Rattle.std.proofs.Common.{◌≡◌, ◌∙◌, ◌≤◌, ◌-◌, List, ℕ, ap, arith, length, subst, sym, take}
+use Rattle.std.proofs.Common.{◌≡◌, ◌∙◌, ap, arith, length, subst, take}
 use Rattle.caldate_answers.specs.Readings.{HasFormIn}
 use Rattle.caldate_answers.specs.Scans.{Bounds}
 use Rattle.caldate_answers.specs.Spellings.{unix_text}
