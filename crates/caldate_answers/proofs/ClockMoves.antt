@@ -11,7 +11,7 @@ use Rattle.cal_zone.specs.declared.local_time_error.LocalTimeError.{LocalTimeErr
 use Rattle.cal_zone.specs.declared.policy.Policy.{Policy}
 use Rattle.cal_zoned.specs.Day.{IsStart}
 use Rattle.cal_zoned.specs.Resolved.{IsKept, IsResolved}
-use Rattle.cal_zoned.specs.Zoned.{InZone, at_instant, instant_in}
+use Rattle.cal_zoned.specs.Zoned.{InZone}
 use Rattle.cal_zoned.proofs.Firsts.{start-one}
 use Rattle.cal_zoned.proofs.OneResult.{kept-one, resolved-one, seen-is}
 use Rattle.caldate_answers.specs.ClockMoves.{IsMovedIn, IsMovedOn, IsOnDay, IsRounded}

@@ -218,6 +218,14 @@ impl<'a> Request<'a> {
         }
     }
 
+    /// Returns whether this is `at ZONE` and a move.
+    pub fn moves_at(&self) -> bool {
+        match self {
+            Request::MoveAt(_, _) => true,
+            _ => false,
+        }
+    }
+
     /// Returns whether this counts working days.
     pub fn counts_workdays(&self) -> bool {
         match self {

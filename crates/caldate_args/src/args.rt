@@ -199,6 +199,8 @@ fn conflict_with_request(options: &Options<'_>, request: &Request<'_>) -> Option
         Some(Expected::Header)
     } else if options.workdays.is_some() && !request.counts_workdays() {
         Some(Expected::WorkdaysOnly)
+    } else if options.policy.is_some() && options.zone.is_none() && !request.moves_at() {
+        Some(Expected::ZoneOption)
     } else {
         None
     }

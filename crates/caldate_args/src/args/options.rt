@@ -529,8 +529,6 @@ fn conflict_with_readers(options: &Options<'_>) -> Option<Expected> {
         Some(Expected::AssumeYear)
     } else if options.year.is_some() && !any_yearless(options.readers.as_slice()) {
         Some(Expected::Yearless)
-    } else if options.policy.is_some() && options.zone.is_none() {
-        Some(Expected::ZoneOption)
     } else if options.zone.is_some() {
         conflict_with_zone(options)
     } else if any_local(options.readers.as_slice()) && options.offset.is_none() {

@@ -1,4 +1,4 @@
-use Rattle.std.proofs.Common.{◌∙◌, ℤ, Err, ap, subst, sym}
+use Rattle.std.proofs.Common.{◌∙◌, ℤ, ap, subst, sym}
 use Rattle.std.specs.Prelude.{◌==◌}
 use Rattle.cal_datetime.specs.DateTime.{with_date}
 use Rattle.cal_zone.specs.Timeline.{Timeline}
