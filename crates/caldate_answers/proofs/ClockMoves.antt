@@ -68,7 +68,7 @@ pub no_day : (policy : Policy) (from : InZone) (n : ℕ) (zone : Timeline) (read
     → IsResolved policy zone reading (Err e) → ¬ IsOnDay policy from n r
 no_day policy from n zone reading e r here same other one h on =
     let own : IsResolved policy from.zone (with_date from.moment.local n) (Err e) =
-        subst (λ (z : Timeline). IsResolved policy z (with_date from.moment.local n) (Err e)) here (subst (λ (y : ℤ). IsResolved policy zone y (Err e)) same h) in
+    subst (λ (z : Timeline). IsResolved policy z (with_date from.moment.local n) (Err e)) here (subst (λ (y : ℤ). IsResolved policy zone y (Err e)) same h) in
     let moved = subst (λ b. MatchBool b (r ≡ from) (IsResolved policy from.zone (with_date from.moment.local n) (Ok r))) other on in
     let two = one policy (with_date from.moment.local n) (Ok r) (Err e) moved own in absurd cc
 

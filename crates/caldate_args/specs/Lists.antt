@@ -5,7 +5,7 @@ use Rattle.cal_schedule.specs.Months.{IsMonthsLater}
 use Rattle.cal_text.specs.AnyForm.{date_text}
 use Rattle.cal_text.specs.declared.any.DateForm.TheVariants.{Calendar}
 use Rattle.cal_time.specs.Date.{IsDate}
-use Rattle.caldate_lines.specs.Outputs.{WritesPage}
+use Rattle.caldate_lines.specs.Outputs.{IfAll, WritesPage}
 use Rattle.caldate_lines.specs.declared.run_error.RunError.{RunError}
 use Rattle.caldate_args.specs.declared.command.Command.{Command}
 use Rattle.caldate_args.specs.declared.command.Command.TheVariants.{Dates}

@@ -3,6 +3,7 @@ use Rattle.std.specs.Prelude.{⊤, ℕ, ◌==◌, ◌&&◌, ◌||◌, nat_le, no
 use Rattle.std.specs.Io.KnownBytes.{Consumes, IsAtEnd}
 use Rattle.cal_tzif.specs.File.{IsFile, IsFileError}
 use Rattle.cal_zone.specs.Timeline.{Timeline}
+use Rattle.caldate_answers.specs.Offsets.{is_letter}
 use Rattle.caldate_args.specs.declared.zones.read_zone_error.ReadZoneError.{ReadZoneError}
 use Rattle.caldate_args.specs.declared.zones.read_zone_error.ReadZoneError.TheVariants.{File, Zone}
 

@@ -17,7 +17,7 @@ use Rattle.caldate_lines.specs.declared.quoting.Quoting.TheVariants.{Ready}
 use Rattle.caldate_lines.specs.declared.tally.Tally.{Tally}
 use Rattle.caldate_lines.specs.declared.unanswered.UnansweredLine.{UnansweredLine}
 use Rattle.caldate_lines.proofs.Quotes.{onto_one}
-use Rattle.caldate_lines.proofs.Splits.{line_some, of_none, onto_onto, onto_parts, parts_some, passes_front}
+use Rattle.caldate_lines.proofs.Splits.{line_some, of_none, onto_onto, onto_parts, part_counts, parts_some, passes_front}
 use Rattle.caldate_answers.specs.declared.request.Filter.{Filter}
 use Rattle.caldate_run.specs.Replies.{Describes, EndsAt, IsOutcome, IsReplyTo, stops}
 use Rattle.caldate_run.specs.Runs.{AnswersEnded, AnswersFront, IsPassedOn, EndsUnanswered, StopsAt}

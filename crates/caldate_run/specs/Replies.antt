@@ -5,7 +5,7 @@ use Rattle.caldate_lines.specs.Fields.{text_without, with_last}
 use Rattle.caldate_lines.specs.Lines.{end_of, text_of}
 use Rattle.caldate_lines.specs.Reasons.{reason}
 use Rattle.caldate_lines.specs.Room.{longest_answer, longest_text}
-use Rattle.caldate_lines.specs.RunStates.{counted}
+use Rattle.caldate_lines.specs.RunStates.{counted, more}
 use Rattle.caldate_lines.specs.declared.no_answer.NoAnswer.{NoAnswer}
 use Rattle.caldate_lines.specs.declared.no_answer.NoAnswer.TheVariants as why
 use Rattle.caldate_lines.specs.declared.on_invalid.OnInvalid.{OnInvalid}

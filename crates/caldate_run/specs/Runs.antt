@@ -16,6 +16,7 @@ use Rattle.caldate_lines.specs.declared.on_invalid.OnInvalid.TheVariants as inva
 use Rattle.caldate_lines.specs.declared.progress.Progress.{Progress}
 use Rattle.caldate_lines.specs.declared.tally.Tally.{Tally}
 use Rattle.caldate_lines.specs.declared.unanswered.UnansweredLine.{UnansweredLine}
+use Rattle.caldate_answers.specs.Appends.{AppendsSome}
 use Rattle.caldate_answers.specs.declared.request.Filter.{Filter}
 use Rattle.caldate_run.specs.Replies.{EndsAt, IsOutcome, IsReplyTo, stops}
 
