@@ -352,6 +352,7 @@ fn form_name(form: Form) -> &'static str {
 fn move_text(by: Move) -> String {
     match by {
         Move::Day(by) => day_move_text(by),
+        Move::Days(duration) => format!("add {}d", duration.whole_seconds()),
         Move::Add(duration) => format!("add {}s", duration.whole_seconds()),
         Move::Floor(minutes) => format!("floor {minutes}"),
     }
@@ -359,7 +360,6 @@ fn move_text(by: Move) -> String {
 
 fn day_move_text(by: DayMove) -> String {
     match by {
-        DayMove::Days(duration) => format!("add {}d", duration.whole_seconds()),
         DayMove::Next(weekday, count) => format!("next {weekday} {count}"),
         DayMove::Last(weekday, count) => format!("last {weekday} {count}"),
         DayMove::OnOrAfter(weekday) => format!("on-or-after {weekday}"),

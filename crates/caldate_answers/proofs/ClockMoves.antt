@@ -1,5 +1,6 @@
 -- A moment is moved to one moment by the clocks of a zone.
-use Rattle.std.proofs.Common.{◌≡◌, ◌∙◌, ℕ, ℤ, Bool, true, false, Option, Result, Ok, Err, None, Some, ap, subst, sym}
+use Rattle.std.proofs.Common.{◌≡◌, ◌∙◌, ℕ, ℤ, Bool, true, false, Option, Result, Ok, Err, None, Some, arith, ap, subst, sym}
+use Rattle.std.proofs.lemmas.Int.{ints}
 use Rattle.std.specs.Prelude.{◌==◌, MatchBool, MatchOption}
 use Rattle.cal_datetime.specs.DateTime.{date_at, date_time, with_date}
 use Rattle.cal_datetime.specs.OffsetDateTime.{LocalAndOffset, instant}
@@ -19,7 +20,7 @@ use Rattle.caldate_answers.specs.Moves.{MovesTo, floored}
 use Rattle.caldate_answers.specs.declared.request.Clock.{Clock}
 use Rattle.caldate_answers.specs.declared.request.DayMove.{DayMove}
 use Rattle.caldate_answers.specs.declared.request.Move.{Move}
-use Rattle.caldate_answers.specs.declared.request.Move.TheVariants.{Day, Add, Floor}
+use Rattle.caldate_answers.specs.declared.request.Move.TheVariants.{Day, Days, Add, Floor}
 use Rattle.caldate_answers.proofs.Leads.{one_lead}
 
 -- a reading of the clocks has one meaning
@@ -49,6 +50,9 @@ moved_in-one : (policy : Policy) (workdays : WorkWeek) (by : Move) (from a b : I
 moved_in-one policy workdays (Day by) from a b one h k =
     let day = one_lead workdays by (date_at from.moment.local) h.0 k.0 h.1 k.1 in
     on_day-one policy from k.0 a b one (subst (λ n. IsOnDay policy from n a) day h.2) k.2
+moved_in-one policy workdays (Days d) from a b one h k =
+    let day : h.0 ≡ k.0 = omega (arith, ints, h.2, k.2) in
+    on_day-one policy from k.0 a b one (subst (λ n. IsOnDay policy from n a) day h.3) k.3
 moved_in-one policy workdays (Add d) from a b one h k = (seen-is from.zone _ a h).1 ∙ sym (seen-is from.zone _ b k).1
 moved_in-one policy workdays (Floor n) from a b one h k = rounded-one policy n from a b one h k
 

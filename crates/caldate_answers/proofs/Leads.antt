@@ -10,7 +10,7 @@ use Rattle.cal_schedule.proofs.MonthMoves.{IsMonthNumber-date, one_later}
 use Rattle.cal_schedule.specs.Ranks.{count-most, none-nth_from, none-nth_back}
 use Rattle.caldate_answers.specs.Moves.{IsFirstOf, IsLastOf, MovesTo}
 use Rattle.caldate_answers.specs.declared.request.DayMove.{DayMove}
-use Rattle.caldate_answers.specs.declared.request.DayMove.TheVariants.{Days, Next, Last, OnOrAfter, OnOrBefore, Months, Years, Workdays, Start, End}
+use Rattle.caldate_answers.specs.declared.request.DayMove.TheVariants.{Next, Last, OnOrAfter, OnOrBefore, Months, Years, Workdays, Start, End}
 use Rattle.caldate_answers.specs.declared.request.Period.{Period}
 use Rattle.caldate_answers.specs.declared.request.Period.TheVariants.{Week, Month, Quarter, Year}
 
@@ -93,7 +93,6 @@ last-one Quarter n a b d e h k = calendar_date-one _ _ _ a b d e h k
 last-one Year n a b d e h k = calendar_date-one _ _ _ a b d e h k
 
 pub one_lead : (workdays : WorkWeek) (by : DayMove) (n a b : ℕ) → MovesTo workdays by n a → MovesTo workdays by n b → a ≡ b
-one_lead workdays (Days d) n a b h i = omega (arith, ints, h.1, i.1)
 one_lead workdays (Next w k) n a b h i = one_kth a b _ h i
 one_lead workdays (Last w k) n a b h i = one_kth a b _ h i
 one_lead workdays (OnOrAfter w) n a b h i = one_kth a b _ h i

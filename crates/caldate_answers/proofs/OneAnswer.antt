@@ -52,6 +52,7 @@ between workdays None from to a b h k = h ∙ sym k
 between workdays (Some unit) from to a b h k = h.2 ∙ ap signed_decimal (one_count workdays unit (moment_of from) (moment_of to) h.0 k.0 h.1 k.1) ∙ sym k.2
 
 one_moved : (workdays : WorkWeek) (by : AnyMove) (found : DateOrMoment) (a b : List ℕ) → IsMoved workdays by found a → IsMoved workdays by found b → a ≡ b
+one_moved workdays (move.Days d) found a b h k = in_form_at (form_read found) h.0 k.0 a b (one_later found d h.0 k.0 h.1 k.1) h.2 k.2
 one_moved workdays (move.Add d) found a b h k = in_form_at (form_read found) h.0 k.0 a b (one_later found d h.0 k.0 h.1 k.1) h.2 k.2
 one_moved workdays (move.Day by) found a b h k =
     in_form_at (form_read found) _ _ a b (ap (on_day (moment_of found)) (one_lead workdays by (day_of found) h.0 k.0 h.1 k.1)) h.2 k.2

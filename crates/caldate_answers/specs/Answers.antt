@@ -85,6 +85,7 @@ IsOnMovedDay workdays by found words = (n : ℕ) × MovesTo workdays by (day_of 
 -- The words are the moved date or moment in the form that was read. A moment keeps its offset.
 abbrev pub IsMoved : WorkWeek → AnyMove → DateOrMoment → List ℕ → Type 0
 IsMoved workdays (move.Day by) found words = IsOnMovedDay workdays by found words
+IsMoved workdays (move.Days d) found words = (m : LocalAndOffset) × IsLater found d m × IsInForm (form_read found) m words
 IsMoved workdays (move.Add d) found words = (m : LocalAndOffset) × IsLater found d m × IsInForm (form_read found) m words
 IsMoved workdays (move.Floor n) found words = IsInForm (form_read found) (floored n (moment_of found)) words
 

@@ -1,5 +1,7 @@
 -- Moments moved by the clocks of a zone.
-use Rattle.std.specs.Prelude.{◌≡◌, ◌==◌, ℕ, ◌+ℤ◌, Ok, Some, MatchBool}
+use Rattle.std.specs.Prelude.{◌≡◌, ◌==◌, ℕ, pos, ◌+ℤ◌, Ok, Some, MatchBool}
+use Rattle.cal_time.specs.Date.{IsDate}
+use Rattle.cal_time.specs.SignedDuration.{whole_days}
 use Rattle.cal_datetime.specs.DateTime.{date_at, date_time, with_date}
 use Rattle.cal_datetime.specs.OffsetDateTime.{LocalAndOffset, instant}
 use Rattle.cal_schedule.specs.Workdays.{WorkWeek}
@@ -10,7 +12,7 @@ use Rattle.cal_zoned.specs.Zoned.{InZone, IsSeen, instant_in}
 use Rattle.caldate_answers.specs.Moves.{MovesTo, floored}
 use Rattle.caldate_answers.specs.declared.request.Clock.{Clock}
 use Rattle.caldate_answers.specs.declared.request.Move.{Move}
-use Rattle.caldate_answers.specs.declared.request.Move.TheVariants.{Day, Add, Floor}
+use Rattle.caldate_answers.specs.declared.request.Move.TheVariants.{Day, Days, Add, Floor}
 
 -- A date-time stays as it is on its own day. On another day the clocks show the same time of day, and
 -- the policy says which date-time this means.
@@ -27,6 +29,7 @@ IsRounded policy n from r =
 -- the instant.
 abbrev pub IsMovedIn : Policy → WorkWeek → Move → InZone → InZone → Type 0
 IsMovedIn policy workdays (Day by) from r = (n : ℕ) × MovesTo workdays by (date_at from.moment.local) n × IsOnDay policy from n r
+IsMovedIn policy workdays (Days d) from r = (n : ℕ) × IsDate n × (pos n ≡ pos (date_at from.moment.local) +ℤ whole_days d) × IsOnDay policy from n r
 IsMovedIn policy workdays (Add d) from r = IsSeen from.zone (instant_in from +ℤ d) (Ok r)
 IsMovedIn policy workdays (Floor n) from r = IsRounded policy n from r
 

@@ -1,10 +1,9 @@
 -- The day after a move, and the moments on it.
-use Rattle.std.specs.Prelude.{◌≡◌, ℕ, ◌+◌, ◌-◌, ◌*◌, ◌%◌, max, true, false, pos, ◌+ℤ◌, ◌*ℤ◌, List, [], ◌∷◌, Some, slice_get}
+use Rattle.std.specs.Prelude.{◌≡◌, ℕ, ◌+◌, ◌-◌, ◌*◌, ◌%◌, max, true, false, pos, ◌*ℤ◌, List, [], ◌∷◌, Some, slice_get}
 use Rattle.cal_time.specs.Date.{IsDate, HasCalendarDate, year_at, month_at, weekday_at}
 use Rattle.cal_time.specs.Lengths.{days_in_month}
 use Rattle.cal_time.specs.Occurrences.{next_occurrences, prev_occurrences, kth}
 use Rattle.cal_time.specs.SignedDuration as duration
-use Rattle.cal_time.specs.SignedDuration.{whole_days}
 use Rattle.cal_time.specs.Time.{hour_of, minute_of}
 use Rattle.cal_datetime.specs.DateTime.{date_at, date_time, time_at}
 use Rattle.cal_datetime.specs.OffsetDateTime.{LocalAndOffset}
@@ -50,7 +49,6 @@ floored n m =
 
 -- The move goes from day n to day r, with these working days.
 abbrev pub MovesTo : WorkWeek → DayMove → ℕ → ℕ → Type 0
-MovesTo workdays (move.Days d) n r = IsDate r × (pos r ≡ pos n +ℤ whole_days d)
 MovesTo workdays (move.Next w k) n r = kth k (next_occurrences (index w) n) ≡ Some r
 MovesTo workdays (move.Last w k) n r = kth k (prev_occurrences (index w) n) ≡ Some r
 MovesTo workdays (move.OnOrAfter w) n r = slice_get (occurrences_from (index w) n) 0 ≡ Some r

@@ -67,7 +67,7 @@ pub fn push_answer(buffer: &mut Buffer, filter: &Filter<'_>, text: &[u8]) -> Res
 {
     if reads_six_forms(filter) {
         return match read_in(Reading::Any, text) {
-            Ok(found) => push_found(buffer, filter, text, &found),
+            Ok(found) => push_found(buffer, &None, filter, text, &found),
             Err(error) => match push_by_others(buffer, filter, text, reason_of(error)) {
                 Ok(goes_out) => Ok(goes_out),
                 Err(why) => Err(why),
@@ -129,7 +129,7 @@ fn push_by_others(
 {
     let others = &filter.readers.as_slice()[1..];
     match read(others, &filter.assumptions, text) {
-        Ok(found) => push_found(buffer, filter, text, &found),
+        Ok(found) => push_found(buffer, &None, filter, text, &found),
         Err(_) => Err(why),
     }
 }
@@ -150,21 +150,23 @@ pub fn push_read(
         → length buffer.new ≤ length buffer.old + longest_answer }
 {
     match read {
-        Ok(found) => push_found(buffer, filter, text, &found),
+        Ok(found) => push_found(buffer, &filter.clock, filter, text, &found),
         Err(why) => Err(why),
     }
 }
 
 /// Appends the answer to `text`, which is read as this date or moment, and returns whether its line
-/// goes out.
+/// goes out. The clock is that of the filter, so that most lines know that there is none.
 #[inline(always)]
 fn push_found(
     buffer: &mut Buffer,
+    clock: &Option<Clock<'_>>,
     filter: &Filter<'_>,
     text: &[u8],
     found: &DateOrMoment,
 ) -> Result<bool, NoAnswer>
     requires room { HasRoom (length text.now + longest_answer) buffer.old }
+    requires clock { filter.now.clock ≡ clock.now }
     requires read { IsReadAs filter.now text.now found.now }
     ensures answered { AppendsAnswer (IsAnswer filter.now text.now) result buffer.old buffer.new }
     ensures short { length buffer.new ≤ length buffer.old + length text.now + longest_answer }
@@ -173,7 +175,7 @@ fn push_found(
 {
     if push_answer_to(
         buffer,
-        &filter.clock,
+        clock,
         &filter.workdays,
         &filter.request,
         text,
@@ -447,7 +449,7 @@ fn push_moved(buffer: &mut Buffer, workdays: &Workdays<'_>, by: Move, found: &Da
 {
     match by {
         Move::Day(by) => push_on_moved_day(buffer, workdays, by, found),
-        Move::Add(duration) => match later(found, duration) {
+        Move::Days(duration) | Move::Add(duration) => match later(found, duration) {
             Some(later) => push_in_form(buffer, form_read(found), later),
             None => false,
         },

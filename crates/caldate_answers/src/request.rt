@@ -73,8 +73,6 @@ pub enum Period {
 /// A move from one day to another.
 #[derive(Clone, Copy)]
 pub enum DayMove {
-    /// `add N days`, `add N weeks`: the day after adding the whole days of a duration.
-    Days(SignedDuration),
     /// `next WEEKDAY N`: the N-th such weekday after the day.
     Next(Weekday, u8),
     /// `last WEEKDAY N`: the N-th such weekday before the day.
@@ -100,6 +98,8 @@ pub enum DayMove {
 pub enum Move {
     /// To another day, at the same time of day.
     Day(DayMove),
+    /// `add N days`, `add N weeks`: by the whole days of a duration, at the same time of day.
+    Days(SignedDuration),
     /// `add N hours`, `add N minutes`, `add N seconds`: by a duration.
     Add(SignedDuration),
     /// `start day`, `start hour`, `start minute` or `start N minutes`: the time of day rounded down

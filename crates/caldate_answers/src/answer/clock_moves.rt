@@ -46,6 +46,10 @@ fn moved_in(
 {
     match by {
         Move::Day(by) => on_moved_day(policy, workdays, by, from),
+        Move::Days(duration) => match from.date().checked_add(duration) {
+            Some(date) => on_day(policy, date, from),
+            None => None,
+        },
         Move::Add(duration) => Some(from.checked_add(duration)?.to_offset_date_time()),
         Move::Floor(minutes) => rounded_down(policy, minutes, from),
     }

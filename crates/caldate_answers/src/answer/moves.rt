@@ -20,7 +20,6 @@ pub fn moved_day(workdays: &Workdays<'_>, date: Date, by: DayMove) -> Option<Dat
         (MovesTo workdays.now by date) }
 {
     match by {
-        DayMove::Days(duration) => date.checked_add(duration),
         DayMove::Next(weekday, count) => date.checked_nth_next_occurrence(weekday, count),
         DayMove::Last(weekday, count) => date.checked_nth_prev_occurrence(weekday, count),
         DayMove::OnOrAfter(weekday) => on_or_after(date, weekday),
