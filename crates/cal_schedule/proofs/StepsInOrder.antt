@@ -1,12 +1,12 @@
 -- The steps of a period are in order.
-use Rattle.std.proofs.Common.{◌≡◌, ℕ, ◌+◌, ◌*◌, ◌^◌, ◌<◌, ◌≤◌, sym, subst, arith, inl, inr, ℤ, pos, negsuc, ◌+ℤ◌, ◌-ℤ◌, ◌*ℤ◌, ◌≤ℤ◌, ◌<ℤ◌, unsigned_abs}
+use Rattle.std.proofs.Common.{◌≡◌, ℕ, ◌+◌, ◌*◌, ◌^◌, ◌<◌, ◌≤◌, refl, sym, subst, arith, inl, inr, ℤ, pos, negsuc, ◌+ℤ◌, ◌-ℤ◌, ◌*ℤ◌, ◌≤ℤ◌, ◌<ℤ◌, unsigned_abs}
 use Rattle.std.proofs.Math.Nat.{mul-le-mul_left}
 use Rattle.std.specs.Prelude.{Option, Some, None, IfSome}
 use Rattle.std.proofs.lemmas.Int.{ints, by_lt_z}
 use Rattle.cal_time.specs.Date.{last_day, IsDate}
 use Rattle.cal_schedule.specs.Months.{month_number_at, IsMonthNumber, IsMonthsLater}
 use Rattle.cal_schedule.specs.Period.{AgreeInSign, IsDaysLater, IsOneSign, Parts, days_of, months_of}
-use Rattle.cal_schedule.specs.Steps.{IsGreatestStep, IsPositive, IsStepUpTo}
+use Rattle.cal_schedule.specs.Steps.{IsGreatestStep, IsNextStep, IsPositive, IsStepUpTo, Series, YieldsStep}
 use Rattle.cal_schedule.proofs.MonthMoves.{IsMonthNumber-date}
 use Rattle.cal_schedule.proofs.Periods.{one_days_later, parts_agree}
 use Rattle.cal_schedule.proofs.Untils.{has_later, later-rises, no_months}
@@ -107,3 +107,10 @@ positive_days p m d h e f none = (
   λ some. (is_positive p h).1 (omega (arith, ints, f, some)),
   λ is. let s = is.2 in omega (arith, ints, e, f, none, s),
 )
+
+-- ---- no step after the last one
+pub past_end : (s : Series) → IsDate s.start → IsPositive s.period → 1_073_741_824 ≤ s.next → (r : ℕ) → IsDate r → IsNextStep s r → ⊥
+past_end s inside positive high r date is = no_step s.start r s.period (pos s.next) inside positive (omega (arith, ints, high)) (record { day = r; date = date; later = is; in_time = omega arith })
+
+pub no_next : (s : Series) (r : Option ℕ) → r ≡ None → ((n : ℕ) → IsDate n → IsNextStep s n → ⊥) → YieldsStep s r s
+no_next s r e h = subst (λ (x : Option ℕ). YieldsStep s x s) (sym e) (h, refl)

@@ -1,5 +1,5 @@
 -- Steps of a period from a start, each counted from the start.
-use Rattle.std.specs.Prelude.{◌≡◌, ℕ, ◌≤◌, ℤ, pos, ◌+ℤ◌, ◌*ℤ◌, ◌≤ℤ◌, ◌<ℤ◌}
+use Rattle.std.specs.Prelude.{◌≡◌, ℕ, ◌+◌, ◌≤◌, ℤ, pos, ◌+ℤ◌, ◌*ℤ◌, ◌≤ℤ◌, ◌<ℤ◌, Option, Some, None}
 use Rattle.cal_time.specs.Date.{IsDate}
 use Rattle.cal_schedule.specs.Period.{IsDaysLater, Parts, days_of, months_of}
 use Rattle.cal_schedule.specs.Until.{IsGreatest}
@@ -22,3 +22,21 @@ pub record IsStepUpTo (start t : ℕ) (p : Parts) (n : ℤ) : Type 0 where
 -- n is the last step that is not after day t.
 abbrev pub IsGreatestStep : ℕ → ℕ → Parts → ℤ → Type 0
 IsGreatestStep start t p n = IsGreatest (IsStepUpTo start t p) n
+
+-- The steps from the one with the number `next` on.
+pub record Series : Type 0 where
+  pub start : ℕ
+  pub period : Parts
+  pub next : ℕ
+
+abbrev pub series : ℕ → Parts → ℕ → Series
+series start period next = record { start = start; period = period; next = next }
+
+-- Day r is the next step.
+abbrev pub IsNextStep : Series → ℕ → Type 0
+IsNextStep s r = IsDaysLater s.start (pos s.next *ℤ months_of s.period) (pos s.next *ℤ days_of s.period) r
+
+-- The call returns the next step and goes past it, or returns `None` if it is out of range.
+abbrev pub YieldsStep : Series → Option ℕ → Series → Type 0
+YieldsStep old None new = ((r : ℕ) → IsDate r → ¬ IsNextStep old r) × (new ≡ old)
+YieldsStep old (Some day) new = IsDate day × IsNextStep old day × (new ≡ series old.start old.period (old.next + 1))

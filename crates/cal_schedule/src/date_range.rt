@@ -1,8 +1,11 @@
 //! Ranges of days.
 ghost use Rattle.std.specs.Prelude.{◌≡◌, ◌↔◌, ℕ, ◌-◌, ◌<◌, ◌≤◌, IfNone, IsTrue, SomeIff};
 ghost use Rattle.cal_time.specs.Date.{IsDate};
+ghost use Rattle.cal_time.specs.DateIter.{days_of};
+ghost use Rattle.cal_time.specs.Occurrences.{days_from};
 ghost use Rattle.cal_schedule.specs.Ranges.{common_days, day_count, meet, range, HasCommonDay, IsIn};
 
+use cal_date::DateIter;
 use cal_date::day_number::day_number;
 use cal_time::Date;
 use std::marker::Model;
@@ -99,6 +102,17 @@ impl DateRange {
             Some(DateRange { start, end })
         } else {
             None
+        }
+    }
+
+    /// Returns an iterator over the days, from both ends.
+    pub fn days(self) -> DateIter
+        ensures { days_of result ≡ days_from self.start (day_count self) }
+    {
+        match self.end.previous_day() {
+            Some(last) => self.start.iter_to(last),
+            // The range is empty, at the first date of all.
+            None => Date::MAX.iter_to(Date::MIN),
         }
     }
 

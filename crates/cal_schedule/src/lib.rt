@@ -32,7 +32,7 @@ pub use period_ends::{
 pub use period_error::PeriodError;
 pub use period_moves::{checked_add_period, date_after, nth_date, nth_period};
 pub use rule::{ByDay, Frequency, Pattern, PeriodUnit, Rule, RuleDays, Values};
-pub use steps::step_of;
+pub use steps::{Steps, step_of};
 pub use unit::CalendarUnit;
 pub use unit_ends::{first_of, last_of};
 pub use until::{months_until, period_until, period_until_by, years_until};

@@ -1,10 +1,13 @@
 //! Steps of a period from a start, and the step that a date is in.
-ghost use Rattle.std.specs.Prelude.{◌≡◌, ◌↔◌, ◌<◌, ◌≤◌, ◌^◌, pos, ◌≤ℤ◌, ◌<ℤ◌, IfSome, IsSome, IsTrue};
-ghost use Rattle.cal_schedule.specs.Steps.{IsGreatestStep, IsPositive, IsRepeated, IsStepUpTo};
+ghost use Rattle.std.specs.Prelude.{◌≡◌, ◌↔◌, ℕ, ◌-◌, ◌<◌, ◌≤◌, ◌^◌, pos, Some, IfSome, IsSome, IsTrue, SomeIff};
+ghost use Rattle.std.specs.Iterator.{at_most};
+ghost use Rattle.cal_time.specs.Date.{IsDate};
+ghost use Rattle.cal_schedule.specs.Steps.{series, IsGreatestStep, IsNextStep, IsPositive, IsRepeated, IsStepUpTo, YieldsStep};
 
 use crate::period::Period;
 use crate::period_moves::nth_date;
 use cal_time::Date;
+use std::marker::Model;
 
 /// Returns the step that a date is in, if a period is repeated from a start: the greatest `n` for
 /// which [`nth_period`](crate::nth_period) isn't after the date. In steps of a month from
@@ -62,13 +65,83 @@ fn last_step(start: Date, period: Period, date: Date) -> u32
     low
 }
 
+/// Returns a step, or `None` if it is out of range.
+fn step(start: Date, period: Period, n: u32) -> Option<Date>
+    requires { n < 2 ^ 30 }
+    ensures every { (r : ℕ) → IsDate r → IsNextStep (series start period n) r → result ≡ Some r }
+    ensures value { IfSome result (λ r. IsDate r × IsNextStep (series start period n) r) }
+{
+    nth_date(start, period, n as i32)
+}
+
 /// Returns `true` if a step isn't after a date.
 fn is_reached(start: Date, period: Period, n: u32, date: Date) -> bool
     requires { n < 2 ^ 30 }
     ensures { IsTrue result ↔ IsStepUpTo start date period (pos n) }
 {
-    match nth_date(start, period, n as i32) {
+    match step(start, period, n) {
         Some(step) => step <= date,
         None => false,
+    }
+}
+
+/// An iterator over the steps of a period from a start, each counted from the start. Contracts see
+/// the start, the period and the number of the next step.
+#[derive(Debug, Drop)]
+pub struct Steps {
+    start: Date,
+    period: Period,
+    next: u32,
+}
+
+impl Model for Steps {
+    ghost use Rattle.std.specs.Prelude.{◌≤◌, ◌^◌};
+    ghost use Rattle.cal_time.specs.Date.{IsDate};
+    ghost use Rattle.cal_schedule.specs.Steps.{IsRepeated, Series};
+
+    ghost Value = { Series };
+
+    ghost view = { λ s. record { start = s.start; period = s.period; next = s.next } };
+
+    ghost invariant = { λ s. IsDate s.start × IsRepeated s.period × (s.next ≤ 2 ^ 30) };
+}
+
+impl Steps {
+    /// Creates an iterator over the steps of a period from a start, from the start itself on. In
+    /// steps of a month from 31 January 2024 they are 31 January, 29 February, 31 March and so on.
+    ///
+    /// Returns `None` if the period has an exact duration or isn't positive.
+    pub fn new(start: Date, period: Period) -> Option<Self>
+        ensures { SomeIff result (IsRepeated period) (series start period 0) }
+    {
+        // It states that the date is in range.
+        let _ = start.to_julian_day();
+        if !is_repeated(period) {
+            return None;
+        }
+        Some(Steps {
+            start,
+            period,
+            next: 0,
+        })
+    }
+}
+
+impl Iterator for Steps {
+    type Item = Date;
+
+    ghost next_gives = { YieldsStep };
+
+    ghost remaining = { λ s. at_most (2 ^ 30 - s.next) };
+
+    /// Returns the next step, or `None` after the last one in the range.
+    fn next(&mut self) -> Option<Date> {
+        // No step of the range has this number.
+        if self.next >= 1_073_741_824 {
+            return None;
+        }
+        let date = step(self.start, self.period, self.next)?;
+        self.next += 1;
+        Some(date)
     }
 }
