@@ -2,3 +2,5 @@ pub mod Instants
 pub mod Firsts
 pub mod OneResult
 pub mod Periods
+pub mod UnitEnds
+pub mod PeriodsUntil

@@ -2,4 +2,6 @@ pub mod Zoned
 pub mod Resolved
 pub mod Day
 pub mod Period
+pub mod Moves
+pub mod Until
 pub mod Hash
