@@ -2,3 +2,4 @@ pub mod Instants
 pub mod Firsts
 pub mod OneResult
 pub mod Periods
+pub mod ZoneResults

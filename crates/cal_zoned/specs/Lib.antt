@@ -2,4 +2,5 @@ pub mod Zoned
 pub mod Resolved
 pub mod Day
 pub mod Period
+pub mod Unchecked
 pub mod Hash

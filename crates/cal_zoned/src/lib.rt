@@ -6,6 +6,7 @@
 mod day;
 pub mod laws;
 mod period;
+pub mod unchecked;
 mod zoned_date_time;
 
 pub use day::start_of_day;
