@@ -3,6 +3,7 @@
 mod date_list;
 mod months;
 mod period_ends;
+pub mod periods;
 mod recurrences;
 mod results;
 mod until;

@@ -2,7 +2,7 @@
 //!
 //! Each function does the same as a method of [`ZonedDateTime`](crate::ZonedDateTime) or as
 //! [`start_of_day`](crate::start_of_day). If the changes are not in order, it may return any value.
-ghost use Rattle.std.specs.Prelude.{◌≡◌, ℕ, pos, ◌+ℤ◌, ◌-ℤ◌, ◌*ℤ◌, Err, IfOk, SomeIff};
+ghost use Rattle.std.specs.Prelude.{◌≡◌, ℕ, pos, ◌+ℤ◌, ◌-ℤ◌, ◌*ℤ◌, Err, IfNone, IfOk, IfSome, SomeIff};
 ghost use Rattle.cal_time.specs.Date.{IsDate};
 ghost use Rattle.cal_time.specs.SignedDuration.{second};
 ghost use Rattle.cal_datetime.specs.DateTime.{IsDateTime, date_at, date_time, with_date};
@@ -10,7 +10,7 @@ ghost use Rattle.cal_schedule.specs.Period.{days_of, months_of, IsDaysLater};
 ghost use Rattle.cal_datetime.specs.OffsetDateTime.{instant, unix_epoch, unix_nanoseconds, IsInstant};
 ghost use Rattle.cal_zone.specs.Timeline.{InOrder};
 ghost use Rattle.cal_zone.specs.declared.local_time_error.LocalTimeError.TheVariants.{OutOfRange};
-ghost use Rattle.cal_zoned.specs.Day.{IsStart};
+ghost use Rattle.cal_zoned.specs.Day.{HasDayLength, IsDayLength, IsStart};
 ghost use Rattle.cal_zoned.specs.Period.{IsMovedThen, IsPeriodLater};
 ghost use Rattle.cal_zoned.specs.Resolved.{IsKept, IsResolved};
 ghost use Rattle.cal_zoned.specs.Unchecked.{in_zone, result_in, start_in};
@@ -225,4 +225,16 @@ pub fn day_start(date: Date, zone: &UncheckedZone<'_>) -> Option<OffsetDateTime>
         Local::Gap(gap) => seen_at(i128::from(gap.at()) * 1_000_000_000, zone),
         Local::Fold { earlier, .. } => Some(earlier),
     }
+}
+
+/// Returns the length of a day, from its start to the start of the next day. Returns `None` if one
+/// of the two starts is out of range.
+pub fn day_length(date: Date, zone: &UncheckedZone<'_>) -> Option<SignedDuration>
+    ensures value { InOrder zone.now → IfSome result (IsDayLength zone.now date) }
+    ensures none { InOrder zone.now → IfNone result (¬ (HasDayLength zone.now date)) }
+{
+    let next = date.next_day()?;
+    let start = day_start(date, zone)?;
+    let end = day_start(next, zone)?;
+    Some(end - start)
 }

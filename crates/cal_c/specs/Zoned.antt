@@ -1,0 +1,73 @@
+-- Date-times in a zone for C: moments with the offset of the zone.
+use Rattle.std.specs.Prelude.{◌≡◌, ℕ, ℤ, pos, ◌+ℤ◌, ◌*ℤ◌, Option, Some, None, Result, Ok, Err}
+use Rattle.cal_time.specs.SignedDuration.{second}
+use Rattle.cal_datetime.specs.DateTime.{IsDateTime}
+use Rattle.cal_datetime.specs.OffsetDateTime.{instant, unix_epoch, unix_seconds}
+use Rattle.cal_schedule.specs.Period.{Parts}
+use Rattle.cal_zone.specs.Local.{Shows}
+use Rattle.cal_zone.specs.Timeline.{Timeline}
+use Rattle.cal_zone.specs.declared.local_time_error.LocalTimeError.{LocalTimeError}
+use Rattle.cal_zone.specs.declared.policy.Policy.{Policy}
+use Rattle.cal_zoned.specs.Day.{HasDayLength, IsDayLength, IsStart}
+use Rattle.cal_zoned.specs.Period.{IsPeriodLater}
+use Rattle.cal_zoned.specs.Unchecked.{in_zone}
+use Rattle.cal_zoned.specs.Zoned.{InZone, at_instant, reading_at}
+use Rattle.cal_c.specs.Moments.{local_and_offset_in, local_in, moment_error, moment_ok}
+use Rattle.cal_c.specs.Results.{duration_error, duration_ok, int64_error, int64_ok}
+use Rattle.cal_c.specs.Values.{need◌else◌then◌}
+use Rattle.cal_c.specs.Zones.{local_time_status, policy_number, IsForZone, IsPolicy}
+use Rattle.cal_c.specs.declared.results.DurationResult.{DurationResult}
+use Rattle.cal_c.specs.declared.results.Int64Result.{Int64Result}
+use Rattle.cal_c.specs.declared.results.Moment.{Moment}
+use Rattle.cal_c.specs.declared.results.MomentResult.{MomentResult}
+use Rattle.cal_c.specs.declared.status.TheConstants.{INVALID_POLICY, INVALID_ZONE, RESULT_OUT_OF_RANGE}
+use Rattle.cal_c.specs.declared.zones.checked_zone.CheckedZone.{CheckedZone}
+
+-- The offset of a moment is the offset of the zone at its instant.
+abbrev pub IsInZone : Timeline → Moment → Type 0
+IsInZone z m = Shows z (local_in m) (local_and_offset_in m)
+
+-- The date-time in the zone.
+abbrev pub zoned_in : Timeline → Moment → InZone
+zoned_in z m = in_zone z (local_and_offset_in m)
+
+-- The result with a date-time in a zone, or with an error.
+abbrev pub zoned_or_error : Result InZone LocalTimeError → MomentResult
+zoned_or_error (Ok m) = moment_ok m.moment
+zoned_or_error (Err e) = moment_error (local_time_status e)
+
+-- The result is a date-time in a zone, or an error, with a property.
+abbrev pub IsZonedWith : (Result InZone LocalTimeError → Type 0) → MomentResult → Type 0
+IsZonedWith Is r = (its : Result InZone LocalTimeError) × Is its × (r ≡ zoned_or_error its)
+
+-- The result is the start of a day, or out of range.
+abbrev pub start_or_error : Option InZone → MomentResult
+start_or_error (Some m) = moment_ok m.moment
+start_or_error None = moment_error RESULT_OUT_OF_RANGE
+
+abbrev pub IsStartResult : Timeline → ℤ → MomentResult → Type 0
+IsStartResult z reading r = (its : Option InZone) × IsStart z reading its × (r ≡ start_or_error its)
+
+-- The result is the length of day n, or out of range if it has none.
+pub record IsDayLengthResult (z : Timeline) (n : ℕ) (r : DurationResult) : Type 0 where
+  pub value : HasDayLength z n → (d : ℤ) × IsDayLength z n d × (r ≡ duration_ok d)
+  pub none : ¬ (HasDayLength z n) → r ≡ duration_error RESULT_OUT_OF_RANGE
+
+-- ---- columns
+-- The instant of a Unix time in seconds.
+abbrev pub instant_at : ℤ → ℤ
+instant_at seconds = unix_epoch +ℤ seconds *ℤ pos second
+
+-- The result with the Unix time of a date-time in a zone, or with an error.
+abbrev pub seconds_or_error : Result InZone LocalTimeError → Int64Result
+seconds_or_error (Ok m) = int64_ok (unix_seconds (instant m.moment))
+seconds_or_error (Err e) = int64_error (local_time_status e)
+
+-- The result is the Unix time a period after a Unix time in a zone.
+pub record IsSecondsAfter (c : CheckedZone) (seconds : ℤ) (period : Parts) (policy : ℕ) (r : Int64Result) : Type 0 where
+  pub answer : IsForZone c
+      (λ z. need IsPolicy policy else r ≡ int64_error INVALID_POLICY then
+      need IsDateTime (reading_at z (instant_at seconds)) else r ≡ int64_error RESULT_OUT_OF_RANGE then
+      ((q : Policy) × (policy_number q ≡ policy)
+      × ((its : Result InZone LocalTimeError) × IsPeriodLater q (at_instant z (instant_at seconds)) period its × (r ≡ seconds_or_error its))))
+      (r ≡ int64_error INVALID_ZONE)
