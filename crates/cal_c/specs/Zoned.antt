@@ -1,7 +1,7 @@
 -- Date-times in a zone for C: moments with the offset of the zone.
 use Rattle.std.specs.Prelude.{◌≡◌, ℕ, ℤ, pos, ◌+ℤ◌, ◌*ℤ◌, Option, Some, None, Result, Ok, Err}
 use Rattle.cal_time.specs.SignedDuration.{second}
-use Rattle.cal_datetime.specs.DateTime.{IsDateTime}
+use Rattle.cal_datetime.specs.DateTime.{IsDateTime, date_at, date_time}
 use Rattle.cal_datetime.specs.OffsetDateTime.{instant, unix_epoch, unix_seconds}
 use Rattle.cal_schedule.specs.Period.{Parts}
 use Rattle.cal_zone.specs.Local.{Shows}
@@ -63,11 +63,28 @@ abbrev pub seconds_or_error : Result InZone LocalTimeError → Int64Result
 seconds_or_error (Ok m) = int64_ok (unix_seconds (instant m.moment))
 seconds_or_error (Err e) = int64_error (local_time_status e)
 
--- The result is the Unix time a period after a Unix time in a zone.
+abbrev pub start_seconds_or_error : Option InZone → Int64Result
+start_seconds_or_error (Some m) = int64_ok (unix_seconds (instant m.moment))
+start_seconds_or_error None = int64_error RESULT_OUT_OF_RANGE
+
+-- The result is the Unix time a period after a Unix time in a zone, by a policy.
+abbrev pub IsLaterSeconds : Timeline → ℤ → Parts → Policy → Int64Result → Type 0
+IsLaterSeconds z seconds period q r =
+    need IsDateTime (reading_at z (instant_at seconds)) else r ≡ int64_error RESULT_OUT_OF_RANGE then
+    ((its : Result InZone LocalTimeError) × IsPeriodLater q (at_instant z (instant_at seconds)) period its × (r ≡ seconds_or_error its))
+
+-- The same for a struct and for the number of a policy.
 pub record IsSecondsAfter (c : CheckedZone) (seconds : ℤ) (period : Parts) (policy : ℕ) (r : Int64Result) : Type 0 where
   pub answer : IsForZone c
       (λ z. need IsPolicy policy else r ≡ int64_error INVALID_POLICY then
-      need IsDateTime (reading_at z (instant_at seconds)) else r ≡ int64_error RESULT_OUT_OF_RANGE then
-      ((q : Policy) × (policy_number q ≡ policy)
-      × ((its : Result InZone LocalTimeError) × IsPeriodLater q (at_instant z (instant_at seconds)) period its × (r ≡ seconds_or_error its))))
+      ((q : Policy) × (policy_number q ≡ policy) × IsLaterSeconds z seconds period q r))
       (r ≡ int64_error INVALID_ZONE)
+
+-- The result is the Unix time of the start of the day that the clocks show at a Unix time.
+abbrev pub IsStartSeconds : Timeline → ℤ → Int64Result → Type 0
+IsStartSeconds z seconds r =
+    need IsDateTime (reading_at z (instant_at seconds)) else r ≡ int64_error RESULT_OUT_OF_RANGE then
+    ((its : Option InZone) × IsStart z (date_time (date_at (reading_at z (instant_at seconds))) 0) its × (r ≡ start_seconds_or_error its))
+
+pub record IsSecondsOfStart (c : CheckedZone) (seconds : ℤ) (r : Int64Result) : Type 0 where
+  pub answer : IsForZone c (λ z. IsStartSeconds z seconds r) (r ≡ int64_error INVALID_ZONE)

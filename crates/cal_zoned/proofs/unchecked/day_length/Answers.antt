@@ -13,4 +13,4 @@ returns-in_err-end-clause-none c = λ order. if_none c.from_residual-in_err-end.
 pub returns-clause-value : goal.returns-clause-value
 returns-clause-value c = λ order.
     length_of c.args.zone.now c.args.date c.in_ok-next.next _ _ c.sub.result c.in_ok-next.ensures.value.1
-    (c.in_ok-start.ensures order) (c.in_ok-end.ensures order) c.sub.ensures
+    (c.in_ok-start.ensures order) (c.in_ok-end.ensures order) c.sub.ensures.0
