@@ -3,3 +3,4 @@ pub mod Firsts
 pub mod OneResult
 pub mod Periods
 pub mod ZoneResults
+pub mod UnitEnds

@@ -3,4 +3,5 @@ pub mod Resolved
 pub mod Day
 pub mod Period
 pub mod Unchecked
+pub mod Moves
 pub mod Hash

@@ -1,8 +1,10 @@
 //! Laws: each definition leaves one result.
-ghost use Rattle.std.specs.Prelude.{◌≡◌, ℤ, Option, Result};
+ghost use Rattle.std.specs.Prelude.{◌≡◌, ℕ, ℤ, Option, Result};
+ghost use Rattle.cal_schedule.specs.declared.unit.CalendarUnit.{CalendarUnit};
 ghost use Rattle.cal_zone.specs.declared.local_time_error.LocalTimeError.{LocalTimeError};
 ghost use Rattle.cal_zone.specs.declared.policy.Policy.{Policy};
 ghost use Rattle.cal_zoned.specs.Day.{IsStart};
+ghost use Rattle.cal_zoned.specs.Moves.{IsMovedTo, IsNextStart, IsStartOf};
 ghost use Rattle.cal_zoned.specs.Period.{IsPeriodLater};
 ghost use Rattle.cal_zoned.specs.Resolved.{IsKept, IsResolved};
 ghost use Rattle.cal_zoned.specs.Zoned.{InZone};
@@ -43,4 +45,28 @@ pub fn one_period_later(moment: &ZonedDateTime<'_>, period: Period)
 {
     one_local(moment.zone());
     let _ = date_after(moment.date(), period);
+}
+
+/// Proves that moving to a date leads to one result.
+pub fn one_moved(moment: &ZonedDateTime<'_>)
+    ensures { (p : Policy) (n : ℕ) (a b : Result InZone LocalTimeError)
+        → IsMovedTo p moment.now n a → IsMovedTo p moment.now n b → a ≡ b }
+{
+    one_local(moment.zone());
+}
+
+/// Proves that a unit has one start.
+pub fn one_start_of(moment: &ZonedDateTime<'_>)
+    ensures { (unit : CalendarUnit) (a b : Option InZone)
+        → IsStartOf unit moment.now a → IsStartOf unit moment.now b → a ≡ b }
+{
+    let _ = moment;
+}
+
+/// Proves that a unit has one next start, and so one end.
+pub fn one_next_start(moment: &ZonedDateTime<'_>)
+    ensures { (unit : CalendarUnit) (s t : InZone)
+        → IsNextStart unit moment.now s → IsNextStart unit moment.now t → s ≡ t }
+{
+    let _ = moment;
 }

@@ -17,6 +17,7 @@ mod arithmetic;
 mod days;
 pub(crate) mod moves;
 mod order;
+mod units;
 
 /// An instant in a time zone, with the date and the time of day that the clocks of the zone show
 /// then.
