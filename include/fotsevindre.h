@@ -223,7 +223,8 @@ enum fots_status {
     FOTS_WEEKDAY_OUT_OF_RANGE = 67,
     FOTS_INVALID_PERIOD = 68, /* expected parts of one sign and a valid duration */
     FOTS_PERIOD_HAS_DURATION = 69, /* a date has no time of day, so a period of it has no duration */
-    FOTS_WRONG_OFFSET = 70 /* the offset of the moment isn't that of the zone at its instant */
+    FOTS_WRONG_OFFSET = 70, /* the offset of the moment isn't that of the zone at its instant */
+    FOTS_INVALID_UNIT = 71 /* expected 1 (day) to 5 (year) */
 };
 
 /* Returns the name of a status: the component, such as "day", or words such as "result out of
@@ -302,6 +303,7 @@ static inline const char *fots_status_name(int32_t status)
     case FOTS_INVALID_PERIOD: return "invalid period";
     case FOTS_PERIOD_HAS_DURATION: return "period has a duration";
     case FOTS_WRONG_OFFSET: return "wrong offset";
+    case FOTS_INVALID_UNIT: return "invalid unit";
     default: return "unknown";
     }
 }
@@ -450,11 +452,12 @@ typedef struct fots_length_result {
     size_t length; /* in bytes; also for FOTS_BUFFER_TOO_SHORT, else 0 after an error */
 } fots_length_result;
 
-/* Years, months and days, all positive or 0, or all negative or 0. */
+/* Years, months, weeks and days, all positive or 0, or all negative or 0. */
 typedef struct fots_period_result {
     int32_t status;
     int32_t years; /* or FOTS_NO_VALUE, as for the next fields */
-    int32_t months; /* from -11 to 11 */
+    int32_t months;
+    int32_t weeks;
     int32_t days;
 } fots_period_result;
 
@@ -602,8 +605,22 @@ fots_number_result fots_date_months_until(fots_date date, fots_date other);
 fots_number_result fots_date_years_until(fots_date date, fots_date other);
 
 /* Returns years and months, as many as fots_date_months_until, and then days. From 2000-01-31 to
- * 2001-03-02: 1, 1, 2. */
+ * 2001-03-02: 1 year, 1 month and 2 days. */
 fots_period_result fots_date_period_until(fots_date date, fots_date other);
+
+enum fots_calendar_unit {
+    FOTS_DAY = 1,
+    FOTS_WEEK = 2, /* from Monday */
+    FOTS_MONTH = 3,
+    FOTS_QUARTER = 4,
+    FOTS_YEAR = 5
+};
+
+/* Returns a period with the unit as its largest part: for FOTS_DAY days, for FOTS_WEEK weeks and
+ * days, for FOTS_MONTH and FOTS_QUARTER months and days, and for FOTS_YEAR the same as
+ * fots_date_period_until. FOTS_INVALID_UNIT. From 2000-01-31 to 2001-03-02: 13 months and 2 days by
+ * FOTS_MONTH, and 56 weeks and 4 days by FOTS_WEEK. */
+fots_period_result fots_date_period_until_by(fots_date date, fots_date other, uint32_t unit);
 
 /* Return the date a period later, or `n` periods later at once, without a drift: the years and the
  * months are added first, and then the weeks and the days. FOTS_INVALID_PERIOD,
@@ -611,6 +628,12 @@ fots_period_result fots_date_period_until(fots_date date, fots_date other);
  * n = 2, is 2000-03-31. */
 fots_date_result fots_date_add_period(fots_date date, fots_period period);
 fots_date_result fots_date_nth_period(fots_date date, fots_period period, int32_t n);
+
+/* Returns the step that a date is in: the greatest `n` for which fots_date_nth_period of `start`
+ * isn't after it. FOTS_INVALID_PERIOD, and FOTS_RESULT_OUT_OF_RANGE if the date is before the start,
+ * or if the period has a duration or isn't positive. By months from 2000-01-31, 2000-02-28 is in
+ * step 0, and 2000-02-29 in step 1. */
+fots_number_result fots_date_step_of(fots_date start, fots_period period, fots_date date);
 
 /* Return the first or last day of the month, quarter, year or ISO week, and the quarter (1 to 4).
  * Only the Sunday of the last ISO week is FOTS_RESULT_OUT_OF_RANGE. For 2000-02-29: 2000-02-01,

@@ -59,7 +59,7 @@ typedef struct fots_checked_period_result {
 typedef struct State {
     PyTypeObject *date, *time, *offset, *duration, *period, *plain, *moment, *workdays, *timedelta;
     PyObject *has_delta; /* True if a timedelta is a Delta, which the limited API doesn't promise */
-    PyObject *weekday, *convention, *day_count, *year_fraction, *status_error;
+    PyObject *weekday, *calendar_unit, *convention, *day_count, *year_fraction, *status_error;
     PyObject *months[12], *weekdays[7];
 } State;
 
@@ -273,8 +273,8 @@ OF(calendar_date, calendar_date, tuple_of(state, result))
 OF(ordinal_date, ordinal_date, Py_BuildValue("iI", (int)result.year, (unsigned)result.ordinal))
 OF(iso_week_date, iso_week_date, Py_BuildValue("iIO", (int)result.year, (unsigned)result.week,
     state->weekdays[result.weekday - 1]))
-OF(period, period, new_period(state, (fots_period){result.years, result.months, 0, result.days,
-    {0, 0}}))
+OF(period, period, new_period(state, (fots_period){result.years, result.months, result.weeks,
+    result.days, {0, 0}}))
 OF(checked_period, checked_period, new_period(state, result.period))
 OF(year_fraction, year_fraction, PyObject_CallFunction(state->year_fraction, "LI",
     (long long)result.numerator, (unsigned)result.denominator))

@@ -71,6 +71,7 @@ def over_columns(name: str, columns: tuple[Any, ...], extra: Any) -> int: ...
 
 # ---- choices, with the names and numbers of fotsevindre.h
 
+class CalendarUnit(Choice): "A unit of the calendar. A week is from Monday to Sunday."
 class Convention(Choice):
     "How a day moves to a working day, with the names of the ISDA Definitions."
 class DayCount(Choice):

@@ -12,7 +12,7 @@ from typing import Any, Callable, ClassVar, Iterable, SupportsIndex, overload
 
 from typing_extensions import Self
 
-from .choices import Convention, DayCount
+from .choices import CalendarUnit, Convention, DayCount
 from .conversions import CLOCKS, OFFSET, parts_of, whole_microseconds
 from .enums import Month, Weekday, YearFraction
 from .errors import check
@@ -153,9 +153,15 @@ class Date(_Value, _DateParts, _Shifted, _Moved, _Formatted):
     def {months,years}_until(self, other: Date) -> int:
         "Returns the whole {} to the other day, such as an age; negative if that is earlier."
     def period_until(self, other: Date) -> Period: "Returns years, months and days to another day."
+    def period_until_by(self, other: Date, unit: CalendarUnit) -> Period:
+        """Returns the period to another day with a CalendarUnit as its largest part: days, weeks
+        and days, months and days, or years, months and days."""
     def nth_period(self, period, n) -> Date:
         """Returns the date n times a Period later, counted from this date, so that nothing drifts:
         with a month 31 January leads to 29 February and 31 March. OverflowError out of range."""
+    def step_of(self, period, date) -> int | None:
+        """Returns the greatest n for which nth_period isn't after a date, or None if the date is
+        earlier than this one, or if the period has a duration or isn't positive."""
     def day_count(self, other: Date, convention: DayCount) -> YearFraction:
         "Returns the fraction of a year to the other day by a DayCount."
     def first_of_{month,quarter,year}(self) -> Date: "Returns the first day of the {}."

@@ -24,8 +24,8 @@ from .enums import Month, Weekday, YearFraction
 from .errors import ComponentRange, ContradictionError, FormatError, ParseError, ParseRuleError
 from .errors import ParseRuleErrorKind, ZoneError, status_error
 
-_core.setup(timedelta, _core.is_delta(timedelta(-1, 2, 3)), Weekday, _choices.Convention,
-    _choices.DayCount, YearFraction, status_error, *Month, *Weekday)
+_core.setup(timedelta, _core.is_delta(timedelta(-1, 2, 3)), Weekday, _choices.CalendarUnit,
+    _choices.Convention, _choices.DayCount, YearFraction, status_error, *Month, *Weekday)
 
 from . import calls as _calls, members as _members
 from .calls import *
@@ -45,8 +45,8 @@ __all__ += [
     "Date", "Time", "UtcOffset", "SignedDuration", "Period", "PlainDateTime", "OffsetDateTime",
     "days_in_month", "days_in_year_month", "is_leap_year", "days_in_year", "weeks_in_year",
     "add_to_pair", "sub_from_pair", "rfc3339_text", "unix_text", "unix_duration", "unix_pair",
-    "parse_rfc3339", "parse_unix", "Convention", "DayCount", "Frequency", "LocalKind", "Policy",
-    "DateColumns", "CalendarDateColumns", "OrdinalDateColumns", "IsoWeekDateColumns",
+    "parse_rfc3339", "parse_unix", "CalendarUnit", "Convention", "DayCount", "Frequency", "LocalKind",
+    "Policy", "DateColumns", "CalendarDateColumns", "OrdinalDateColumns", "IsoWeekDateColumns",
     "WeekdayColumns", "OffsetColumns", "InstantColumns", "NumberColumns", "MomentColumns",
     "TextColumns", "dates_from_julian_days", "dates_from_calendar_dates",
     "dates_from_ordinal_dates", "dates_from_iso_week_dates", "dates_to_calendar_dates",

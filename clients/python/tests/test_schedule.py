@@ -17,7 +17,7 @@ except ImportError:
     relativedelta = rrule = None
 
 from fotsevindre import (
-    ComponentRange, Convention, Date, DayCount, Frequency, Month, OffsetDateTime, ParseRuleError, ParseRuleErrorKind, Period, PlainDateTime, Recurrence,
+    CalendarUnit, ComponentRange, Convention, Date, DayCount, Frequency, Month, OffsetDateTime, ParseRuleError, ParseRuleErrorKind, Period, PlainDateTime, Recurrence,
     Rule, SignedDuration, Time, Weekday, Workdays, Zone)
 
 
@@ -89,6 +89,38 @@ class Months(unittest.TestCase):
         for name in ("years", "months", "weeks", "days"):
             self.assertRaises(OverflowError, Period, **{name: 2**31})
             self.assertEqual(getattr(Period(**{name: -2**31}), name), -2**31)
+
+    def test_periods_by_a_unit(self):
+        for start, end, units in (
+            (day(2000, 1, 31), day(2001, 3, 2), (Period(days=396), Period(weeks=56, days=4), Period(months=13, days=2), Period(years=1, months=1, days=2))),
+            (day(2024, 3, 2), day(2023, 1, 31), (Period(days=-396), Period(weeks=-56, days=-4), Period(months=-13, days=-2),
+                Period(years=-1, months=-1, days=-2))),
+            (day(2023, 1, 31), day(2023, 2, 28), (Period(days=28), Period(weeks=4), Period(months=1), Period(months=1))),
+            (Date.MIN, Date.MIN, (Period(),) * 4),
+        ):
+            by_day, by_week, by_month, by_year = units
+            wanted = [by_day, by_week, by_month, by_month, by_year]
+            self.assertEqual([start.period_until_by(end, unit) for unit in CalendarUnit], wanted)
+            self.assertEqual({start + period for period in wanted}, {end})
+            self.assertEqual(start.period_until(end), by_year)
+        self.assertEqual(Date.MIN.period_until_by(Date.MAX, CalendarUnit.Day), Period(days=(Date.MAX - Date.MIN).days))
+        for call in (lambda: day(2024, 1, 1).period_until_by(day(2024, 1, 2), 1), lambda: day(2024, 1, 1).period_until_by(1, CalendarUnit.Day),
+                lambda: day(2024, 1, 1).period_until_by(day(2024, 1, 2), Frequency.Monthly)):
+            self.assertRaises(TypeError, call)
+
+    def test_steps(self):
+        start, month = day(2024, 1, 31), Period(months=1)
+        for date, step in ((start, 0), (day(2024, 2, 28), 0), (day(2024, 2, 29), 1), (day(2024, 3, 30), 1), (day(2024, 3, 31), 2), (day(2024, 1, 30), None)):
+            self.assertEqual(start.step_of(month, date), step)
+        for period in (Period(), Period(days=-1), Period(days=1, duration=SignedDuration.HOUR)):
+            self.assertIsNone(start.step_of(period, start))
+        self.assertRaises(TypeError, start.step_of, 1, start)
+        draw = random.Random(3)
+        for _ in range(300):
+            period = Period(years=draw.randrange(2), months=draw.randrange(3), weeks=draw.randrange(2), days=draw.randrange(1, 9))
+            date = start + Period(days=draw.randrange(2000))
+            step = start.step_of(period, date)
+            self.assertTrue(start.nth_period(period, step) <= date < start.nth_period(period, step + 1), (period, date))
 
     def test_periods_are_values(self):
         named = {"years": 1, "months": 12, "weeks": 7, "days": 30, "duration": SignedDuration(hours=2, nanoseconds=1)}

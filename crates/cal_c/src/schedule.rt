@@ -6,6 +6,8 @@ mod period_ends;
 pub mod periods;
 mod recurrences;
 mod results;
+mod steps;
+mod units;
 mod until;
 mod weekdays;
 pub mod workdays;

@@ -202,6 +202,9 @@ pub const PERIOD_HAS_DURATION: i32 = 69;
 /// The offset of the moment is not the offset of the zone at its instant.
 pub const WRONG_OFFSET: i32 = 70;
 
+/// The number is not a unit of the calendar.
+pub const INVALID_UNIT: i32 = 71;
+
 /// Returns the status of an error, by its component.
 pub fn error_status(error: ComponentRange) -> i32
     ensures { result ≡ component_status error.component }
