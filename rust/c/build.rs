@@ -22,6 +22,7 @@ const CRATES: [&str; 14] = [
     "cal_format",
     "cal_zone",
     "cal_tzif",
+    "cal_zoned",
     "cal_recurrence",
     "cal_zoned",
     "cal_c",

@@ -231,6 +231,7 @@ pub fn day_start(date: Date, zone: &UncheckedZone<'_>) -> Option<OffsetDateTime>
 /// of the two starts is out of range.
 pub fn day_length(date: Date, zone: &UncheckedZone<'_>) -> Option<SignedDuration>
     ensures value { InOrder zone.now → IfSome result (IsDayLength zone.now date) }
+    ensures some { InOrder zone.now → IfSome result (λ _. HasDayLength zone.now date) }
     ensures none { InOrder zone.now → IfNone result (¬ (HasDayLength zone.now date)) }
 {
     let next = date.next_day()?;

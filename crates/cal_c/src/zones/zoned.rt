@@ -1,21 +1,12 @@
 //! Date-times in a zone: moments with the offset of the zone at their instants.
-ghost use Rattle.std.specs.Prelude.{◌≡◌, ◌↔◌, ℕ, ◌+ℤ◌, ◌-ℤ◌, IsTrue};
-ghost use Rattle.cal_time.specs.Time.{IsTime};
-ghost use Rattle.cal_datetime.specs.DateTime.{date_time};
-ghost use Rattle.cal_datetime.specs.OffsetDateTime.{instant, unix_epoch};
+ghost use Rattle.std.specs.Prelude.{◌≡◌, ◌↔◌, IsTrue};
 ghost use Rattle.cal_zone.specs.Local.{Shows};
 ghost use Rattle.cal_zone.specs.Timeline.{Timeline, InOrder};
-ghost use Rattle.cal_zone.specs.declared.policy.Policy.{Policy};
-ghost use Rattle.cal_zoned.specs.Period.{IsPeriodLater};
-ghost use Rattle.cal_zoned.specs.Resolved.{IsKept, IsResolved};
 ghost use Rattle.cal_zoned.specs.Unchecked.{result_in};
-ghost use Rattle.cal_zoned.specs.Zoned.{IsSeen};
-ghost use Rattle.cal_c.specs.Moments.{IsMoment, local_and_offset_in, moment_error};
-ghost use Rattle.cal_c.specs.Periods.{parts_in, IsPeriod};
+ghost use Rattle.cal_c.specs.Moments.{moment_error};
 ghost use Rattle.cal_c.specs.Results.{duration_error};
-ghost use Rattle.cal_c.specs.Values.{need◌else◌then◌, nanoseconds_in, IsDurationPair, IsJulianDay, day_of};
-ghost use Rattle.cal_c.specs.Zoned.{zoned_in, zoned_or_error, IsDayLengthResult, IsInZone, IsStartResult, IsZonedWith};
-ghost use Rattle.cal_c.specs.Zones.{policy_number, IsForZone, IsPolicy};
+ghost use Rattle.cal_c.specs.Zoned.{zoned_or_error, IsDurationEarlier, IsDurationLater, IsFromLocal, IsLengthOfDate, IsPeriodLaterResult, IsStartOfDate, IsWithLocal, IsZonedAt};
+ghost use Rattle.cal_c.specs.Zones.{IsForZone};
 
 use crate::moment::valid_moment;
 use crate::results::{Duration, DurationResult, Moment, MomentResult};
@@ -57,14 +48,19 @@ fn zoned_result(found: Result<OffsetDateTime, LocalTimeError>) -> MomentResult
 /// show then is out of range. In Berlin 1711846800 is 2024-03-31 3:00 +02:00.
 #[unsafe(no_mangle)]
 pub extern "C" fn fots_zoned_at(zone: &CheckedZone<'_>, unix_time: Duration) -> MomentResult
-    ensures { IsForZone zone.now (λ z.
-        need IsDurationPair unix_time else result ≡ moment_error INVALID_DURATION then
-        IsZonedWith (IsSeen z (unix_epoch +ℤ nanoseconds_in unix_time)) result)
+    ensures { IsForZone zone.now (λ z. IsZonedAt z unix_time result)
         (result ≡ moment_error INVALID_ZONE) }
 {
     let zone = or_error!(MomentResult, zone.unchecked(), INVALID_ZONE);
+    at_unix_time(&zone, unix_time)
+}
+
+/// Returns the moment in a zone at a Unix time.
+fn at_unix_time(zone: &UncheckedZone<'_>, unix_time: Duration) -> MomentResult
+    ensures { InOrder zone.now → IsZonedAt zone.now unix_time result }
+{
     let unix_time = or_error!(MomentResult, valid_duration(unix_time), INVALID_DURATION);
-    zoned_result(found_at(unix_time.whole_nanoseconds(), &zone))
+    zoned_result(found_at(unix_time.whole_nanoseconds(), zone))
 }
 
 /// Returns the moment that a date and a time of day mean in a zone by a policy. In a gap it is the
@@ -78,19 +74,21 @@ pub extern "C" fn fots_zoned_from_local(
     time: u64,
     policy: u32,
 ) -> MomentResult
-    ensures { IsForZone zone.now (λ z.
-        need IsJulianDay date else result ≡ moment_error INVALID_DATE then
-        need IsTime time else result ≡ moment_error INVALID_TIME then
-        need IsPolicy policy else result ≡ moment_error INVALID_POLICY then
-        (p : Policy) × (policy_number p ≡ policy)
-        × IsZonedWith (IsResolved p z (date_time (day_of date) time)) result)
+    ensures { IsForZone zone.now (λ z. IsFromLocal z date time policy result)
         (result ≡ moment_error INVALID_ZONE) }
 {
     let zone = or_error!(MomentResult, zone.unchecked(), INVALID_ZONE);
+    from_local(&zone, date, time, policy)
+}
+
+/// Returns the moment that a date and a time of day mean in a zone.
+fn from_local(zone: &UncheckedZone<'_>, date: i32, time: u64, policy: u32) -> MomentResult
+    ensures { InOrder zone.now → IsFromLocal zone.now date time policy result }
+{
     let date = or_error!(MomentResult, valid_date(date), INVALID_DATE);
     let time = or_error!(MomentResult, valid_time(time), INVALID_TIME);
     let policy = or_error!(MomentResult, valid_policy(policy), INVALID_POLICY);
-    zoned_result(resolved(PlainDateTime::new(date, time), &zone, policy))
+    zoned_result(resolved(PlainDateTime::new(date, time), zone, policy))
 }
 
 /// Moves a moment in a zone to another date and time of day. Keeps the offset if the clocks show
@@ -105,25 +103,31 @@ pub extern "C" fn fots_zoned_with_local(
     time: u64,
     policy: u32,
 ) -> MomentResult
-    ensures { IsForZone zone.now (λ z.
-        need IsMoment moment else result ≡ moment_error INVALID_MOMENT then
-        need IsInZone z moment else result ≡ moment_error WRONG_OFFSET then
-        need IsJulianDay date else result ≡ moment_error INVALID_DATE then
-        need IsTime time else result ≡ moment_error INVALID_TIME then
-        need IsPolicy policy else result ≡ moment_error INVALID_POLICY then
-        (p : Policy) × (policy_number p ≡ policy)
-        × IsZonedWith (IsKept p (zoned_in z moment) (date_time (day_of date) time)) result)
+    ensures { IsForZone zone.now (λ z. IsWithLocal z moment date time policy result)
         (result ≡ moment_error INVALID_ZONE) }
 {
     let zone = or_error!(MomentResult, zone.unchecked(), INVALID_ZONE);
+    with_local(&zone, moment, date, time, policy)
+}
+
+/// Moves a moment in a zone to another date and time of day.
+fn with_local(
+    zone: &UncheckedZone<'_>,
+    moment: Moment,
+    date: i32,
+    time: u64,
+    policy: u32,
+) -> MomentResult
+    ensures { InOrder zone.now → IsWithLocal zone.now moment date time policy result }
+{
     let moment = or_error!(MomentResult, valid_moment(moment), INVALID_MOMENT);
-    if !is_in_zone(&zone, moment) {
+    if !is_in_zone(zone, moment) {
         return MomentResult::error(WRONG_OFFSET);
     }
     let date = or_error!(MomentResult, valid_date(date), INVALID_DATE);
     let time = or_error!(MomentResult, valid_time(time), INVALID_TIME);
     let policy = or_error!(MomentResult, valid_policy(policy), INVALID_POLICY);
-    zoned_result(kept(moment, PlainDateTime::new(date, time), &zone, policy))
+    zoned_result(kept(moment, PlainDateTime::new(date, time), zone, policy))
 }
 
 /// Adds a duration to the instant of a moment in a zone. Fails if the offset of the moment is not
@@ -135,20 +139,23 @@ pub extern "C" fn fots_zoned_checked_add(
     moment: Moment,
     duration: Duration,
 ) -> MomentResult
-    ensures { IsForZone zone.now (λ z.
-        need IsMoment moment else result ≡ moment_error INVALID_MOMENT then
-        need IsInZone z moment else result ≡ moment_error WRONG_OFFSET then
-        need IsDurationPair duration else result ≡ moment_error INVALID_DURATION then
-        IsZonedWith (IsSeen z (instant (local_and_offset_in moment) +ℤ nanoseconds_in duration)) result)
+    ensures { IsForZone zone.now (λ z. IsDurationLater z moment duration result)
         (result ≡ moment_error INVALID_ZONE) }
 {
     let zone = or_error!(MomentResult, zone.unchecked(), INVALID_ZONE);
+    add(&zone, moment, duration)
+}
+
+/// Adds a duration to a moment in a zone.
+fn add(zone: &UncheckedZone<'_>, moment: Moment, duration: Duration) -> MomentResult
+    ensures { InOrder zone.now → IsDurationLater zone.now moment duration result }
+{
     let moment = or_error!(MomentResult, valid_moment(moment), INVALID_MOMENT);
-    if !is_in_zone(&zone, moment) {
+    if !is_in_zone(zone, moment) {
         return MomentResult::error(WRONG_OFFSET);
     }
     let duration = or_error!(MomentResult, valid_duration(duration), INVALID_DURATION);
-    zoned_result(later(moment, duration, &zone))
+    zoned_result(later(moment, duration, zone))
 }
 
 /// Subtracts a duration from the instant of a moment in a zone. It fails like
@@ -159,20 +166,23 @@ pub extern "C" fn fots_zoned_checked_sub(
     moment: Moment,
     duration: Duration,
 ) -> MomentResult
-    ensures { IsForZone zone.now (λ z.
-        need IsMoment moment else result ≡ moment_error INVALID_MOMENT then
-        need IsInZone z moment else result ≡ moment_error WRONG_OFFSET then
-        need IsDurationPair duration else result ≡ moment_error INVALID_DURATION then
-        IsZonedWith (IsSeen z (instant (local_and_offset_in moment) -ℤ nanoseconds_in duration)) result)
+    ensures { IsForZone zone.now (λ z. IsDurationEarlier z moment duration result)
         (result ≡ moment_error INVALID_ZONE) }
 {
     let zone = or_error!(MomentResult, zone.unchecked(), INVALID_ZONE);
+    sub(&zone, moment, duration)
+}
+
+/// Subtracts a duration from a moment in a zone.
+fn sub(zone: &UncheckedZone<'_>, moment: Moment, duration: Duration) -> MomentResult
+    ensures { InOrder zone.now → IsDurationEarlier zone.now moment duration result }
+{
     let moment = or_error!(MomentResult, valid_moment(moment), INVALID_MOMENT);
-    if !is_in_zone(&zone, moment) {
+    if !is_in_zone(zone, moment) {
         return MomentResult::error(WRONG_OFFSET);
     }
     let duration = or_error!(MomentResult, valid_duration(duration), INVALID_DURATION);
-    zoned_result(earlier(moment, duration, &zone))
+    zoned_result(earlier(moment, duration, zone))
 }
 
 /// Adds a period to a moment in a zone. Its years and months move the date, then its weeks and
@@ -187,23 +197,29 @@ pub extern "C" fn fots_zoned_add_period(
     period: PeriodParts,
     policy: u32,
 ) -> MomentResult
-    ensures { IsForZone zone.now (λ z.
-        need IsMoment moment else result ≡ moment_error INVALID_MOMENT then
-        need IsInZone z moment else result ≡ moment_error WRONG_OFFSET then
-        need IsPeriod period else result ≡ moment_error INVALID_PERIOD then
-        need IsPolicy policy else result ≡ moment_error INVALID_POLICY then
-        (p : Policy) × (policy_number p ≡ policy)
-        × IsZonedWith (IsPeriodLater p (zoned_in z moment) (parts_in period)) result)
+    ensures { IsForZone zone.now (λ z. IsPeriodLaterResult z moment period policy result)
         (result ≡ moment_error INVALID_ZONE) }
 {
     let zone = or_error!(MomentResult, zone.unchecked(), INVALID_ZONE);
+    add_period(&zone, moment, period, policy)
+}
+
+/// Adds a period to a moment in a zone.
+fn add_period(
+    zone: &UncheckedZone<'_>,
+    moment: Moment,
+    period: PeriodParts,
+    policy: u32,
+) -> MomentResult
+    ensures { InOrder zone.now → IsPeriodLaterResult zone.now moment period policy result }
+{
     let moment = or_error!(MomentResult, valid_moment(moment), INVALID_MOMENT);
-    if !is_in_zone(&zone, moment) {
+    if !is_in_zone(zone, moment) {
         return MomentResult::error(WRONG_OFFSET);
     }
     let period = or_error!(MomentResult, valid_period(period), INVALID_PERIOD);
     let policy = or_error!(MomentResult, valid_policy(policy), INVALID_POLICY);
-    zoned_result(period_later(moment, period, &zone, policy))
+    zoned_result(period_later(moment, period, zone, policy))
 }
 
 /// Returns the first instant at which the clocks of a zone have reached a date. Where they skip
@@ -211,14 +227,19 @@ pub extern "C" fn fots_zoned_add_period(
 /// Fails if what the clocks show then is out of range. In Toronto 1919-03-31 starts at 0:30 -04:00.
 #[unsafe(no_mangle)]
 pub extern "C" fn fots_zoned_start_of_day(zone: &CheckedZone<'_>, date: i32) -> MomentResult
-    ensures { IsForZone zone.now (λ z.
-        need IsJulianDay date else result ≡ moment_error INVALID_DATE then
-        IsStartResult z (date_time (day_of date) 0) result)
+    ensures { IsForZone zone.now (λ z. IsStartOfDate z date result)
         (result ≡ moment_error INVALID_ZONE) }
 {
     let zone = or_error!(MomentResult, zone.unchecked(), INVALID_ZONE);
+    start(&zone, date)
+}
+
+/// Returns the start of a date in a zone.
+fn start(zone: &UncheckedZone<'_>, date: i32) -> MomentResult
+    ensures { InOrder zone.now → IsStartOfDate zone.now date result }
+{
     let date = or_error!(MomentResult, valid_date(date), INVALID_DATE);
-    let start = or_error!(MomentResult, day_start(date, &zone), RESULT_OUT_OF_RANGE);
+    let start = or_error!(MomentResult, day_start(date, zone), RESULT_OUT_OF_RANGE);
     MomentResult::ok(start)
 }
 
@@ -226,12 +247,17 @@ pub extern "C" fn fots_zoned_start_of_day(zone: &CheckedZone<'_>, date: i32) -> 
 /// of the two is out of range. In Berlin it is 23 hours for 2024-03-31.
 #[unsafe(no_mangle)]
 pub extern "C" fn fots_zoned_day_length(zone: &CheckedZone<'_>, date: i32) -> DurationResult
-    ensures { IsForZone zone.now (λ z.
-        need IsJulianDay date else result ≡ duration_error INVALID_DATE then
-        IsDayLengthResult z (day_of date) result)
+    ensures { IsForZone zone.now (λ z. IsLengthOfDate z date result)
         (result ≡ duration_error INVALID_ZONE) }
 {
     let zone = or_error!(DurationResult, zone.unchecked(), INVALID_ZONE);
+    length(&zone, date)
+}
+
+/// Returns the length of a day in a zone.
+fn length(zone: &UncheckedZone<'_>, date: i32) -> DurationResult
+    ensures { InOrder zone.now → IsLengthOfDate zone.now date result }
+{
     let date = or_error!(DurationResult, valid_date(date), INVALID_DATE);
-    DurationResult::from_option(day_length(date, &zone))
+    DurationResult::from_option(day_length(date, zone))
 }
