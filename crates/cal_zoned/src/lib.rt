@@ -7,6 +7,7 @@ mod day;
 pub mod laws;
 mod period;
 mod until;
+pub mod unchecked;
 mod zoned_date_time;
 
 pub use day::start_of_day;

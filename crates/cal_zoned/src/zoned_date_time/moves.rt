@@ -152,7 +152,7 @@ impl<'z> ZonedDateTime<'z> {
 }
 
 /// Returns `true` if a period has no years, months, weeks and days.
-fn is_exact(period: Period) -> bool
+pub(crate) fn is_exact(period: Period) -> bool
     ensures { IsTrue result ↔ IsExact period }
 {
     period.whole_months() == 0 && period.whole_days() == 0
