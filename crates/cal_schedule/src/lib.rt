@@ -29,5 +29,5 @@ pub use period_moves::{checked_add_period, date_after, nth_date, nth_period};
 pub use rule::{ByDay, Frequency, Pattern, PeriodUnit, Rule, RuleDays, Values};
 pub use until::{months_until, period_until, years_until};
 pub use weekdays::{last_weekday_of_month, nth_weekday_of_month, on_or_after, on_or_before};
-pub use workdays::{Convention, Workdays};
+pub use workdays::{Convention, WeekdayMarks, Workdays};
 pub use year_fraction::{DayCount, YearFraction, day_count};
