@@ -8,6 +8,7 @@
 
 mod edits;
 mod fault;
+mod in_place;
 mod items;
 mod lexer;
 mod operand;
