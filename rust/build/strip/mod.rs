@@ -8,7 +8,6 @@
 
 mod edits;
 mod fault;
-mod in_place;
 mod items;
 mod lexer;
 mod operand;

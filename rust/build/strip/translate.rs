@@ -1,6 +1,5 @@
 use super::edits::Edits;
 use super::fault::Fault;
-use super::in_place::returned_text;
 use super::items::{Item, Items, Kind};
 use super::lexer::{Token, TokenKind, tokens};
 use super::operand::operand;
@@ -100,7 +99,6 @@ pub fn translated(source: &Source, options: &Options) -> Result<String, Fault> {
             edits.comment_out(source.bytes(&item.all));
         } else {
             trait_method(source, item, &mut edits)?;
-            returned_text(source, item, &mut edits);
         }
     }
     if let Some(more) = options.more {

@@ -7,9 +7,6 @@ use std::path::{Path, PathBuf};
 /// The module of the casts that [`translated`] writes.
 const SIGNS: &str = include_str!("signs.rs");
 
-/// The module that makes values in their places.
-const MADE: &str = include_str!("made.rs");
-
 /// Writes the crates of a folder as Rust: the files of each into a folder of its name, and a file
 /// `library.rs` that declares all of them as modules. Returns the number of files.
 ///
@@ -17,7 +14,7 @@ const MADE: &str = include_str!("made.rs");
 ///
 /// Returns the first file that isn't understood, or can't be read or written.
 pub fn write_crates(folder: &Path, out: &Path, options: &Options) -> Result<usize, Fault> {
-    let mut library = format!("#[allow(unused)]\npub(crate) mod signs {{\n{SIGNS}}}\n#[allow(unused, unsafe_code)]\npub(crate) mod in_place {{\n{MADE}}}\n");
+    let mut library = format!("#[allow(unused)]\npub(crate) mod signs {{\n{SIGNS}}}\n");
     let mut count = 0;
     for krate in options.crates {
         let source = folder.join(krate).join("src");
