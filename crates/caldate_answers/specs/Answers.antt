@@ -82,11 +82,15 @@ IsAt place from words = (m : LocalAndOffset) × IsShownAt (offset_in place from)
 abbrev pub IsOnMovedDay : WorkWeek → DayMove → DateOrMoment → List ℕ → Type 0
 IsOnMovedDay workdays by found words = (n : ℕ) × MovesTo workdays by (day_of found) n × IsInForm (form_read found) (on_day (moment_of found) n) words
 
+-- The words are the date or moment after adding a duration, in the form that was read.
+abbrev pub IsAnswerLater : ℤ → DateOrMoment → List ℕ → Type 0
+IsAnswerLater d found words = (m : LocalAndOffset) × IsLater found d m × IsInForm (form_read found) m words
+
 -- The words are the moved date or moment in the form that was read. A moment keeps its offset.
 abbrev pub IsMoved : WorkWeek → AnyMove → DateOrMoment → List ℕ → Type 0
 IsMoved workdays (move.Day by) found words = IsOnMovedDay workdays by found words
-IsMoved workdays (move.Days d) found words = (m : LocalAndOffset) × IsLater found d m × IsInForm (form_read found) m words
-IsMoved workdays (move.Add d) found words = (m : LocalAndOffset) × IsLater found d m × IsInForm (form_read found) m words
+IsMoved workdays (move.Days d) found words = IsAnswerLater d found words
+IsMoved workdays (move.Add d) found words = IsAnswerLater d found words
 IsMoved workdays (move.Floor n) found words = IsInForm (form_read found) (floored n (moment_of found)) words
 
 -- The words are the moment in a form, moved by the clocks of a zone.

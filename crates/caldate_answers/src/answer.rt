@@ -5,7 +5,7 @@ ghost use Rattle.cal_datetime.specs.OffsetDateTime.{LocalAndOffset};
 ghost use Rattle.cal_text.specs.declared.any.DateOrMoment.{DateOrMoment};
 ghost use Rattle.caldate_lines.specs.Room.{HasRoom, longest_answer};
 ghost use Rattle.caldate_lines.specs.declared.no_answer.NoAnswer.{NoAnswer};
-ghost use Rattle.caldate_answers.specs.Answers.{IsAnswer, IsAnswerTo, IsAt, IsBetween, IsBetweenBy, IsDayLater, IsLater, IsMomentLater, IsMoved, IsMovedAt, IsMovedBy, IsNotRead, IsOnMovedDay, IsReadAs, compares, floored, form_read, is_date, keeps, moment_of, offset_in, on_day, until_text};
+ghost use Rattle.caldate_answers.specs.Answers.{IsAnswer, IsAnswerLater, IsAnswerTo, IsAt, IsBetween, IsBetweenBy, IsDayLater, IsLater, IsMomentLater, IsMoved, IsMovedAt, IsMovedBy, IsNotRead, IsOnMovedDay, IsReadAs, compares, floored, form_read, is_date, keeps, moment_of, offset_in, on_day, until_text};
 ghost use Rattle.caldate_answers.specs.Bounds.{lies_in};
 ghost use Rattle.caldate_answers.specs.ClockCounts.{IsCountOn};
 ghost use Rattle.caldate_answers.specs.Forms.{IsInForm, format_text};
@@ -230,7 +230,7 @@ fn push_answer_to(
             push_printed(buffer, format, moment_of(found));
             true
         }
-        Request::Move(by) => push_moved_by(buffer, clock, workdays, *by, found),
+        Request::Move(by) => push_moved_by(buffer, clock, workdays, by, found),
         Request::MoveAt(clock, by) => {
             let form = Form::Moment(MomentForm::Rfc3339);
             push_moved_at(buffer, clock, workdays, *by, form, moment_of(found))
@@ -395,19 +395,19 @@ fn push_moved_by(
     buffer: &mut Buffer,
     clock: &Option<Clock<'_>>,
     workdays: &Workdays<'_>,
-    by: Move,
+    by: &Move,
     found: &DateOrMoment,
 ) -> bool
     requires { HasRoom longest_answer buffer.old }
-    ensures has { result ≡ true → AppendsSome (IsMovedBy clock.now workdays.now by found.now)
+    ensures has { result ≡ true → AppendsSome (IsMovedBy clock.now workdays.now by.now found.now)
         buffer.old buffer.new }
     ensures none { result ≡ false → (buffer.new ≡ buffer.old)
-        × ((words : List ℕ) → ¬ IsMovedBy clock.now workdays.now by found.now words) }
+        × ((words : List ℕ) → ¬ IsMovedBy clock.now workdays.now by.now found.now words) }
     ensures short { length buffer.new ≤ length buffer.old + longest_answer }
 {
     match (clock, found) {
         (Some(clock), DateOrMoment::Moment(form, moment)) => {
-            push_moved_at(buffer, clock, workdays, by, Form::Moment(*form), *moment)
+            push_moved_at(buffer, clock, workdays, *by, Form::Moment(*form), *moment)
         }
         _ => push_moved(buffer, workdays, by, found),
     }
@@ -439,24 +439,38 @@ fn push_moved_at(
 
 /// Appends the moved date or moment by no clock, or nothing. Returns whether there is one.
 #[inline(always)]
-fn push_moved(buffer: &mut Buffer, workdays: &Workdays<'_>, by: Move, found: &DateOrMoment) -> bool
+fn push_moved(buffer: &mut Buffer, workdays: &Workdays<'_>, by: &Move, found: &DateOrMoment) -> bool
     requires { HasRoom longest_answer buffer.old }
-    ensures has { result ≡ true → AppendsSome (IsMoved workdays.now by found.now)
+    ensures has { result ≡ true → AppendsSome (IsMoved workdays.now by.now found.now)
         buffer.old buffer.new }
     ensures none { result ≡ false → (buffer.new ≡ buffer.old)
-        × ((words : List ℕ) → ¬ IsMoved workdays.now by found.now words) }
+        × ((words : List ℕ) → ¬ IsMoved workdays.now by.now found.now words) }
     ensures short { length buffer.new ≤ length buffer.old + longest_answer }
 {
     match by {
-        Move::Day(by) => push_on_moved_day(buffer, workdays, by, found),
-        Move::Days(duration) | Move::Add(duration) => match later(found, duration) {
-            Some(later) => push_in_form(buffer, form_read(found), later),
-            None => false,
-        },
+        Move::Day(by) => push_on_moved_day(buffer, workdays, *by, found),
+        Move::Days(duration) => push_later(buffer, *duration, found),
+        Move::Add(duration) => push_later(buffer, *duration, found),
         Move::Floor(minutes) => {
-            let floor = floored(minutes, moment_of(found));
+            let floor = floored(*minutes, moment_of(found));
             push_in_form(buffer, form_read(found), floor)
         }
+    }
+}
+
+/// Appends the date or moment after adding a duration, or nothing. Returns whether there is one.
+#[inline(always)]
+fn push_later(buffer: &mut Buffer, duration: SignedDuration, found: &DateOrMoment) -> bool
+    requires { HasRoom longest_answer buffer.old }
+    ensures has { result ≡ true → AppendsSome (IsAnswerLater duration found.now)
+        buffer.old buffer.new }
+    ensures none { result ≡ false → (buffer.new ≡ buffer.old)
+        × ((words : List ℕ) → ¬ IsAnswerLater duration found.now words) }
+    ensures short { length buffer.new ≤ length buffer.old + longest_answer }
+{
+    match later(found, duration) {
+        Some(later) => push_in_form(buffer, form_read(found), later),
+        None => false,
     }
 }
 

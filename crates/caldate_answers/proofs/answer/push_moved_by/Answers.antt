@@ -5,7 +5,7 @@ use Rattle.caldate_answers.proofs.answer.push_moved_by.Goals as goal
 pub returns-in-Some-Moment-clause-none : goal.returns-in-Some-Moment-clause-none
 returns-in-Some-Moment-clause-none c = λ no.
     let workdays = c.args.workdays.now in
-    let by = c.args.by in
+    let by = c.args.by.now in
     let none = c.push_moved_at.ensures.none no in (
       none.0,
       λ words h.
