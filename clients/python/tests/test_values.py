@@ -1009,7 +1009,7 @@ class Statuses(Cases):
         header = (pathlib.Path(__file__).resolve().parents[3] / "include/fotsevindre.h").read_text(encoding="utf-8")
         names = dict(re.findall(r"    FOTS_(\w+) = (\d+)", header.split("enum fots_status {")[1].split("};")[0]))
         texts = [messages[int(number)] for name, number in names.items() if number != "0"]
-        self.assertEqual((len(texts), len(set(texts))), (67, 67))
+        self.assertEqual((len(texts), len(set(texts))), (70, 70))
         self.assertTrue(all(len(text.split()) >= 4 for text in texts), texts)
 
 
