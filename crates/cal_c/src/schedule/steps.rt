@@ -38,6 +38,10 @@ fn step_result(start: Date, period: Period, date: Date) -> NumberResult
         else result ≡ number_error RESULT_OUT_OF_RANGE then
         IsNumberWith (IsGreatestStep start date period) result }
 {
-    let step = or_error!(NumberResult, step_of(start, period, date), RESULT_OUT_OF_RANGE);
+    let step = or_error!(
+        NumberResult,
+        step_of(start, period, date),
+        RESULT_OUT_OF_RANGE
+    );
     NumberResult::ok(step)
 }
