@@ -24,7 +24,6 @@ const CRATES: [&str; 14] = [
     "cal_tzif",
     "cal_zoned",
     "cal_recurrence",
-    "cal_zoned",
     "cal_c",
 ];
 

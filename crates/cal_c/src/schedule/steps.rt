@@ -10,7 +10,8 @@ use crate::results::NumberResult;
 use crate::schedule::periods::{PeriodParts, valid_period};
 use crate::status::{INVALID_DATE, INVALID_PERIOD, RESULT_OUT_OF_RANGE};
 use crate::values::valid_date;
-use cal_schedule::step_of;
+use cal_schedule::{Period, step_of};
+use cal_time::Date;
 
 /// Returns the step that a date is in, if a period is repeated from a start: the greatest `n` for
 /// which `fots_date_nth_period` isn't after the date. Fails if the date is before the start, and if
@@ -28,6 +29,19 @@ pub extern "C" fn fots_date_step_of(start: i32, period: PeriodParts, date: i32) 
     let start = or_error!(NumberResult, valid_date(start), INVALID_DATE);
     let period = or_error!(NumberResult, valid_period(period), INVALID_PERIOD);
     let date = or_error!(NumberResult, valid_date(date), INVALID_DATE);
-    let step = or_error!(NumberResult, step_of(start, period, date), RESULT_OUT_OF_RANGE);
+    step_result(start, period, date)
+}
+
+/// Returns the result of the step that a date is in.
+fn step_result(start: Date, period: Period, date: Date) -> NumberResult
+    ensures { need (start ≤ date) × IsRepeated period
+        else result ≡ number_error RESULT_OUT_OF_RANGE then
+        IsNumberWith (IsGreatestStep start date period) result }
+{
+    let step = or_error!(
+        NumberResult,
+        step_of(start, period, date),
+        RESULT_OUT_OF_RANGE
+    );
     NumberResult::ok(step)
 }

@@ -13,7 +13,8 @@ use crate::schedule::results::PeriodResult;
 use crate::schedule::units::valid_unit;
 use crate::status::{INVALID_DATE, INVALID_UNIT};
 use crate::values::valid_date;
-use cal_schedule::{months_until, period_until, period_until_by, years_until};
+use cal_schedule::{CalendarUnit, months_until, period_until, period_until_by, years_until};
+use cal_time::Date;
 
 /// Returns the whole months from `date` to `other`, truncated toward zero: as many as possible
 /// without passing `other`. From 2451575, 2000-01-31, to 2451604, 2000-02-29, it is 1.
@@ -87,5 +88,12 @@ pub extern "C" fn fots_date_period_until_by(date: i32, other: i32, unit: u32) ->
     let date = or_error!(PeriodResult, valid_date(date), INVALID_DATE);
     let other = or_error!(PeriodResult, valid_date(other), INVALID_DATE);
     let unit = or_error!(PeriodResult, valid_unit(unit), INVALID_UNIT);
+    period_by_unit(date, other, unit)
+}
+
+/// Returns the result of a period by a unit.
+fn period_by_unit(date: Date, other: Date, unit: CalendarUnit) -> PeriodResult
+    ensures { IsPeriodWith (IsUntilBy unit date other) result }
+{
     PeriodResult::ok(period_until_by(date, other, unit))
 }
