@@ -12,8 +12,9 @@ use Rattle.cal_text.proofs.Positions.{one_position}
 use Rattle.cal_datetime.specs.OffsetDateTime.{LocalAndOffset}
 use Rattle.cal_text.specs.declared.any.DateOrMoment.TheVariants.{Date, Moment}
 use Rattle.cal_text.specs.declared.any.MomentForm.{MomentForm}
-use Rattle.cal_zone.specs.declared.local.Local.{Local}
-use Rattle.cal_zone.specs.declared.local.Local.TheVariants.{Single, Gap, Fold}
+use Rattle.cal_zone.specs.Policy.{moment_by}
+use Rattle.cal_zone.specs.declared.local_time_error.LocalTimeError.{LocalTimeError}
+use Rattle.cal_zone.specs.declared.local_time_error.LocalTimeError.TheVariants.{Skipped, Repeated, OutOfRange as PastRange}
 use Rattle.caldate_run.specs.Answers.{IsAnswer, IsNotRead}
 use Rattle.caldate_run.specs.Clocks.{IsPlaced, placed_as}
 use Rattle.caldate_run.specs.Readers.{IsUnreadIn, first_named}
@@ -68,13 +69,13 @@ no_none text (Some reading) h = h
 no_none_placed : (clock : Option Clock) (found : DateOrMoment) → IsPlaced clock found (Err why.None) → ⊥
 no_none_placed None found h = cc
 no_none_placed (Some clock) (Date form n) h = cc
-no_none_placed (Some clock) (Moment form m) h = not_placed form h.local h.taken h.placed
+no_none_placed (Some clock) (Moment form m) h = not_placed form (moment_by clock.policy h.local) h.placed
   where
-    not_placed : (form : MomentForm) (local : Local) (taken : Option LocalAndOffset) → Err why.None ≡ placed_as form local taken → ⊥
-    not_placed form local (Some m) e = cc
-    not_placed form (Single m) None e = cc
-    not_placed form (Gap g) None e = cc
-    not_placed form (Fold a b) None e = cc
+    not_placed : (form : MomentForm) (taken : Result LocalAndOffset LocalTimeError) → Err why.None ≡ placed_as form taken → ⊥
+    not_placed form (Ok m) e = cc
+    not_placed form (Err Repeated) e = cc
+    not_placed form (Err Skipped) e = cc
+    not_placed form (Err PastRange) e = cc
 
 no_none_read : (filter : Filter) (text : List ℕ) → IsNotRead filter text why.None → ⊥
 no_none_read filter text (inl h) = no_none text (first_named filter.assumptions filter.readers) h.why_is

@@ -39,7 +39,7 @@ use crate::field_name::FieldName;
 use crate::field_names::MAX_FIELDS;
 use crate::on_invalid::OnInvalid;
 use crate::request::{
-    Clock, Command, DayMove, Field, FieldNumbers, Filter, Place, Policy, Request, TimeUnit,
+    Clock, Command, DayMove, Field, FieldNumbers, Filter, Place, Request, TimeUnit,
 };
 use crate::run::lines::next_line;
 use crate::run::quoting::Quoting;
@@ -48,7 +48,7 @@ use crate::zones::is_zone_like;
 use cal_datetime::{OffsetDateTime, PlainDateTime};
 use cal_schedule::Workdays;
 use cal_time::{SignedDuration, Weekday};
-use cal_zone::Zone;
+use cal_zone::{Policy, Zone};
 
 /// Parses arguments with zero bytes between them, or `None` if they are too long.
 pub fn asked_by<'a, D: DataFiles<'a>>(

@@ -16,7 +16,7 @@ use cal_recurrence::Recurrence;
 use cal_schedule::Workdays;
 use cal_text::{DateForm, DateOrMoment, MomentForm};
 use cal_time::{Date, SignedDuration, UtcOffset, Weekday};
-use cal_zone::Zone;
+use cal_zone::{Policy, Zone};
 
 /// A form in which a date or a moment is written.
 #[derive(Clone, Copy)]
@@ -112,19 +112,6 @@ pub enum Place<'a> {
     Offset(UtcOffset),
     /// One in this time zone.
     Zone(Zone<'a>),
-}
-
-/// A policy of Temporal: a way to choose one moment if clocks skip a local time or show it twice.
-#[derive(Clone, Copy)]
-pub enum Policy {
-    /// The time moved forward by what the clocks skip, or the first of two.
-    Compatible,
-    /// The time moved back by what the clocks skip, or the first of two.
-    Earlier,
-    /// The time moved forward by what the clocks skip, or the second of two.
-    Later,
-    /// No moment.
-    Reject,
 }
 
 /// The clocks of a zone, which give a local time its moment.

@@ -3,8 +3,9 @@
 use crate::on_invalid::OnInvalid;
 use crate::reading::DateOrder;
 use crate::reading::spelling::Spelling;
-use crate::request::{Form, Period, Policy, TimeUnit, UnixUnit};
+use crate::request::{Form, Period, TimeUnit, UnixUnit};
 use cal_text::{DateForm, MomentForm};
+use cal_zone::Policy;
 
 /// A form of `--read` that has a name.
 #[derive(Clone, Copy)]

@@ -16,12 +16,12 @@ use crate::reading::reader::{Assumptions, Reader};
 use crate::reading::spelling::Spelling;
 use crate::reading::value_format::ValueFormat;
 use crate::reading::{Readers, Reading};
-use crate::request::{Field, FieldNumbers, Policy};
+use crate::request::{Field, FieldNumbers};
 use crate::run::lines::index_of;
 use crate::several_fields::{RankedField, SeveralFields};
 use cal_schedule::Workdays;
 use cal_time::UtcOffset;
-use cal_zone::Zone;
+use cal_zone::{Policy, Zone};
 
 /// A set of options before a request.
 #[derive(Drop)]
