@@ -22,6 +22,7 @@ pub mod HolidayLines
 pub mod Outputs
 pub mod Steps
 pub mod Advances
+pub mod Outside
 pub mod OneCount
 pub mod OneAnswer
 pub mod Others
