@@ -5,7 +5,8 @@ use Rattle.std.proofs.lemmas.Bool.{cases_lt, false≢true, le-ltb, lt-ltb}
 use Rattle.std.proofs.lemmas.List.{take_rest}
 use Rattle.cal_text.specs.declared.any.DateOrMoment.{DateOrMoment}
 use Rattle.caldate_run.specs.Answers.{IsNotRead, IsReadAs}
-use Rattle.caldate_run.specs.Scans.{IsFirstText, IsReadWith, IsText, IsTextAt, NoneFrom, fitted, has_form, is_of_word, may_begin, part_at, with_words}
+use Rattle.caldate_run.specs.Readers.{has_form}
+use Rattle.caldate_run.specs.Scans.{IsFirstText, IsReadWith, IsText, IsTextAt, NoneFrom, fitted, is_of_word, may_begin, part_at, with_words}
 use Rattle.caldate_run.specs.declared.request.Filter.{Filter}
 use Rattle.caldate_run.specs.declared.run.no_answer.NoAnswer.{NoAnswer}
 use Rattle.caldate_run.specs.declared.run.no_answer.NoAnswer.TheVariants as why

@@ -4,6 +4,7 @@ use Rattle.cal_text.specs.Position.{Begins}
 use Rattle.cal_text.specs.declared.any.DateOrMoment.{DateOrMoment}
 use Rattle.caldate_run.specs.Answers.{Answer, IsAnswer, IsNotRead, IsReadAs, keeps}
 use Rattle.caldate_run.specs.Offsets.{is_digit}
+use Rattle.caldate_run.specs.Readers.{has_form}
 use Rattle.caldate_run.specs.Room.{longest_text}
 use Rattle.caldate_run.specs.Spellings.{is_sign}
 use Rattle.caldate_run.specs.Zones.{is_letter}
@@ -14,12 +15,6 @@ use Rattle.caldate_run.specs.declared.run.no_answer.NoAnswer.TheVariants as why
 use Rattle.caldate_run.specs.declared.scan.found_text.FoundText.{FoundText}
 
 -- ---- the texts of a line
--- Bytes without an answer for this reason have one of the forms.
-abbrev pub has_form : NoAnswer → Bool
-has_form why.NoForm = false
-has_form (why.Unreadable at) = false
-has_form other = true
-
 -- The bytes have one of the forms, perhaps with a component out of range.
 abbrev pub IsText : Filter → List ℕ → Type 0
 IsText filter bytes =

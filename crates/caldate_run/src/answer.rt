@@ -33,7 +33,7 @@ use crate::answer::texts::{
 use crate::args::bounds::{is_comparable, lies_in};
 use crate::output::buffer::Buffer;
 use crate::reading::reader::Reader;
-use crate::reading::{Reading, read, read_in, reason_of};
+use crate::reading::{Reading, first_reason, read, read_in, reason_of};
 use crate::request::{Bounds, DayMove, Filter, Form, Place, Request, Target, TimeUnit};
 use crate::run::no_answer::NoAnswer;
 use cal_datetime::OffsetDateTime;
@@ -124,7 +124,7 @@ fn push_by_others(
     let others = &filter.readers.as_slice()[1..];
     match read(others, &filter.assumptions, text) {
         Ok(found) => push_found(buffer, filter, text, &found),
-        Err(_) => Err(why),
+        Err(later) => Err(first_reason(why, later)),
     }
 }
 

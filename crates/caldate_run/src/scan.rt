@@ -1,7 +1,7 @@
 //! The texts in a line that have a form.
 ghost use Rattle.std.specs.Prelude.{◌≡◌, ℕ, ◌+◌, ◌<◌, ◌≤◌, IfSome, MatchOption, false, length, slice_index, take, true};
 ghost use Rattle.caldate_run.specs.Offsets.{is_digit};
-ghost use Rattle.caldate_run.specs.Scans.{HasNoText, IsFirstText, IsLongestText, IsReadWith, IsText, IsTextAt, NoneFrom, AreUsual, StartWithDigits, byte_before, has_form, is_of_word, may_begin, part_at};
+ghost use Rattle.caldate_run.specs.Scans.{HasNoText, IsFirstText, IsLongestText, IsReadWith, IsText, IsTextAt, NoneFrom, AreUsual, StartWithDigits, byte_before, is_of_word, may_begin, part_at};
 
 pub(crate) mod bound;
 pub(crate) mod digit_bound;
@@ -11,6 +11,7 @@ pub(crate) mod push;
 pub(crate) mod start;
 
 use crate::answer::read_with;
+use crate::reading::has_form;
 use crate::request::Filter;
 use crate::run::no_answer::NoAnswer;
 use crate::scan::bound::bound_of;
@@ -138,16 +139,6 @@ fn read_text(filter: &Filter<'_>, bytes: &[u8]) -> Option<Result<DateOrMoment, N
     match read_with(filter, bytes) {
         Ok(found) => Some(Ok(found)),
         Err(why) => { if has_form(why) { Some(Err(why)) } else { None } }
-    }
-}
-
-/// Returns whether bytes without an answer for this reason have one of the forms.
-fn has_form(why: NoAnswer) -> bool
-    ensures { result ≡ has_form why }
-{
-    match why {
-        NoAnswer::NoForm | NoAnswer::Unreadable(_) => false,
-        _ => true,
     }
 }
 
