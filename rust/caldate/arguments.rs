@@ -14,7 +14,7 @@ use cal_datetime::{OffsetDateTime, PlainDateTime};
 use cal_format::Format;
 use cal_text::DateOrMoment;
 use cal_time::{Date, Month, Time, UtcOffset};
-use cal_zone::Zone;
+use cal_zone::{Policy, Zone};
 use caldate_run::args::arguments::{MAX_BYTES, join};
 use caldate_run::args::asked_by;
 use caldate_run::data_files::system_files::SystemFiles;
