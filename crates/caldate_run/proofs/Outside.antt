@@ -76,9 +76,10 @@ back_to n t z date few h = record {
 pub months_within : (n t : ℕ) (z : ℤ) → IsDate n → IsDate t → (n ≤ t → IsGreatest (IsMonthsUpTo n t) z) → (t < n → IsLeast (IsMonthsBackTo n t) z)
     → (n ≤ t → pos 0 ≤ℤ z) → (t < n → z ≤ℤ pos 0) → AreMonths (n + 146097) (t + 146097) z
 unfolding AreMonths
-months_within n t z first last on back some few =
-    (λ h. let at : n ≤ t = omega (arith, h) in up_shift n t z (some at) (up_to n t z last (on at)),
-    λ h. let at : t < n = omega (arith, h) in back_shift n t z (back_to n t z first (few at) (back at)))
+months_within n t z first last on back some few = (
+  λ h. let at : n ≤ t = omega (arith, h) in up_shift n t z (some at) (up_to n t z last (on at)),
+  λ h. let at : t < n = omega (arith, h) in back_shift n t z (back_to n t z first (few at) (back at)),
+)
 
 -- ---- a new year, on whose first day b a December has passed since its first day p
 record IsNewYear (p b : ℕ) (y : ℤ) : Type 0 where
@@ -114,8 +115,8 @@ greatest_past p b y new a i m low most e = (
   λ late. record {
     holds = (p + (d - 1), in_month a p 12 (y -ℤ pos 1) (m -ℤ pos 1) new.december (in_december (y -ℤ pos 1)) most (omega (arith, ints, e)), omega (arith, new.passed, most));
     greatest = λ k at. by_lt_z k m (λ less. omega (arith, ints, less)) (λ least.
-    let same : k ≡ m = omega (arith, ints, least, e, number, month_numbers-rise at.0 (b + i) at.2, at.1.month) in
-    absurd (omega (arith, late, at.2, one_later a at.0 (b + (d - 1)) m (subst (λ z. IsMonthsLater a z at.0) same at.1) january)));
+        let same : k ≡ m = omega (arith, ints, least, e, number, month_numbers-rise at.0 (b + i) at.2, at.1.month) in
+        absurd (omega (arith, late, at.2, one_later a at.0 (b + (d - 1)) m (subst (λ z. IsMonthsLater a z at.0) same at.1) january)));
   },
 )
   where
@@ -138,8 +139,8 @@ least_past p b y new a i m low most e = (
   λ early. record {
     holds = (b + (d - 1), in_month a b 1 y (m +ℤ pos 1) new.january (in_january y) most (omega (arith, ints, e)), omega (arith, new.passed, low));
     least = λ k at. by_lt_z m k (λ more. omega (arith, ints, more)) (λ least.
-    let same : k ≡ m = omega (arith, ints, least, e, number, month_numbers-rise (p + i) at.0 at.2, at.1.month) in
-    absurd (omega (arith, early, at.2, (day_of_month_at-range a).0, one_later a at.0 (p + (d - 1)) m (subst (λ z. IsMonthsLater a z at.0) same at.1) december)));
+        let same : k ≡ m = omega (arith, ints, least, e, number, month_numbers-rise (p + i) at.0 at.2, at.1.month) in
+        absurd (omega (arith, early, at.2, (day_of_month_at-range a).0, one_later a at.0 (p + (d - 1)) m (subst (λ z. IsMonthsLater a z at.0) same at.1) december)));
   },
 )
   where

@@ -79,10 +79,18 @@ fn months_past(from: Date, past: i64) -> i64
     let (number, day) = from.month_number_and_day();
     if past > 0 {
         let months = MONTHS_IN_RANGE - i64::from(number);
-        if i64::from(day) <= past { months } else { months - 1 }
+        if i64::from(day) <= past {
+            months
+        } else {
+            months - 1
+        }
     } else {
         let months = -1 - i64::from(number);
-        if 32 + past <= i64::from(day) { months } else { months + 1 }
+        if 32 + past <= i64::from(day) {
+            months
+        } else {
+            months + 1
+        }
     }
 }
 

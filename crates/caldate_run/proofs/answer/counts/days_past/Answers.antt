@@ -21,8 +21,11 @@ bounds c =
 -- the days are few, so that no sum wraps
 days : (c : goal.After-whole_days) → to_z w64 (of_z w64 (to_z w64 (of_z w64 c.from.result) -ℤ to_z w64 (of_z w64 c.from-2.result))) ≡ pos c.args.last -ℤ pos (date_at c.args.from.local)
 days c =
-    first_of (omega (arith, ints, c.from.ensures, c.from-2.ensures, c.to_julian_day.ensures.value, c.to_julian_day-2.ensures.value, c.date.ensures.value, c.to_julian_day.ensures.in_range, c.to_julian_day-2.ensures.in_range),
-    grind (arith, ints, common_steps), search rules)
+    first_of (
+      omega (arith, ints, c.from.ensures, c.from-2.ensures, c.to_julian_day.ensures.value, c.to_julian_day-2.ensures.value, c.date.ensures.value, c.to_julian_day.ensures.in_range, c.to_julian_day-2.ensures.in_range),
+      grind (arith, ints, common_steps),
+      search rules,
+    )
 
 same : (c : goal.After-whole_days) → to_z w64 (of_z w64 c.whole_days.result) -ℤ to_z w64 (of_z w64 (to_z w64 (of_z w64 c.from.result) -ℤ to_z w64 (of_z w64 c.from-2.result))) ≡ past c
 same c =
