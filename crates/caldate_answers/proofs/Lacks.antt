@@ -1,8 +1,10 @@
 -- A text that a form doesn't read, by what its parser says of it.
-use Rattle.std.proofs.Common.{◌≡◌, ℕ, List, Option, Some, None, Result, Ok, Err, ap, inl, inr, refl, sym}
-use Rattle.std.specs.Prelude.{◌↔◌, IfErr, MatchOption}
+use Rattle.std.proofs.Common.{◌≡◌, ◌⊎◌, ◌∙◌, ℕ, Bool, true, false, List, [], ◌∷◌, Option, Some, None, Result, Ok, Err, ap, inl, inr, refl, subst, sym}
+use Rattle.std.specs.Prelude.{◌↔◌, IfErr, IfSome, IsSomeAnd, ok_or, if◌then◌else◌}
+use Rattle.caldate_answers.specs.Spellings.{full_by}
 use Rattle.std.proofs.lemmas.Option.{none-some, same_Some}
 use Rattle.cal_time.specs.declared.error.ComponentRange.{ComponentRange}
+use Rattle.cal_text.specs.AnyForm.{IsDateOrMomentError}
 use Rattle.cal_text.specs.Position.{IsErrorAtStop}
 use Rattle.cal_text.specs.Parsing.{FailsWithComponent, FailsWithSyntax}
 use Rattle.cal_text.specs.declared.any.DateOrMoment.{DateOrMoment}
@@ -12,16 +14,21 @@ use Rattle.cal_text.proofs.Positions.{one_position}
 use Rattle.cal_datetime.specs.OffsetDateTime.{LocalAndOffset}
 use Rattle.cal_text.specs.declared.any.DateOrMoment.TheVariants.{Date, Moment}
 use Rattle.cal_text.specs.declared.any.MomentForm.{MomentForm}
-use Rattle.cal_zone.specs.declared.local.Local.{Local}
-use Rattle.cal_zone.specs.declared.local.Local.TheVariants.{Single, Gap, Fold}
-use Rattle.caldate_lines.specs.Reasons.{reason_of}
-use Rattle.caldate_lines.specs.declared.no_answer.NoAnswer.{NoAnswer}
-use Rattle.caldate_lines.specs.declared.no_answer.NoAnswer.TheVariants as why
+use Rattle.cal_zone.specs.Policy.{moment_by}
+use Rattle.cal_zone.specs.declared.local_time_error.LocalTimeError.{LocalTimeError}
+use Rattle.cal_zone.specs.declared.local_time_error.LocalTimeError.TheVariants.{Skipped, Repeated, OutOfRange as PastRange}
 use Rattle.caldate_answers.specs.Answers.{IsAnswer, IsNotRead}
 use Rattle.caldate_answers.specs.Clocks.{IsPlaced, placed_as}
-use Rattle.caldate_answers.specs.Readers.{IsUnreadIn, first_named}
+use Rattle.caldate_answers.specs.Readers.{IsReason, IsSpellingError, IsUnreadBy, IsUnreadIn, IsUnspelled, first_reason, has_form}
 use Rattle.caldate_answers.specs.Readings.{HasFormIn, IsErrorIn}
+use Rattle.caldate_lines.specs.Reasons.{brief_reason_of, reason_of}
+use Rattle.caldate_lines.specs.declared.no_answer.NoAnswer.{NoAnswer}
+use Rattle.caldate_lines.specs.declared.no_answer.NoAnswer.TheVariants as why
 use Rattle.caldate_answers.specs.declared.reading.Reading.{Reading}
+use Rattle.caldate_answers.specs.declared.reading.reader.Assumptions.{Assumptions}
+use Rattle.caldate_answers.specs.declared.reading.reader.Reader.{Reader}
+use Rattle.caldate_answers.specs.declared.reading.reader.Reader.TheVariants.{Named, Local, Spelled, Format, Yearless}
+use Rattle.caldate_answers.specs.declared.reading.spelling.Spelling.{Spelling}
 use Rattle.caldate_answers.specs.declared.request.Clock.{Clock}
 use Rattle.caldate_answers.specs.declared.request.Filter.{Filter}
 
@@ -60,24 +67,79 @@ lacks_only reading text r why.NoForm form component stop h = absurd h
 lacks_only reading text r why.Skipped form component stop h = absurd h
 lacks_only reading text r why.Repeated form component stop h = absurd h
 
--- a text in none of the forms has no answer
-no_none : (text : List ℕ) (o : Option Reading) → MatchOption o (why.None ≡ why.NoForm) (λ reading. IsUnreadIn reading text why.None) → ⊥
-no_none text None h = cc
-no_none text (Some reading) h = h
+-- ---- a spelling gives no position
+abbrev failed : NoAnswer → Result DateOrMoment NoAnswer
+failed any = Err any
+
+abbrev Fails : List ℕ → ParseError → Type 0
+Fails full error = (why : ComponentRange) → FailsWithComponent {V = DateOrMoment} why (Err error) ↔ IsDateOrMomentError full why
+
+in_full : (s : Spelling) (text full : List ℕ) (e : ComponentRange) → full_by s text ≡ Some full → IsSpellingError s text e → IsDateOrMomentError full e
+in_full s text full e is h = subst (λ o. IsSomeAnd o (λ full. IsDateOrMomentError full e)) is h
+
+in_text : (s : Spelling) (text full : List ℕ) (e : ComponentRange) → full_by s text ≡ Some full → IsDateOrMomentError full e → IsSpellingError s text e
+in_text s text full e is h = subst (λ o. IsSomeAnd o (λ full. IsDateOrMomentError full e)) (sym is) h
+
+pub is_unspelled : (s : Spelling) (text full : List ℕ) (error : ParseError) → full_by s text ≡ Some full → Fails full error → IsUnspelled s text (brief_reason_of error)
+is_unspelled s text full (OutOfRange o) is fails = inl (o, in_text s text full o is ((fails o).0 refl), refl)
+is_unspelled s text full (UnexpectedByte p) is fails = inr (λ e h. none-some e ((fails e).1 (in_full s text full e is h)), refl)
+is_unspelled s text full (UnexpectedEnd p) is fails = inr (λ e h. none-some e ((fails e).1 (in_full s text full e is h)), refl)
+
+pub unspelled_only : (s : Spelling) (text full : List ℕ) (error : ParseError) (any : NoAnswer) → full_by s text ≡ Some full → Fails full error → IsUnspelled s text any
+    → Err (brief_reason_of error) ≡ failed any
+unspelled_only s text full (OutOfRange o) any is fails (inl h) = ap Err (ap why.Rejected (same_Some o h.0 ((fails h.0).1 (in_full s text full h.0 is h.1))) ∙ sym h.2)
+unspelled_only s text full (OutOfRange o) any is fails (inr h) = absurd (h.0 o (in_text s text full o is ((fails o).0 refl)))
+unspelled_only s text full (UnexpectedByte p) any is fails (inl h) = absurd (none-some h.0 ((fails h.0).1 (in_full s text full h.0 is h.1)))
+unspelled_only s text full (UnexpectedByte p) any is fails (inr h) = ap Err (sym h.1)
+unspelled_only s text full (UnexpectedEnd p) any is fails (inl h) = absurd (none-some h.0 ((fails h.0).1 (in_full s text full h.0 is h.1)))
+unspelled_only s text full (UnexpectedEnd p) any is fails (inr h) = ap Err (sym h.1)
+
+-- ---- a format gives no reason
+pub none_only : (IsText : DateOrMoment → Type 0) (o : Option DateOrMoment) (any : NoAnswer) → IfSome o IsText → ((found : DateOrMoment) → ¬ IsText found) → any ≡ why.NoForm
+    → ok_or o why.NoForm ≡ failed any
+none_only IsText None any has none e = ap Err (sym e)
+none_only IsText (Some found) any has none e = absurd (none found has)
+
+-- ---- a text in none of the forms has no answer
+no_reason : why.None ≡ why.NoForm → ⊥
+no_reason e = cc
+
+not_rejected : (component : ComponentRange) → why.None ≡ why.Rejected component → ⊥
+not_rejected component e = cc
+
+no_none_by : (assumptions : Assumptions) (reader : Reader) (text : List ℕ) → IsUnreadBy assumptions reader text why.None → ⊥
+no_none_by assumptions (Named reading) text h = h
+no_none_by assumptions Local text h = h
+no_none_by assumptions (Spelled spelling) text (inl h) = not_rejected h.0 h.2
+no_none_by assumptions (Spelled spelling) text (inr h) = no_reason h.1
+no_none_by assumptions (Format format) text h = no_reason h
+no_none_by assumptions (Yearless format) text h = no_reason h
+
+either : (b c : Bool) (own later : NoAnswer) → (if b then own else if c then later else own) ≡ why.None → (own ≡ why.None) ⊎ (later ≡ why.None)
+either true c own later e = inl e
+either false true own later e = inr e
+either false false own later e = inl e
+
+no_none : (assumptions : Assumptions) (readers : List Reader) (text : List ℕ) (any : NoAnswer) → any ≡ why.None → IsReason assumptions readers text any → ⊥
+no_none assumptions [] text any e h = cc
+no_none assumptions (reader ∷ readers) text any e (own, later, own_is, later_is, same) = elim (either (has_form own) (has_form later) own later (sym same ∙ e)) as (λ _. ⊥) [
+  | inl first ↦ no_none_by assumptions reader text (subst (IsUnreadBy assumptions reader text) first own_is)
+  | inr other ↦ no_none assumptions readers text later other later_is
+]
 
 no_none_placed : (clock : Option Clock) (found : DateOrMoment) → IsPlaced clock found (Err why.None) → ⊥
 no_none_placed None found h = cc
 no_none_placed (Some clock) (Date form n) h = cc
-no_none_placed (Some clock) (Moment form m) h = not_placed form h.local h.taken h.placed
+no_none_placed (Some clock) (Moment form m) h = not_placed form (moment_by clock.policy h.local) h.placed
   where
-    not_placed : (form : MomentForm) (local : Local) (taken : Option LocalAndOffset) → Err why.None ≡ placed_as form local taken → ⊥
-    not_placed form local (Some m) e = cc
-    not_placed form (Single m) None e = cc
-    not_placed form (Gap g) None e = cc
-    not_placed form (Fold a b) None e = cc
+    not_placed : (form : MomentForm) (taken : Result LocalAndOffset LocalTimeError) → Err why.None ≡ placed_as form taken → ⊥
+    not_placed form (Ok m) e = cc
+    not_placed form (Err Repeated) e = cc
+    not_placed form (Err Skipped) e = cc
+    not_placed form (Err PastRange) e = cc
 
 no_none_read : (filter : Filter) (text : List ℕ) → IsNotRead filter text why.None → ⊥
-no_none_read filter text (inl h) = no_none text (first_named filter.assumptions filter.readers) h.why_is
+no_none_read filter text (inl h) = no_none filter.assumptions filter.readers text why.None refl h.why_is
 no_none_read filter text (inr h) = no_none_placed filter.clock h.0 h.2
 
 pub unread : (filter : Filter) (text : List ℕ) (any : NoAnswer) → IsNotRead filter text any → IsAnswer filter text (Err any)

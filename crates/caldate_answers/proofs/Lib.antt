@@ -11,6 +11,7 @@ pub mod Leads
 pub mod LocalShapes
 pub mod Marks
 pub mod OneAnswer
+pub mod Outside
 pub mod OneCount
 pub mod OneMoment
 pub mod Printed

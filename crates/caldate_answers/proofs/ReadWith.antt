@@ -4,11 +4,11 @@ use Rattle.std.proofs.lemmas.List.{take_all}
 use Rattle.std.specs.Prelude.{IfErr, IfOk}
 use Rattle.cal_text.specs.declared.any.DateOrMoment.{DateOrMoment}
 use Rattle.cal_text.specs.declared.error.ParseError.{ParseError}
-use Rattle.caldate_lines.specs.declared.no_answer.NoAnswer.{NoAnswer}
 use Rattle.caldate_answers.specs.Answers.{IsNotRead, IsReadAs}
 use Rattle.caldate_answers.specs.Clocks.{IsPlaced}
-use Rattle.caldate_answers.specs.Readers.{IsFoundBy, IsUnread, IsUnreadIn}
+use Rattle.caldate_answers.specs.Readers.{IsFoundBy, IsUnread, IsUnreadIn, first_reason}
 use Rattle.caldate_answers.specs.Readings.{IsTextIn}
+use Rattle.caldate_lines.specs.declared.no_answer.NoAnswer.{NoAnswer}
 use Rattle.caldate_answers.specs.declared.reading.Reading.TheVariants.{Any}
 use Rattle.caldate_answers.specs.declared.reading.reader.Reader.{Reader}
 use Rattle.caldate_answers.specs.declared.reading.reader.Reader.TheVariants.{Named}
@@ -56,14 +56,12 @@ read_later filter text found forms none lacks is =
 abbrev not_read : NoAnswer → Result DateOrMoment NoAnswer
 not_read any = Err any
 
-not_found : (any : NoAnswer) (g : DateOrMoment) → not_read any ≡ Ok g → ⊥
-not_found any g e = cc
-
-pub not_read_first : (filter : Filter) (text : List ℕ) (any other : NoAnswer) (forms : FirstSix filter) → ((g : DateOrMoment) → ¬ IsTextIn Any text g)
-    → ((g : DateOrMoment) → IsFoundBy filter.assumptions forms.0 text g → not_read other ≡ Ok g) → IsUnreadIn Any text any → IsNotRead filter text any
-not_read_first filter text any other forms lacks every is =
-    inl (subst (λ l. IsUnread filter.assumptions l text any) (sym forms.1)
-    (none_unread filter.assumptions (Named Any) forms.0 Any text any refl (λ g h. absurd (lacks g h)) (λ g h. absurd (not_found other g (every g h))) is))
+pub not_read_first : (filter : Filter) (text : List ℕ) (own later : NoAnswer) (forms : FirstSix filter) → ((g : DateOrMoment) → ¬ IsTextIn Any text g)
+    → ((g : DateOrMoment) → IsFoundBy filter.assumptions forms.0 text g → not_read later ≡ Ok g) → IsUnreadIn Any text own → IsUnread filter.assumptions forms.0 text later
+    → IsNotRead filter text (first_reason own later)
+not_read_first filter text own later forms lacks every is other =
+    inl (subst (λ l. IsUnread filter.assumptions l text (first_reason own later)) (sym forms.1)
+    (none_unread filter.assumptions (Named Any) forms.0 text own later (λ g h. absurd (lacks g h)) every is other))
 
 abbrev failed : ParseError → Result DateOrMoment ParseError
 failed error = Err error

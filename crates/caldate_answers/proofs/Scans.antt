@@ -4,11 +4,12 @@ use Rattle.std.specs.Prelude.{IfOk, IfErr, MatchOption, slice_index, if◌then�
 use Rattle.std.proofs.lemmas.Bool.{cases_lt, false≢true, le-ltb, lt-ltb}
 use Rattle.std.proofs.lemmas.List.{take_rest}
 use Rattle.cal_text.specs.declared.any.DateOrMoment.{DateOrMoment}
+use Rattle.caldate_answers.specs.Answers.{IsNotRead, IsReadAs}
+use Rattle.caldate_answers.specs.Readers.{has_form}
+use Rattle.caldate_answers.specs.Scans.{IsFirstText, IsReadWith, IsText, IsTextAt, NoneFrom, fitted, is_of_word, may_begin, part_at, with_words}
+use Rattle.caldate_answers.specs.declared.request.Filter.{Filter}
 use Rattle.caldate_lines.specs.declared.no_answer.NoAnswer.{NoAnswer}
 use Rattle.caldate_lines.specs.declared.no_answer.NoAnswer.TheVariants as why
-use Rattle.caldate_answers.specs.Answers.{IsNotRead, IsReadAs}
-use Rattle.caldate_answers.specs.Scans.{IsFirstText, IsReadWith, IsText, IsTextAt, NoneFrom, fitted, has_form, is_of_word, may_begin, part_at, with_words}
-use Rattle.caldate_answers.specs.declared.request.Filter.{Filter}
 use Rattle.caldate_answers.proofs.Appends.{taken_back}
 
 -- ---- whether bytes are a text

@@ -1,6 +1,6 @@
 -- How long a text at the front of some bytes can be.
 use Rattle.std.proofs.Common.{◌≡◌, inl, inr, ℕ, zero, suc, ◌+◌, ◌-◌, ◌<◌, ◌≤◌, Bool, true, false, List, [], ◌∷◌, ◌++◌, append-nil, append_assoc, length, length-append, length-drop, take, take-append-drop, drop, Option, Some, None, refl, sym, ap, subst, ◌∙◌, arith}
-use Rattle.std.specs.Prelude.{ℤ, IsSomeAnd, MatchOption, codes, min, nat_lt, slice_index, unsigned_abs, if◌then◌else◌, ◌^◌, ◌==◌}
+use Rattle.std.specs.Prelude.{ℤ, IsSomeAnd, codes, min, nat_lt, slice_index, unsigned_abs, if◌then◌else◌, ◌^◌, ◌==◌}
 use Rattle.std.proofs.lemmas.Bool.{cases_lt, false≢true, le-ltb, lt-ltb}
 use Rattle.std.proofs.lemmas.Bool.Decides.{nat_tests}
 use Rattle.std.proofs.lemmas.Int.{ints}
@@ -24,11 +24,9 @@ use Rattle.cal_text.specs.declared.any.DateOrMoment.TheVariants.{Date, Moment}
 use Rattle.cal_text.specs.declared.any.MomentForm.TheVariants.{Rfc3339, Unix}
 use Rattle.cal_text.proofs.DayForms.{calendar-of, ordinal-of, week-of}
 use Rattle.cal_text.proofs.Positions.{begins_less}
-use Rattle.caldate_lines.specs.declared.no_answer.NoAnswer.{NoAnswer}
-use Rattle.caldate_lines.specs.declared.no_answer.NoAnswer.TheVariants as why
-use Rattle.caldate_answers.specs.Readers.{IsDateText, IsDateTimeText, IsFoundBy, IsMomentText, IsUnread, IsUnreadIn, named}
+use Rattle.caldate_answers.specs.Readers.{IsDateText, IsDateTimeText, IsFoundBy, IsMomentText, IsUnread, IsUnreadBy, IsUnreadIn, IsUnspelled, has_form}
 use Rattle.caldate_answers.specs.Readings.{HasFormIn, IsErrorIn, IsTextIn}
-use Rattle.caldate_answers.specs.Scans.{Bounds, IsText, has_form}
+use Rattle.caldate_answers.specs.Scans.{Bounds, IsText}
 use Rattle.caldate_answers.specs.Spellings.{begins_with_at, full_by, is_sign, iso_text, unix_text, with_colon, with_point}
 use Rattle.caldate_answers.specs.declared.reading.Reading.{Reading}
 use Rattle.caldate_answers.specs.declared.reading.Reading.TheVariants as reading
@@ -37,6 +35,9 @@ use Rattle.caldate_answers.specs.declared.reading.reader.Reader.{Reader}
 use Rattle.caldate_answers.specs.declared.reading.spelling.Spelling.{Spelling}
 use Rattle.caldate_answers.specs.declared.reading.spelling.Spelling.TheVariants.{Iso, Seconds}
 use Rattle.caldate_answers.specs.declared.request.Filter.{Filter}
+use Rattle.caldate_lines.specs.declared.no_answer.NoAnswer.{NoAnswer}
+use Rattle.caldate_lines.specs.declared.no_answer.NoAnswer.TheVariants as why
+use Rattle.caldate_answers.proofs.FirstForms.{unread_rest}
 
 -- ---- a text has its form
 small : (n : ℕ) → IsDate n → unsigned_abs (julian_day_at n) < 10 ^ 9
@@ -50,7 +51,7 @@ any_form bytes (Date JulianDay n) is = inr (inl (julian_day_at n, record { digit
 any_form bytes (Moment Rfc3339 m) is = inr (inr (inl (is.0, is.1)))
 any_form bytes (Moment Unix m) is = inr (inr (inr (_, is.form)))
 
-error_form : (bytes : List ℕ) (any : ComponentRange) → IsDateOrMomentError bytes any → HasAnyForm bytes
+pub error_form : (bytes : List ℕ) (any : ComponentRange) → IsDateOrMomentError bytes any → HasAnyForm bytes
 error_form bytes any (inl h) = inl (h.0, h.1)
 error_form bytes any (inr (inl h)) = inr (inl (h.0, h.1))
 error_form bytes any (inr (inr (inl h))) = inr (inr (inl (h.0, h.1)))
@@ -68,7 +69,7 @@ out_of_range_form (reading.Date order) bytes any h = (h.0, h.1)
 out_of_range_form (reading.Unix unit) bytes any h = (h.1.0, h.1.1)
 out_of_range_form (reading.Local offset) bytes any h = (h.0, h.1)
 
-rejected_form : (r : Reading) (bytes : List ℕ) (any : NoAnswer) → IsUnreadIn r bytes any → has_form any ≡ true → HasFormIn r bytes
+pub rejected_form : (r : Reading) (bytes : List ℕ) (any : NoAnswer) → IsUnreadIn r bytes any → has_form any ≡ true → HasFormIn r bytes
 rejected_form r bytes (why.Rejected component) h e = out_of_range_form r bytes component h
 rejected_form r bytes (why.Unreadable at) h e = absurd (false≢true e)
 rejected_form r bytes why.TooLong h e = absurd h
@@ -79,6 +80,19 @@ rejected_form r bytes why.None h e = absurd h
 rejected_form r bytes why.NoForm h e = absurd h
 rejected_form r bytes why.Skipped h e = absurd h
 rejected_form r bytes why.Repeated h e = absurd h
+
+-- the same of a spelling
+pub spelled_form : (full : Option (List ℕ)) (found : DateOrMoment) → IsSomeAnd full (λ full. IsTextOf full found) → IsSomeAnd full HasAnyForm
+spelled_form None found h = h
+spelled_form (Some full) found h = any_form full found h
+
+unspelled_error : (full : Option (List ℕ)) (any : ComponentRange) → IsSomeAnd full (λ full. IsDateOrMomentError full any) → IsSomeAnd full HasAnyForm
+unspelled_error None any h = h
+unspelled_error (Some full) any h = error_form full any h
+
+pub unspelled_form : (s : Spelling) (bytes : List ℕ) (any : NoAnswer) → IsUnspelled s bytes any → has_form any ≡ true → IsSomeAnd (full_by s bytes) HasAnyForm
+unspelled_form s bytes any (inl h) e = unspelled_error (full_by s bytes) h.0 h.1
+unspelled_form s bytes any (inr h) e = absurd (false≢true (sym (ap has_form h.1) ∙ e))
 
 -- ---- how long a text can be
 -- no text is longer than the part of the bytes that has the form
@@ -123,9 +137,9 @@ some_if : (b : Bool) (full : List ℕ) (P : List ℕ → Type 0) → IsSomeAnd (
 some_if true full P h = absurd h
 some_if false full P h = refl
 
-pub spelled_short : (s : Spelling) (bytes : List ℕ) (found : DateOrMoment) → IsSomeAnd (full_by s bytes) (λ full. IsTextOf full found) → length bytes ≤ 60
-spelled_short Iso bytes found h = let few = some_if (nat_lt 60 (length bytes)) (iso_text bytes) (λ full. IsTextOf full found) h in grind (arith, nat_tests)
-spelled_short Seconds bytes found h = let few = some_if (nat_lt 60 (length bytes)) (unix_text bytes) (λ full. IsTextOf full found) h in grind (arith, nat_tests)
+pub spelled_short : (s : Spelling) (bytes : List ℕ) → IsSomeAnd (full_by s bytes) HasAnyForm → length bytes ≤ 60
+spelled_short Iso bytes h = let few = some_if (nat_lt 60 (length bytes)) (iso_text bytes) HasAnyForm h in grind (arith, nat_tests)
+spelled_short Seconds bytes h = let few = some_if (nat_lt 60 (length bytes)) (unix_text bytes) HasAnyForm h in grind (arith, nat_tests)
 
 -- ---- ISO 8601: the front stays
 abbrev pub Keeps : ℕ → List ℕ → List ℕ → Type 0
@@ -176,47 +190,46 @@ some_full true full P h = absurd h
 some_full false full P h = h
 
 -- a short text of ISO 8601 is in one of the six forms
-pub short_form : (bytes : List ℕ) (found : DateOrMoment) → length bytes < 20 → IsSomeAnd (full_by Iso bytes) (λ full. IsTextOf full found) → HasAnyForm bytes
-short_form bytes found short h =
-    let is = some_full (nat_lt 60 (length bytes)) (iso_text bytes) (λ full. IsTextOf full found) h in
+pub short_form : (bytes : List ℕ) → length bytes < 20 → IsSomeAnd (full_by Iso bytes) HasAnyForm → HasAnyForm bytes
+short_form bytes short h =
+    let is = some_full (nat_lt 60 (length bytes)) (iso_text bytes) HasAnyForm h in
     let same : iso_text bytes ≡ bytes = ap (λ b. if b then bytes else with_colon (with_point bytes)) (lt-ltb (length bytes) 20 short) in
-    any_form bytes found (subst (λ full. IsTextOf full found) same is)
+    subst HasAnyForm same is
 
 -- a text of ISO 8601 whose first k bytes stay begins as in the six forms
-iso_bound : (bytes : List ℕ) (bound k n : ℕ) (found : DateOrMoment) → Bounds (HasFormIn reading.Any) bytes bound → n ≤ length bytes → k + 2 ≤ n
+iso_bound : (bytes : List ℕ) (bound k n : ℕ) → Bounds (HasFormIn reading.Any) bytes bound → n ≤ length bytes → k + 2 ≤ n
     → (20 ≤ n → (length (with_point (take n bytes)) ≡ n) × (take k (with_point (take n bytes)) ≡ take k bytes))
-    → IsSomeAnd (full_by Iso (take n bytes)) (λ full. IsTextOf full found) → k ≤ bound
-iso_bound bytes bound k n found b fits less stays h =
+    → IsSomeAnd (full_by Iso (take n bytes)) HasAnyForm → k ≤ bound
+iso_bound bytes bound k n b fits less stays h =
     let text = take n bytes in
     let many = length-take-le n bytes fits in
-    let is = some_full (nat_lt 60 (length text)) (iso_text text) (λ full. IsTextOf full found) h in
+    let is = some_full (nat_lt 60 (length text)) (iso_text text) HasAnyForm h in
     let full_is : (b : Bool) → nat_lt (length text) 20 ≡ b → iso_text text ≡ (if b then text else with_colon (with_point text)) =
     λ b e. ap (λ b. if b then text else with_colon (with_point text)) e in
     elim (cases_lt n 20) as (λ _. k ≤ bound) [
       | inl short ↦ (
           let same = full_is true (lt-ltb (length text) 20 (omega (arith, many, short))) in
-          let within = form_within (HasFormIn reading.Any) bytes bound n b fits (any_form text found (subst (λ full. IsTextOf full found) same is)) in
+          let within = form_within (HasFormIn reading.Any) bytes bound n b fits (subst HasAnyForm same is) in
           omega (arith, within, less)
           )
       | inr long ↦ (
           let same = full_is false (le-ltb (length text) 20 (omega (arith, many, long))) in
           let kept = stays long in
           let colon = colon_keeps k (with_point text) (omega (arith, less, kept.0)) in
-          let form = any_form (iso_text text) found is in
           let begins : Begins (HasFormIn reading.Any) (take k bytes) =
-          record { more = colon.0; text = subst HasAnyForm (same ∙ colon.1 ∙ ap (λ l. l ++ colon.0) kept.1) form } in
+          record { more = colon.0; text = subst HasAnyForm (same ∙ colon.1 ∙ ap (λ l. l ++ colon.0) kept.1) is } in
           b.begins k (omega (arith, less, fits)) begins
           )
     ]
 
 -- if the bytes leave the six forms so early, no text of ISO 8601 is longer
 pub iso_within : (bytes : List ℕ) (bound : ℕ) → Bounds (HasFormIn reading.Any) bytes bound → bound < 18
-    → (n : ℕ) (found : DateOrMoment) → n ≤ length bytes → IsSomeAnd (full_by Iso (take n bytes)) (λ full. IsTextOf full found) → n ≤ bound
-iso_within bytes bound b few n found fits h =
+    → (n : ℕ) → n ≤ length bytes → IsSomeAnd (full_by Iso (take n bytes)) HasAnyForm → n ≤ bound
+iso_within bytes bound b few n fits h =
     elim (cases_lt n 20) as (λ _. n ≤ bound) [
-      | inl short ↦ form_within (HasFormIn reading.Any) bytes bound n b fits (short_form (take n bytes) found (omega (arith, length-take-le n bytes fits, short)) h)
+      | inl short ↦ form_within (HasFormIn reading.Any) bytes bound n b fits (short_form (take n bytes) (omega (arith, length-take-le n bytes fits, short)) h)
       | inr long ↦ (
-          let front = iso_bound bytes bound 18 n found b fits (omega (arith, long)) (λ _. let kept = point_keeps (take n bytes) (omega (arith, long, length-take-le n bytes fits)) in
+          let front = iso_bound bytes bound 18 n b fits (omega (arith, long)) (λ _. let kept = point_keeps (take n bytes) (omega (arith, long, length-take-le n bytes fits)) in
           (kept.0 ∙ length-take-le n bytes fits, kept.1 ∙ take-take 18 n bytes (omega (arith, long)))) h in
           absurd (omega (arith, few, front))
           )
@@ -224,12 +237,12 @@ iso_within bytes bound b few n found fits h =
 
 -- without a comma, a text of ISO 8601 has at most two bytes more
 pub iso_within_colon : (bytes : List ℕ) (bound : ℕ) → Bounds (HasFormIn reading.Any) bytes bound → (slice_index bytes 19 == 44) ≡ false
-    → (n : ℕ) (found : DateOrMoment) → n ≤ length bytes → IsSomeAnd (full_by Iso (take n bytes)) (λ full. IsTextOf full found) → n ≤ bound + 2
-iso_within_colon bytes bound b comma n found fits h =
+    → (n : ℕ) → n ≤ length bytes → IsSomeAnd (full_by Iso (take n bytes)) HasAnyForm → n ≤ bound + 2
+iso_within_colon bytes bound b comma n fits h =
     elim (cases_lt n 2) as (λ _. n ≤ bound + 2) [
       | inl short ↦ omega (arith, short)
       | inr some ↦ (
-          let front = iso_bound bytes bound (n - 2) n found b fits (omega (arith, some)) (λ long.
+          let front = iso_bound bytes bound (n - 2) n b fits (omega (arith, some)) (λ long.
           let same = no_point (take n bytes) (ap (λ x. x == 44) (get_or-take n bytes 19 0 (omega (arith, long))) ∙ comma) in
           (ap length same ∙ length-take-le n bytes fits, ap (take (n - 2)) same ∙ take-take (n - 2) n bytes (omega arith))) h in
           omega (arith, front, some)
@@ -251,27 +264,32 @@ seconds_at false front bound n b fits form =
     omega (arith, within)
 
 pub seconds_within : (bytes : List ℕ) (m bound : ℕ) → m ≡ min (length bytes) 60 → Bounds (HasFormIn reading.Any) (unix_text (take m bytes)) bound
-    → (n : ℕ) (found : DateOrMoment) → n ≤ length bytes → IsSomeAnd (full_by Seconds (take n bytes)) (λ full. IsTextOf full found)
+    → (n : ℕ) → n ≤ length bytes → IsSomeAnd (full_by Seconds (take n bytes)) HasAnyForm
     → n ≤ bound - (length (unix_text (take m bytes)) - length (take m bytes))
-seconds_within bytes m bound is b zero found fits h = omega arith
-seconds_within bytes m bound is b (suc n) found fits h =
-    let short = spelled_short Seconds (take (suc n) bytes) found h in
+seconds_within bytes m bound is b zero fits h = omega arith
+seconds_within bytes m bound is b (suc n) fits h =
+    let short = spelled_short Seconds (take (suc n) bytes) h in
     let few : suc n ≤ m = omega (arith, is, fits, short, length-take-le (suc n) bytes fits) in
-    let form = any_form (unix_text (take (suc n) bytes)) found (some_full (nat_lt 60 (length (take (suc n) bytes))) (unix_text (take (suc n) bytes)) (λ full. IsTextOf full found) h) in
+    let form = some_full (nat_lt 60 (length (take (suc n) bytes))) (unix_text (take (suc n) bytes)) HasAnyForm h in
     let front = take-take (suc n) m bytes few in
     let same = ap (λ l. if begins_with_at (take (suc n) bytes) then l else codes "@" ++ l) (sym front)
     ∙ ap (λ t. if t then take (suc n) (take m bytes) else codes "@" ++ take (suc n) (take m bytes)) (at_front (suc n) m bytes (omega arith) few) in
     seconds_at (begins_with_at (take m bytes)) (take m bytes) bound (suc n) b (omega (arith, few, is, length-take-le m bytes (omega (arith, is)))) (subst HasAnyForm same form)
 
 -- ---- all forms
--- a text that is out of range has the first form
-pub rejected_first : {P : Type 0} (assumptions : Assumptions) (r : Reader) (rs : List Reader) (bytes : List ℕ) (any : NoAnswer)
-    → ((form : Reading) → named assumptions r ≡ Some form → HasFormIn form bytes → P) → IsUnread assumptions (r ∷ rs) bytes any → has_form any ≡ true → P
-rejected_first {P} assumptions r rs bytes any with_form h e = at (named assumptions r) refl h.why_is
+-- a text that is out of range has the first form or another one
+pub rejected_by : {P : Type 0} (assumptions : Assumptions) (r : Reader) (rs : List Reader) (bytes : List ℕ) (any : NoAnswer)
+    → ((own : NoAnswer) → IsUnreadBy assumptions r bytes own → has_form own ≡ true → P) → ((later : NoAnswer) → IsUnread assumptions rs bytes later → has_form later ≡ true → P)
+    → IsUnread assumptions (r ∷ rs) bytes any → has_form any ≡ true → P
+rejected_by {P} assumptions r rs bytes any first other h e =
+    let (own, later, own_is, later_is, same) = h.why_is in
+    either (has_form own) (has_form later) own later refl refl own_is (unread_rest assumptions r rs bytes any later h later_is) (sym (ap has_form same) ∙ e)
   where
-    at : (o : Option Reading) → named assumptions r ≡ o → MatchOption o (any ≡ why.NoForm) (λ form. IsUnreadIn form bytes any) → P
-    at None is none = absurd (false≢true (sym (ap has_form none) ∙ e))
-    at (Some form) is unread = with_form form is (rejected_form form bytes any unread e)
+    either : (b d : Bool) (own later : NoAnswer) → has_form own ≡ b → has_form later ≡ d → IsUnreadBy assumptions r bytes own → IsUnread assumptions rs bytes later
+        → has_form (if b then own else if d then later else own) ≡ true → P
+    either true d own later f g is more e = first own is e
+    either false true own later f g is more e = other later more e
+    either false false own later f g is more e = first own is e
 
 pub none_longer : (filter : Filter) (readers : List Reader) (bytes : List ℕ) (bound : ℕ) → readers ≡ filter.readers
     → ((n : ℕ) (found : DateOrMoment) → n ≤ length bytes → IsFoundBy filter.assumptions readers (take n bytes) found → n ≤ bound)

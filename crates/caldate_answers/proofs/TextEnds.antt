@@ -5,9 +5,8 @@ use Rattle.std.proofs.lemmas.Bool.{and_parts, cases_lt, false≢true, le-ltb, or
 use Rattle.std.proofs.lemmas.Bool.Decides.{nat_tests}
 use Rattle.std.proofs.lemmas.List.{get_or-append_right, get_or-drop, get_or-take, get_or_append_left, get_or_at, length-take-le}
 use Rattle.std.proofs.Math.ListN.{get_or-eq_default}
-use Rattle.cal_text.specs.AnyForm.{HasAnyForm, IsTextOf}
+use Rattle.cal_text.specs.AnyForm.{HasAnyForm}
 use Rattle.cal_text.specs.Shape.{Branch, Byte, ByteRange, Digits, End, Shape, UpTo, after_year, date, julian_day, moment, time_offset, unix_time, unmatched_bytes}
-use Rattle.cal_text.specs.declared.any.DateOrMoment.{DateOrMoment}
 use Rattle.cal_text.proofs.FormShapes.{date_shape}
 use Rattle.cal_text.proofs.MomentShapes.{moment_shapes}
 use Rattle.cal_text.proofs.NumberShapes.{julian_shape}
@@ -21,7 +20,7 @@ use Rattle.caldate_answers.specs.declared.request.Filter.{Filter}
 use Rattle.caldate_answers.proofs.DigitBounds.{at_least_ten, front_bound, iso_moment_bound, moment_bound}
 use Rattle.caldate_answers.proofs.Scans.{some_bytes}
 use Rattle.caldate_answers.proofs.ShapeBytes.{branch-first, digits, from-first, in-digits, in-only, is_out, one_at, only}
-use Rattle.caldate_answers.proofs.TextBounds.{Keeps, any_form, colon_keeps, no_point, point_keeps, short_form, some_full}
+use Rattle.caldate_answers.proofs.TextBounds.{Keeps, colon_keeps, no_point, point_keeps, short_form, some_full}
 
 -- ---- the byte before a colon and before the end
 abbrev marks : ℕ → ℕ → Bool
@@ -270,14 +269,14 @@ before_colon bytes many form = at (is_sign (slice_index bytes (length bytes - 5)
         let same = get_or_append_left bytes end 0 (n - 1) (omega (arith, many)) in
         ap is_last (sym same) ∙ six_stop full (n - 1) has (omega (arith, many, length-append bytes end)) over
 
-pub iso_end : (bytes : List ℕ) (found : DateOrMoment) → 0 < length bytes → IsSomeAnd (full_by Iso bytes) (λ full. IsTextOf full found) → is_usual_end bytes (length bytes) ≡ true
-iso_end bytes found some h =
+pub iso_end : (bytes : List ℕ) → 0 < length bytes → IsSomeAnd (full_by Iso bytes) HasAnyForm → is_usual_end bytes (length bytes) ≡ true
+iso_end bytes some h =
     elim (cases_lt (length bytes) 20) as (λ _. is_usual_end bytes (length bytes) ≡ true) [
-      | inl few ↦ six_end bytes some (short_form bytes found few h)
+      | inl few ↦ six_end bytes some (short_form bytes few h)
       | inr many ↦ (
           let pointed = with_point bytes in
           let same : iso_text bytes ≡ with_colon pointed = ap (λ b. if b then bytes else with_colon pointed) (le-ltb (length bytes) 20 many) in
-          let form = any_form (with_colon pointed) found (subst (λ full. IsTextOf full found) same (some_full (nat_lt 60 (length bytes)) (iso_text bytes) (λ full. IsTextOf full found) h)) in
+          let form = subst HasAnyForm same (some_full (nat_lt 60 (length bytes)) (iso_text bytes) HasAnyForm h) in
           let size = (point_keeps bytes many).0 in
           let last = subst (λ n. is_last (slice_index pointed (n - 1)) ≡ true) size (before_colon pointed (omega (arith, many, size)) form) in
           usual_end bytes (before_point bytes many last) (λ digit. large (length bytes) many)
@@ -285,14 +284,14 @@ iso_end bytes found some h =
     ]
 
 -- the moment of ISO 8601 in RFC 3339 starts as the text does
-pub iso_bound : (bytes : List ℕ) (found : DateOrMoment) → IsSomeAnd (full_by Iso bytes) (λ full. IsTextOf full found) → is_digit (slice_index bytes 0) ≡ true → length bytes ≤ digit_bound bytes
-iso_bound bytes found h digit =
+pub iso_bound : (bytes : List ℕ) → IsSomeAnd (full_by Iso bytes) HasAnyForm → is_digit (slice_index bytes 0) ≡ true → length bytes ≤ digit_bound bytes
+iso_bound bytes h digit =
     elim (cases_lt (length bytes) 20) as (λ _. length bytes ≤ digit_bound bytes) [
-      | inl few ↦ six_bound bytes (short_form bytes found few h) digit
+      | inl few ↦ six_bound bytes (short_form bytes few h) digit
       | inr many ↦ (
           let full = with_colon (with_point bytes) in
           let same : iso_text bytes ≡ full = ap (λ b. if b then bytes else full) (le-ltb (length bytes) 20 many) in
-          at many (any_form full found (subst (λ full. IsTextOf full found) same (some_full (nat_lt 60 (length bytes)) (iso_text bytes) (λ full. IsTextOf full found) h)))
+          at many (subst HasAnyForm same (some_full (nat_lt 60 (length bytes)) (iso_text bytes) HasAnyForm h))
           )
     ]
   where

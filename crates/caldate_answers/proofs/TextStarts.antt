@@ -4,8 +4,7 @@ use Rattle.std.specs.Prelude.{◌&&◌, ◌||◌, ◌==◌, min, if◌then◌els
 use Rattle.std.proofs.lemmas.Bool.{and_parts, cases_lt, false≢true, or_cases}
 use Rattle.std.proofs.Math.ListN.{get_or-eq_default}
 use Rattle.std.proofs.lemmas.List.{get_or-take, get_or_append_left, length-take-le, take_all}
-use Rattle.std.proofs.lemmas.Option.{same_Some}
-use Rattle.cal_text.specs.AnyForm.{HasAnyForm, IsTextOf}
+use Rattle.cal_text.specs.AnyForm.{HasAnyForm}
 use Rattle.cal_text.specs.Shape.{Byte, Digits, Shape, YearAfterMinus, YearAfterPlus, after_year, date, julian_day, unix_time, unmatched_bytes}
 use Rattle.cal_text.specs.declared.any.DateOrMoment.{DateOrMoment}
 use Rattle.cal_text.proofs.FormShapes.{date_shape}
@@ -13,11 +12,10 @@ use Rattle.cal_text.proofs.MomentShapes.{moment_shapes}
 use Rattle.cal_text.proofs.NumberShapes.{julian_shape}
 use Rattle.cal_text.proofs.Stops.{IsIn}
 use Rattle.cal_text.proofs.UnixShapes.{unix_shape}
-use Rattle.caldate_lines.specs.declared.no_answer.NoAnswer.{NoAnswer}
 use Rattle.caldate_answers.specs.Offsets.{is_digit}
-use Rattle.caldate_answers.specs.Readers.{IsFoundBy, IsUnread}
-use Rattle.caldate_answers.specs.Readings.{HasFormIn, IsTextIn}
-use Rattle.caldate_answers.specs.Scans.{Bounds, IsText, AreUsual, IsTextAt, IsUsual, StartWithDigits, StartsAsUsual, are_digits, has_form, is_digit_or_hyphen, is_usual_start, part_at, starts_with_digits}
+use Rattle.caldate_answers.specs.Readers.{IsFoundBy, IsUnread, has_form}
+use Rattle.caldate_answers.specs.Readings.{HasFormIn}
+use Rattle.caldate_answers.specs.Scans.{Bounds, IsText, AreUsual, IsTextAt, IsUsual, StartWithDigits, StartsAsUsual, are_digits, is_digit_or_hyphen, is_usual_start, part_at, starts_with_digits}
 use Rattle.caldate_answers.specs.Spellings.{full_by, is_sign}
 use Rattle.caldate_answers.specs.declared.reading.Reading.{Reading}
 use Rattle.caldate_answers.specs.declared.reading.Reading.TheVariants as reading
@@ -26,9 +24,10 @@ use Rattle.caldate_answers.specs.declared.reading.reader.Reader.{Reader}
 use Rattle.caldate_answers.specs.declared.reading.spelling.Spelling.{Spelling}
 use Rattle.caldate_answers.specs.declared.reading.spelling.Spelling.TheVariants.{Iso}
 use Rattle.caldate_answers.specs.declared.request.Filter.{Filter}
+use Rattle.caldate_lines.specs.declared.no_answer.NoAnswer.{NoAnswer}
 use Rattle.caldate_answers.proofs.ShapeBytes.{branch-first, byte_passes, digit_at, digits, in-digits, in-only, one_at, only, passes_at}
 use Rattle.caldate_answers.proofs.TextEnds.{iso_bound, iso_end, six_bound, six_end}
-use Rattle.caldate_answers.proofs.TextBounds.{iso_within, short_form, text_form}
+use Rattle.caldate_answers.proofs.TextBounds.{iso_within, short_form}
 
 -- ---- a text in one of the six forms
 abbrev digits_or_hyphen : ℕ → ℕ → Bool
@@ -154,31 +153,28 @@ few_begin bytes off = record {
   ];
 }
 
-iso_start : (bytes : List ℕ) (found : DateOrMoment) → 0 < length bytes → IsSomeAnd (full_by Iso bytes) (λ full. IsTextOf full found) → StartsAsUsual bytes
-iso_start bytes found some h = at (is_usual_start bytes) refl
+iso_start : (bytes : List ℕ) → 0 < length bytes → IsSomeAnd (full_by Iso bytes) HasAnyForm → StartsAsUsual bytes
+iso_start bytes some h = at (is_usual_start bytes) refl
   where
     at : (b : Bool) → is_usual_start bytes ≡ b → StartsAsUsual bytes
     at true e = e
     at false off =
         let same = take_all (length bytes) bytes (omega arith) in
-        let none = iso_within bytes (min 5 (length bytes)) (few_begin bytes off) (omega arith) (length bytes) found (omega arith)
-        (subst (λ text. IsSomeAnd (full_by Iso text) (λ full. IsTextOf full found)) (sym same) h) in
-        six_start bytes some (short_form bytes found (omega (arith, none)) h)
+        let none = iso_within bytes (min 5 (length bytes)) (few_begin bytes off) (omega arith) (length bytes) (omega arith)
+        (subst (λ text. IsSomeAnd (full_by Iso text) HasAnyForm) (sym same) h) in
+        six_start bytes some (short_form bytes (omega (arith, none)) h)
 
 -- ---- one form
 six_usual : (bytes : List ℕ) → 0 < length bytes → HasAnyForm bytes → IsUsual bytes
 six_usual bytes some h = record { start = six_start bytes some h; end = six_end bytes some h; bound = six_bound bytes h }
 
-pub any_text : (r : Reading) (bytes : List ℕ) (found : DateOrMoment) → r ≡ reading.Any → 0 < length bytes → IsTextIn r bytes found → IsUsual bytes
-any_text r bytes found e some h = six_usual bytes some (subst (λ r. HasFormIn r bytes) e (text_form r bytes found h))
+pub any_usual : (r : Reading) (bytes : List ℕ) → r ≡ reading.Any → 0 < length bytes → HasFormIn r bytes → IsUsual bytes
+any_usual r bytes e some h = six_usual bytes some (subst (λ r. HasFormIn r bytes) e h)
 
-pub any_named : (r form : Reading) (bytes : List ℕ) → r ≡ reading.Any → 0 < length bytes → Some r ≡ Some form → HasFormIn form bytes → IsUsual bytes
-any_named r form bytes e some is has = six_usual bytes some (subst (λ r. HasFormIn r bytes) (sym (same_Some r form is) ∙ e) has)
-
-pub iso_usual : (s : Spelling) (bytes : List ℕ) (found : DateOrMoment) → s ≡ Iso → 0 < length bytes → IsSomeAnd (full_by s bytes) (λ full. IsTextOf full found) → IsUsual bytes
-iso_usual s bytes found e some h =
-    let is = subst (λ s. IsSomeAnd (full_by s bytes) (λ full. IsTextOf full found)) e h in
-    record { start = iso_start bytes found some is; end = iso_end bytes found some is; bound = iso_bound bytes found is }
+pub iso_usual : (s : Spelling) (bytes : List ℕ) → s ≡ Iso → 0 < length bytes → IsSomeAnd (full_by s bytes) HasAnyForm → IsUsual bytes
+iso_usual s bytes e some h =
+    let is = subst (λ s. IsSomeAnd (full_by s bytes) HasAnyForm) e h in
+    record { start = iso_start bytes some is; end = iso_end bytes some is; bound = iso_bound bytes is }
 
 -- ---- all forms
 pub each_text : (P : List ℕ → Type 0) (filter : Filter) (readers : List Reader) → readers ≡ filter.readers

@@ -1,7 +1,8 @@
 -- The forms that a line is read in. The first that fits wins.
-use Rattle.std.specs.Prelude.{◌≡◌, ◌≤◌, ◌⊎◌, ◌++◌, ℕ, ℤ, codes, length, List, [], ◌∷◌, Option, Some, None, MatchOption, IsSomeAnd, IsTrue}
+use Rattle.std.specs.Prelude.{◌≡◌, ◌≤◌, ◌⊎◌, ◌++◌, ℕ, ℤ, codes, length, List, [], ◌∷◌, Bool, true, false, IsSomeAnd, IsTrue, if◌then◌else◌}
 use Rattle.cal_time.specs.Date.{IsDate}
 use Rattle.cal_time.specs.UtcOffset.{IsOffset}
+use Rattle.cal_time.specs.declared.error.ComponentRange.{ComponentRange}
 use Rattle.cal_datetime.specs.DateTime.{IsDateTime, time_at}
 use Rattle.cal_datetime.specs.OffsetDateTime.{LocalAndOffset}
 use Rattle.cal_format.specs.declared.item.Item.{Item}
@@ -9,21 +10,22 @@ use Rattle.cal_format.specs.Moment.{moment_of_date, moment_of_date_time, moment_
 use Rattle.cal_format.specs.Reading.{holds_offset, holds_time}
 use Rattle.cal_format.specs.Scanning.{AreHeld}
 use Rattle.cal_format.specs.Text.{text_of}
-use Rattle.cal_text.specs.AnyForm.{IsTextOf}
+use Rattle.cal_text.specs.AnyForm.{IsDateOrMomentError, IsTextOf}
 use Rattle.cal_text.specs.Position.{IsPosition}
 use Rattle.cal_text.specs.declared.any.DateForm.TheVariants.{Calendar}
 use Rattle.cal_text.specs.declared.any.DateOrMoment.{DateOrMoment}
 use Rattle.cal_text.specs.declared.any.DateOrMoment.TheVariants as dated
 use Rattle.cal_text.specs.declared.any.MomentForm.TheVariants.{Rfc3339}
-use Rattle.caldate_lines.specs.declared.no_answer.NoAnswer.{NoAnswer}
-use Rattle.caldate_lines.specs.declared.no_answer.NoAnswer.TheVariants as why
 use Rattle.caldate_answers.specs.Readings.{HasFormIn, IsErrorIn, IsTextIn}
 use Rattle.caldate_answers.specs.Spellings.{full_by}
+use Rattle.caldate_lines.specs.declared.no_answer.NoAnswer.{NoAnswer}
+use Rattle.caldate_lines.specs.declared.no_answer.NoAnswer.TheVariants as why
 use Rattle.caldate_answers.specs.declared.reading.Reading.{Reading}
 use Rattle.caldate_answers.specs.declared.reading.Reading.TheVariants as reading
 use Rattle.caldate_answers.specs.declared.reading.reader.Assumptions.{Assumptions}
 use Rattle.caldate_answers.specs.declared.reading.reader.Reader.{Reader}
 use Rattle.caldate_answers.specs.declared.reading.reader.Reader.TheVariants.{Named, Local, Spelled, Format, Yearless}
+use Rattle.caldate_answers.specs.declared.reading.spelling.Spelling.{Spelling}
 use Rattle.caldate_answers.specs.declared.reading.value_format.ValueFormat.{ValueFormat}
 use Rattle.caldate_answers.specs.declared.reading.value_format.ValueFormat.TheVariants.{Dates, Moments, DateTimes}
 
@@ -85,17 +87,39 @@ IsUnreadIn reading text (why.Rejected component) = IsErrorIn reading text compon
 IsUnreadIn reading text (why.Unreadable at) = (¬ HasFormIn reading text) × IsPosition (HasFormIn reading) text at
 IsUnreadIn reading text other = ⊥
 
--- The form that says why, if it does.
-abbrev pub named : Assumptions → Reader → Option Reading
-named assumptions (Named reading) = Some reading
-named assumptions Local = Some (reading.Local assumptions.offset)
-named assumptions other = None
+-- The spelled moment has this component out of range.
+abbrev pub IsSpellingError : Spelling → List ℕ → ComponentRange → Type 0
+IsSpellingError spelling text component = IsSomeAnd (full_by spelling text) (λ full. IsDateOrMomentError full component)
 
-abbrev pub first_named : Assumptions → List Reader → Option Reading
-first_named assumptions [] = None
-first_named assumptions (reader ∷ readers) = named assumptions reader
+-- A spelling says which component is out of range, or that the text doesn't have it.
+abbrev pub IsUnspelled : Spelling → List ℕ → NoAnswer → Type 0
+IsUnspelled spelling text any =
+    ((component : ComponentRange) × IsSpellingError spelling text component × (any ≡ why.Rejected component))
+    ⊎ (((component : ComponentRange) → ¬ IsSpellingError spelling text component) × (any ≡ why.NoForm))
 
--- Why the text is in none of the forms: the first form says it, or that there is none.
+-- Why the text isn't read in the form. A format doesn't say why.
+abbrev pub IsUnreadBy : Assumptions → Reader → List ℕ → NoAnswer → Type 0
+IsUnreadBy assumptions (Named reading) text any = IsUnreadIn reading text any
+IsUnreadBy assumptions Local text any = IsUnreadIn (reading.Local assumptions.offset) text any
+IsUnreadBy assumptions (Spelled spelling) text any = IsUnspelled spelling text any
+IsUnreadBy assumptions other text any = any ≡ why.NoForm
+
+-- Bytes without an answer for this reason have one of the forms.
+abbrev pub has_form : NoAnswer → Bool
+has_form why.NoForm = false
+has_form (why.Unreadable at) = false
+has_form other = true
+
+-- A form that the text has says why it has no answer, or else the first form.
+abbrev pub first_reason : NoAnswer → NoAnswer → NoAnswer
+first_reason own later = if has_form own then own else if has_form later then later else own
+
+abbrev pub IsReason : Assumptions → List Reader → List ℕ → NoAnswer → Type 0
+IsReason assumptions [] text any = any ≡ why.NoForm
+IsReason assumptions (reader ∷ readers) text any =
+    (own : NoAnswer) × (later : NoAnswer) × IsUnreadBy assumptions reader text own × IsReason assumptions readers text later × (any ≡ first_reason own later)
+
+-- The text is in none of the forms, for this reason.
 pub record IsUnread (assumptions : Assumptions) (readers : List Reader) (text : List ℕ) (any : NoAnswer) : Type 0 where
   pub none : (found : DateOrMoment) → ¬ IsFoundBy assumptions readers text found
-  pub why_is : MatchOption (first_named assumptions readers) (any ≡ why.NoForm) (λ reading. IsUnreadIn reading text any)
+  pub why_is : IsReason assumptions readers text any

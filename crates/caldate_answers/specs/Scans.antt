@@ -2,23 +2,19 @@
 use Rattle.std.specs.Prelude.{◌≡◌, ◌⊎◌, ℕ, suc, ◌+◌, ◌-◌, ◌==◌, ◌&&◌, ◌||◌, not, ◌<◌, ◌≤◌, nat_lt, Bool, true, false, MatchBool, List, [], ◌∷◌, ◌++◌, length, take, drop, slice_index, Some, None, Result, Ok, Err, if◌then◌else◌}
 use Rattle.cal_text.specs.Position.{Begins}
 use Rattle.cal_text.specs.declared.any.DateOrMoment.{DateOrMoment}
+use Rattle.caldate_answers.specs.Answers.{Answer, IsAnswer, IsNotRead, IsReadAs, keeps}
+use Rattle.caldate_answers.specs.Offsets.{is_digit}
+use Rattle.caldate_answers.specs.Readers.{has_form}
 use Rattle.caldate_lines.specs.Room.{longest_text}
+use Rattle.caldate_answers.specs.Spellings.{is_sign}
+use Rattle.caldate_args.specs.Zones.{is_letter}
 use Rattle.caldate_lines.specs.declared.on_invalid.OnInvalid.TheVariants as invalid
+use Rattle.caldate_answers.specs.declared.request.Filter.{Filter}
 use Rattle.caldate_lines.specs.declared.no_answer.NoAnswer.{NoAnswer}
 use Rattle.caldate_lines.specs.declared.no_answer.NoAnswer.TheVariants as why
-use Rattle.caldate_answers.specs.Answers.{Answer, IsAnswer, IsNotRead, IsReadAs, keeps}
-use Rattle.caldate_answers.specs.Offsets.{is_digit, is_letter}
-use Rattle.caldate_answers.specs.Spellings.{is_sign}
-use Rattle.caldate_answers.specs.declared.request.Filter.{Filter}
 use Rattle.caldate_answers.specs.declared.scan.found_text.FoundText.{FoundText}
 
 -- ---- the texts of a line
--- Bytes without an answer for this reason have one of the forms.
-abbrev pub has_form : NoAnswer → Bool
-has_form why.NoForm = false
-has_form (why.Unreadable at) = false
-has_form other = true
-
 -- The bytes have one of the forms, perhaps with a component out of range.
 abbrev pub IsText : Filter → List ℕ → Type 0
 IsText filter bytes =

@@ -38,7 +38,7 @@ use crate::answer::texts::{
     push_whole_unix,
 };
 use crate::reading::reader::Reader;
-use crate::reading::{Reading, read, read_in, reason_of};
+use crate::reading::{Reading, first_reason, read, read_in, reason_of};
 use crate::request::{
     Bounds, Clock, DayMove, Filter, Form, Move, Place, Request, Target, TimeUnit,
 };
@@ -130,7 +130,7 @@ fn push_by_others(
     let others = &filter.readers.as_slice()[1..];
     match read(others, &filter.assumptions, text) {
         Ok(found) => push_found(buffer, &None, filter, text, &found),
-        Err(_) => Err(why),
+        Err(later) => Err(first_reason(why, later)),
     }
 }
 

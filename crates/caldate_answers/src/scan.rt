@@ -1,7 +1,7 @@
 //! The texts in a line that have a form.
 ghost use Rattle.std.specs.Prelude.{◌≡◌, ℕ, ◌+◌, ◌<◌, ◌≤◌, IfSome, MatchOption, false, length, slice_index, take, true};
 ghost use Rattle.caldate_answers.specs.Offsets.{is_digit, is_letter};
-ghost use Rattle.caldate_answers.specs.Scans.{HasNoText, IsFirstText, IsLongestText, IsReadWith, IsText, IsTextAt, NoneFrom, AreUsual, StartWithDigits, byte_before, has_form, is_of_word, may_begin, part_at};
+ghost use Rattle.caldate_answers.specs.Scans.{HasNoText, IsFirstText, IsLongestText, IsReadWith, IsText, IsTextAt, NoneFrom, AreUsual, StartWithDigits, byte_before, is_of_word, may_begin, part_at};
 
 pub(crate) mod bound;
 pub(crate) mod digit_bound;
@@ -11,6 +11,7 @@ pub mod push;
 pub(crate) mod start;
 
 use crate::answer::read_with;
+use crate::reading::has_form;
 use crate::request::Filter;
 use crate::scan::bound::bound_of;
 use crate::scan::digit_bound::digit_bound;
@@ -137,16 +138,6 @@ fn read_text(filter: &Filter<'_>, bytes: &[u8]) -> Option<Result<DateOrMoment, N
     match read_with(filter, bytes) {
         Ok(found) => Some(Ok(found)),
         Err(why) => { if has_form(why) { Some(Err(why)) } else { None } }
-    }
-}
-
-/// Returns whether bytes without an answer for this reason have one of the forms.
-fn has_form(why: NoAnswer) -> bool
-    ensures { result ≡ has_form why }
-{
-    match why {
-        NoAnswer::NoForm | NoAnswer::Unreadable(_) => false,
-        _ => true,
     }
 }
 

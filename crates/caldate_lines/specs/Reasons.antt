@@ -24,6 +24,11 @@ reason why.Repeated = codes "repeated time"
 reason (why.Rejected component) = refused_text component
 reason (why.Unreadable at) = codes "unreadable at " ++ decimal at
 
+-- The reason why a text can't be read, without a position.
+abbrev pub brief_reason_of : ParseError → NoAnswer
+brief_reason_of (OutOfRange component) = why.Rejected component
+brief_reason_of other = why.NoForm
+
 -- The reason why a text can't be read.
 abbrev pub reason_of : ParseError → NoAnswer
 reason_of (UnexpectedByte at) = why.Unreadable at

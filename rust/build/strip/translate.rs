@@ -107,7 +107,7 @@ pub fn translated(source: &Source, options: &Options) -> Result<String, Fault> {
     Ok(edits.applied(&source.text))
 }
 
-/// Leaves out `#[tactic(..)]` and `Drop` in `#[derive(..)]`.
+/// Leaves out `#[tactic(..)]`, `#[cycle(..)]`, and `Drop` in `#[derive(..)]`.
 fn attribute(source: &Source, at: usize, edits: &mut Edits) {
     let open = at + 1 + usize::from(source.word(at + 1) == "!");
     if source.word(at) != "#" || source.word(open) != "[" {
@@ -115,7 +115,7 @@ fn attribute(source: &Source, at: usize, edits: &mut Edits) {
     }
     let close = (open..source.tokens.len()).find(|token| source.word(*token) == "]").unwrap_or(open);
     match source.word(open + 1) {
-        "tactic" => edits.comment_out(source.bytes(&(at..close + 1))),
+        "tactic" | "cycle" => edits.comment_out(source.bytes(&(at..close + 1))),
         "derive" => {
             if let Some(drop) = (open..close).find(|token| source.word(*token) == "Drop") {
                 let end = drop + 1 + usize::from(source.word(drop + 1) == ",");

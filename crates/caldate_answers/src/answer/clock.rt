@@ -2,13 +2,13 @@
 ghost use Rattle.std.specs.Prelude.{◌≡◌, ℤ, Option, Result};
 ghost use Rattle.cal_text.specs.declared.any.DateOrMoment.{DateOrMoment};
 ghost use Rattle.caldate_lines.specs.declared.no_answer.NoAnswer.{NoAnswer};
-ghost use Rattle.caldate_answers.specs.Clocks.{IsByPolicy, IsOnClock, IsPlaced, why_none};
+ghost use Rattle.caldate_answers.specs.Clocks.{IsOnClock, IsPlaced, why_none};
 
 use crate::request::Clock;
 use cal_datetime::OffsetDateTime;
 use cal_text::{DateOrMoment, MomentForm};
+use cal_zone::LocalTimeError;
 use cal_zone::laws::one_local;
-use cal_zone::{Local, Policy};
 use caldate_lines::no_answer::NoAnswer;
 
 /// Replaces a moment by the one at which clocks show its local time, if there are clocks.
@@ -39,31 +39,17 @@ fn on_clock(
         → IsOnClock clock.now form moment.local r → result ≡ r }
 {
     one_local(&clock.zone);
-    let local = clock.zone.resolve(moment.local());
-    let why = why_none(&local);
-    let policy = clock.policy;
-    match by_policy(policy, local) {
-        Some(moment) => Ok(DateOrMoment::Moment(form, moment)),
-        None => Err(why),
+    match clock.zone.resolve(moment.local()).select(clock.policy) {
+        Ok(moment) => Ok(DateOrMoment::Moment(form, moment)),
+        Err(error) => Err(why_none(error)),
     }
 }
 
-fn by_policy(policy: Policy, local: Local) -> Option<OffsetDateTime>
-    ensures { IsByPolicy policy local result }
+fn why_none(error: LocalTimeError) -> NoAnswer
+    ensures { result ≡ why_none error }
 {
-    match policy {
-        Policy::Compatible => local.compatible(),
-        Policy::Earlier => local.earlier(),
-        Policy::Later => local.later(),
-        Policy::Reject => local.reject(),
-    }
-}
-
-fn why_none(local: &Local) -> NoAnswer
-    ensures { result ≡ why_none local.now }
-{
-    match local {
-        Local::Fold { .. } => NoAnswer::Repeated,
-        Local::Single(_) | Local::Gap(_) => NoAnswer::Skipped,
+    match error {
+        LocalTimeError::Repeated => NoAnswer::Repeated,
+        LocalTimeError::Skipped | LocalTimeError::OutOfRange => NoAnswer::Skipped,
     }
 }

@@ -1,14 +1,18 @@
 //! The forms of `--read`.
-ghost use Rattle.std.specs.Prelude.{◌≡◌, ◌≤◌, IfSome, Some, length};
+ghost use Rattle.std.specs.Prelude.{◌≡◌, ◌≤◌, IfErr, IfOk, IfSome, Err, Ok, Some, length, ok_or};
 ghost use Rattle.cal_text.specs.declared.any.DateOrMoment.{DateOrMoment};
-ghost use Rattle.caldate_answers.specs.Readers.{IsTextBy, IsYearlessText, named, with_year};
+ghost use Rattle.caldate_answers.specs.Readers.{IsTextBy, IsUnreadBy, IsUnreadIn, IsYearlessText, with_year};
+ghost use Rattle.caldate_answers.specs.Readings.{IsTextIn};
+ghost use Rattle.caldate_lines.specs.Reasons.{reason_of};
+ghost use Rattle.caldate_lines.specs.declared.no_answer.NoAnswer.{NoAnswer};
 
 use crate::reading::full_text::{FullText, LONGEST};
 use crate::reading::spelling::Spelling;
 use crate::reading::value_format::ValueFormat;
 use crate::reading::{Reading, read_in};
-use cal_text::DateOrMoment;
+use cal_text::{DateOrMoment, ParseError};
 use cal_time::UtcOffset;
+use caldate_lines::no_answer::NoAnswer;
 
 /// The parts of a date or a moment that its text may leave out.
 #[derive(Clone, Copy)]
@@ -35,32 +39,58 @@ pub enum Reader {
 }
 
 impl Reader {
-    /// Returns the date or the moment of a text in this form, with the parts of `assumptions` that
-    /// the form leaves out.
-    pub fn read(&self, assumptions: &Assumptions, text: &[u8]) -> Option<DateOrMoment>
+    /// Parses a text in this form, with the parts of `assumptions` that the form leaves out, or
+    /// returns why it can't be read.
+    #[inline(always)]
+    pub fn read(&self, assumptions: &Assumptions, text: &[u8]) -> Result<DateOrMoment, NoAnswer>
         ensures every { (found : DateOrMoment) → IsTextBy assumptions.now self.now text.now found
-            → result ≡ Some found }
-        ensures has { IfSome result (IsTextBy assumptions.now self.now text.now) }
+            → result ≡ Ok found }
+        ensures has { IfOk result (IsTextBy assumptions.now self.now text.now) }
+        ensures every_error { (why : NoAnswer)
+            → ((found : DateOrMoment) → ¬ IsTextBy assumptions.now self.now text.now found)
+            → IsUnreadBy assumptions.now self.now text.now why → result ≡ Err why }
+        ensures error { IfErr result (IsUnreadBy assumptions.now self.now text.now) }
     {
         match self {
-            Reader::Named(reading) => read_in(*reading, text).ok(),
-            Reader::Local => read_in(Reading::Local(assumptions.offset), text).ok(),
+            Reader::Named(reading) => read_named(*reading, text),
+            Reader::Local => read_named(Reading::Local(assumptions.offset), text),
             Reader::Spelled(spelling) => spelling.read(text),
-            Reader::Format(format) => format.read(assumptions.offset, text),
-            Reader::Yearless(format) => read_yearless(format, assumptions, text),
+            Reader::Format(format) => or_no_form(format.read(assumptions.offset, text)),
+            Reader::Yearless(format) => or_no_form(read_yearless(format, assumptions, text)),
         }
     }
+}
 
-    /// Returns the form that says why a text isn't read, if it can.
-    #[inline(always)]
-    pub fn named(&self, assumptions: &Assumptions) -> Option<Reading>
-        ensures { result ≡ named assumptions.now self.now }
-    {
-        match self {
-            Reader::Named(reading) => Some(*reading),
-            Reader::Local => Some(Reading::Local(assumptions.offset)),
-            _ => None,
+/// Returns the date or the moment, or that the text doesn't have the form.
+fn or_no_form(found: Option<DateOrMoment>) -> Result<DateOrMoment, NoAnswer>
+    ensures { result ≡ ok_or found NoAnswer.NoForm }
+{
+    found.ok_or(NoAnswer::NoForm)
+}
+
+/// Parses a text in a form that says why a text isn't read.
+#[inline(always)]
+fn read_named(reading: Reading, text: &[u8]) -> Result<DateOrMoment, NoAnswer>
+    ensures every { (found : DateOrMoment) → IsTextIn reading text.now found → result ≡ Ok found }
+    ensures has { IfOk result (IsTextIn reading text.now) }
+    ensures every_error { (why : NoAnswer) → IsUnreadIn reading text.now why → result ≡ Err why }
+    ensures error { IfErr result (IsUnreadIn reading text.now) }
+{
+    match read_in(reading, text) {
+        Ok(found) => Ok(found),
+        Err(error) => Err(reason_of(error)),
+    }
+}
+
+/// Returns the reason why a text can't be read.
+pub fn reason_of(error: ParseError) -> NoAnswer
+    ensures { result ≡ reason_of error }
+{
+    match error {
+        ParseError::UnexpectedByte(position) | ParseError::UnexpectedEnd(position) => {
+            NoAnswer::Unreadable(position)
         }
+        ParseError::OutOfRange(component) => NoAnswer::Rejected(component),
     }
 }
 

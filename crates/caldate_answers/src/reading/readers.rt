@@ -1,14 +1,11 @@
 //! The forms that a line is read in.
-ghost use Rattle.std.specs.Prelude.{◌≡◌, ◌↔◌, ◌<◌, ◌≤◌, ◌++◌, ◌∷◌, [], IfErr, IfOk, IfSome, IsTrue, Err, Ok, Some, length};
+ghost use Rattle.std.specs.Prelude.{◌≡◌, ◌↔◌, ◌<◌, ◌≤◌, ◌++◌, ◌∷◌, [], IfErr, IfOk, IsTrue, Err, Ok, length};
 ghost use Rattle.cal_text.specs.declared.any.DateOrMoment.{DateOrMoment};
-ghost use Rattle.caldate_lines.specs.Reasons.{reason_of};
+ghost use Rattle.caldate_answers.specs.Readers.{IsFoundBy, IsUnread, first_reason, has_form};
 ghost use Rattle.caldate_lines.specs.declared.no_answer.NoAnswer.{NoAnswer};
-ghost use Rattle.caldate_answers.specs.Readers.{IsFoundBy, IsTextBy, IsUnread, IsUnreadIn};
-ghost use Rattle.caldate_answers.specs.Readings.{IsTextIn};
 
 use crate::reading::reader::{Assumptions, Reader};
-use crate::reading::{Reading, read_in};
-use cal_text::{DateOrMoment, ParseError};
+use cal_text::DateOrMoment;
 use caldate_lines::no_answer::NoAnswer;
 use std::marker::Model;
 
@@ -67,8 +64,9 @@ impl Readers {
     }
 }
 
-/// Parses a text in the first form that it has. If it has none, the first form says why.
+/// Parses a text in the first form that it has, or returns why it has none.
 #[inline(always)]
+#[cycle(read)]
 pub fn read(
     readers: &[Reader],
     assumptions: &Assumptions,
@@ -83,60 +81,53 @@ pub fn read(
 {
     match readers {
         [] => Err(NoAnswer::NoForm),
-        [first, others @ ..] => match first.named(assumptions) {
-            Some(reading) => match read_named(reading, text) {
-                Ok(found) => Ok(found),
-                Err(why) => match found_by(others, assumptions, text) {
-                    Some(found) => Ok(found),
-                    None => Err(why),
-                },
-            },
-            None => match found_by(readers, assumptions, text) {
-                Some(found) => Ok(found),
-                None => Err(NoAnswer::NoForm),
-            },
-        },
-    }
-}
-
-/// Parses a text in the first form that it has.
-#[inline(never)]
-fn found_by(readers: &[Reader], assumptions: &Assumptions, text: &[u8]) -> Option<DateOrMoment>
-    ensures every { (found : DateOrMoment) → IsFoundBy assumptions.now readers.now text.now found
-        → result ≡ Some found }
-    ensures has { IfSome result (IsFoundBy assumptions.now readers.now text.now) }
-{
-    match readers {
-        [] => None,
         [first, others @ ..] => match first.read(assumptions, text) {
-            Some(found) => Some(found),
-            None => found_by(others, assumptions, text),
+            Ok(found) => Ok(found),
+            Err(own) => match read_by(others, assumptions, text) {
+                Ok(found) => Ok(found),
+                Err(later) => Err(first_reason(own, later)),
+            },
         },
     }
 }
 
-/// Parses a text in a form that says why a text isn't read.
-#[inline(always)]
-fn read_named(reading: Reading, text: &[u8]) -> Result<DateOrMoment, NoAnswer>
-    ensures every { (found : DateOrMoment) → IsTextIn reading text.now found → result ≡ Ok found }
-    ensures has { IfOk result (IsTextIn reading text.now) }
-    ensures every_error { (why : NoAnswer) → IsUnreadIn reading text.now why → result ≡ Err why }
-    ensures error { IfErr result (IsUnreadIn reading text.now) }
+/// Does the same for the other forms, which most runs lack.
+#[inline(never)]
+#[cycle(read)]
+fn read_by(
+    readers: &[Reader],
+    assumptions: &Assumptions,
+    text: &[u8],
+) -> Result<DateOrMoment, NoAnswer>
+    ensures every { (found : DateOrMoment) → IsFoundBy assumptions.now readers.now text.now found
+        → result ≡ Ok found }
+    ensures has { IfOk result (IsFoundBy assumptions.now readers.now text.now) }
+    ensures every_error { (why : NoAnswer) → IsUnread assumptions.now readers.now text.now why
+        → result ≡ Err why }
+    ensures error { IfErr result (IsUnread assumptions.now readers.now text.now) }
 {
-    match read_in(reading, text) {
-        Ok(found) => Ok(found),
-        Err(error) => Err(reason_of(error)),
+    read(readers, assumptions, text)
+}
+
+/// Returns the reason of a form that a text has, or else the first.
+pub fn first_reason(own: NoAnswer, later: NoAnswer) -> NoAnswer
+    ensures { result ≡ first_reason own later }
+{
+    if has_form(own) {
+        own
+    } else if has_form(later) {
+        later
+    } else {
+        own
     }
 }
 
-/// Returns the reason why a text can't be read.
-pub fn reason_of(error: ParseError) -> NoAnswer
-    ensures { result ≡ reason_of error }
+/// Returns whether bytes without an answer for this reason have one of the forms.
+pub fn has_form(why: NoAnswer) -> bool
+    ensures { result ≡ has_form why }
 {
-    match error {
-        ParseError::UnexpectedByte(position) | ParseError::UnexpectedEnd(position) => {
-            NoAnswer::Unreadable(position)
-        }
-        ParseError::OutOfRange(component) => NoAnswer::Rejected(component),
+    match why {
+        NoAnswer::NoForm | NoAnswer::Unreadable(_) => false,
+        _ => true,
     }
 }

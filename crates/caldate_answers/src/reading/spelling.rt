@@ -1,11 +1,15 @@
 //! Moments that are spelled in another way than in the six forms.
-ghost use Rattle.std.specs.Prelude.{◌≡◌, ◌+◌, ◌≤◌, ◌++◌, [], IfSome, IsSomeAnd, MatchOption, Some, None, length};
+ghost use Rattle.std.specs.Prelude.{◌≡◌, ◌+◌, ◌≤◌, ◌++◌, [], IfErr, IfOk, IsSomeAnd, MatchOption, Err, Ok, Some, None, length};
 ghost use Rattle.cal_text.specs.AnyForm.{IsTextOf};
 ghost use Rattle.cal_text.specs.declared.any.DateOrMoment.{DateOrMoment};
+ghost use Rattle.caldate_answers.specs.Readers.{IsUnspelled};
+ghost use Rattle.caldate_lines.specs.Reasons.{brief_reason_of};
 ghost use Rattle.caldate_answers.specs.Spellings.{begins_with_at, full_by, is_sign, iso_text, unix_text, with_colon, with_point};
+ghost use Rattle.caldate_lines.specs.declared.no_answer.NoAnswer.{NoAnswer};
 
 use crate::reading::full_text::{FullText, LONGEST};
-use cal_text::{DateOrMoment, parse_any};
+use cal_text::{DateOrMoment, ParseError, parse_any};
+use caldate_lines::no_answer::NoAnswer;
 
 /// A spelling of moments.
 #[derive(Clone, Copy)]
@@ -18,16 +22,23 @@ pub enum Spelling {
 }
 
 impl Spelling {
-    /// Parses a text in this spelling.
-    pub fn read(self, text: &[u8]) -> Option<DateOrMoment>
+    /// Parses a text in this spelling, or returns why it can't be read.
+    pub fn read(self, text: &[u8]) -> Result<DateOrMoment, NoAnswer>
         ensures every { (found : DateOrMoment)
-            → IsSomeAnd (full_by self text.now) (λ full. IsTextOf full found) → result ≡ Some found }
-        ensures has { IfSome result (λ found.
+            → IsSomeAnd (full_by self text.now) (λ full. IsTextOf full found) → result ≡ Ok found }
+        ensures has { IfOk result (λ found.
             IsSomeAnd (full_by self text.now) (λ full. IsTextOf full found)) }
+        ensures every_error { (why : NoAnswer)
+            → ((found : DateOrMoment) → ¬ IsSomeAnd (full_by self text.now) (λ full. IsTextOf full found))
+            → IsUnspelled self text.now why → result ≡ Err why }
+        ensures error { IfErr result (IsUnspelled self text.now) }
     {
         match self.full(text) {
-            Some(full) => parse_any(full.as_bytes()).ok(),
-            None => None,
+            Some(full) => match parse_any(full.as_bytes()) {
+                Ok(found) => Ok(found),
+                Err(error) => Err(brief_reason_of(error)),
+            },
+            None => Err(NoAnswer::NoForm),
         }
     }
 
@@ -42,6 +53,16 @@ impl Spelling {
             Spelling::Iso => Some(iso_text(text)),
             Spelling::Seconds => Some(unix_text(text)),
         }
+    }
+}
+
+/// Returns the reason why a text can't be read, without a position.
+fn brief_reason_of(error: ParseError) -> NoAnswer
+    ensures { result ≡ brief_reason_of error }
+{
+    match error {
+        ParseError::UnexpectedByte(_) | ParseError::UnexpectedEnd(_) => NoAnswer::NoForm,
+        ParseError::OutOfRange(component) => NoAnswer::Rejected(component),
     }
 }
 

@@ -1,14 +1,13 @@
 //! The maximum length of a text at the front of some bytes.
 ghost use Rattle.std.specs.Prelude.{◌≡◌, ℕ, ℤ, List, ◌<◌, ◌≤◌, ◌++◌, IsSomeAnd, Some, length, take, true};
 ghost use Rattle.cal_format.specs.Form.{HasForm};
-ghost use Rattle.cal_text.specs.AnyForm.{IsTextOf};
+ghost use Rattle.cal_text.specs.AnyForm.{HasAnyForm};
 ghost use Rattle.cal_text.specs.declared.any.DateOrMoment.{DateOrMoment};
 ghost use Rattle.caldate_lines.specs.declared.no_answer.NoAnswer.{NoAnswer};
-ghost use Rattle.caldate_answers.specs.Readers.{IsFormatText, IsFoundBy, IsTextBy, IsUnread, named};
+ghost use Rattle.caldate_answers.specs.Readers.{IsFormatText, IsFoundBy, IsTextBy, IsUnread, IsUnreadBy, has_form};
 ghost use Rattle.caldate_answers.specs.Readings.{HasFormIn};
-ghost use Rattle.caldate_answers.specs.Scans.{Bounds, IsText, has_form};
+ghost use Rattle.caldate_answers.specs.Scans.{Bounds, IsText};
 ghost use Rattle.caldate_answers.specs.Spellings.{full_by};
-ghost use Rattle.caldate_answers.specs.declared.reading.Reading.{Reading};
 ghost use Rattle.caldate_answers.specs.declared.reading.reader.Assumptions.{Assumptions};
 
 use crate::reading::full_text::LONGEST;
@@ -71,13 +70,16 @@ fn bound_by(reader: &Reader, assumptions: &Assumptions, any: usize, bytes: &[u8]
     ensures within { result ≤ length bytes.now }
     ensures text { (n : ℕ) (found : DateOrMoment) → n ≤ length bytes.now
         → IsTextBy assumptions.now reader.now (take n bytes.now) found → n ≤ result }
-    ensures form { (n : ℕ) (reading : Reading) → n ≤ length bytes.now
-        → named assumptions.now reader.now ≡ Some reading → HasFormIn reading (take n bytes.now)
+    ensures rejected { (n : ℕ) (why : NoAnswer) → n ≤ length bytes.now
+        → IsUnreadBy assumptions.now reader.now (take n bytes.now) why → has_form why ≡ true
         → n ≤ result }
 {
-    match reader.named(assumptions) {
-        Some(reading) => bound_by_name(reading, any, bytes),
-        None => bound_by_unnamed(reader, any, bytes),
+    match reader {
+        Reader::Named(reading) => bound_by_name(*reading, any, bytes),
+        Reader::Local => bound_by_form(Reading::Local(assumptions.offset), bytes),
+        Reader::Spelled(spelling) => bound_by_spelling(*spelling, any, bytes),
+        Reader::Format(format) => bound_by_format(format, bytes),
+        Reader::Yearless(format) => bound_by_format(format, bytes),
     }
 }
 
@@ -102,21 +104,6 @@ fn bound_by_form(reading: Reading, bytes: &[u8]) -> usize
             ParseError::UnexpectedByte(at) | ParseError::UnexpectedEnd(at) => at,
             ParseError::OutOfRange(_component) => bytes.len(),
         },
-    }
-}
-
-/// Returns the bound for texts in a form without a name.
-fn bound_by_unnamed(reader: &Reader, any: usize, bytes: &[u8]) -> usize
-    requires { Bounds (HasFormIn Reading.Any) bytes.now any }
-    ensures within { result ≤ length bytes.now }
-    ensures text { (assumptions : Assumptions) (n : ℕ) (found : DateOrMoment) → n ≤ length bytes.now
-        → IsTextBy assumptions reader.now (take n bytes.now) found → n ≤ result }
-{
-    match reader {
-        Reader::Spelled(spelling) => bound_by_spelling(*spelling, any, bytes),
-        Reader::Format(format) => bound_by_format(format, bytes),
-        Reader::Yearless(format) => bound_by_format(format, bytes),
-        Reader::Named(_) | Reader::Local => bytes.len(),
     }
 }
 
@@ -149,9 +136,8 @@ fn bound_by_items(format: &Format, bytes: &[u8]) -> usize
 fn bound_by_spelling(spelling: Spelling, any: usize, bytes: &[u8]) -> usize
     requires { Bounds (HasFormIn Reading.Any) bytes.now any }
     ensures within { result ≤ length bytes.now }
-    ensures text { (n : ℕ) (found : DateOrMoment) → n ≤ length bytes.now
-        → IsSomeAnd (full_by spelling (take n bytes.now)) (λ full. IsTextOf full found)
-        → n ≤ result }
+    ensures form { (n : ℕ) → n ≤ length bytes.now
+        → IsSomeAnd (full_by spelling (take n bytes.now)) HasAnyForm → n ≤ result }
 {
     match spelling {
         Spelling::Iso => bound_by_iso(any, bytes),
@@ -163,9 +149,8 @@ fn bound_by_spelling(spelling: Spelling, any: usize, bytes: &[u8]) -> usize
 fn bound_by_iso(any: usize, bytes: &[u8]) -> usize
     requires { Bounds (HasFormIn Reading.Any) bytes.now any }
     ensures within { result ≤ length bytes.now }
-    ensures text { (n : ℕ) (found : DateOrMoment) → n ≤ length bytes.now
-        → IsSomeAnd (full_by Spelling.Iso (take n bytes.now)) (λ full. IsTextOf full found)
-        → n ≤ result }
+    ensures form { (n : ℕ) → n ≤ length bytes.now
+        → IsSomeAnd (full_by Spelling.Iso (take n bytes.now)) HasAnyForm → n ≤ result }
 {
     if any < UNCHANGED {
         return any;
@@ -181,9 +166,8 @@ fn bound_by_iso(any: usize, bytes: &[u8]) -> usize
 /// Returns the bound for texts of seconds, which may lack the `@` of the six forms.
 fn bound_by_seconds(bytes: &[u8]) -> usize
     ensures within { result ≤ length bytes.now }
-    ensures text { (n : ℕ) (found : DateOrMoment) → n ≤ length bytes.now
-        → IsSomeAnd (full_by Spelling.Seconds (take n bytes.now)) (λ full. IsTextOf full found)
-        → n ≤ result }
+    ensures form { (n : ℕ) → n ≤ length bytes.now
+        → IsSomeAnd (full_by Spelling.Seconds (take n bytes.now)) HasAnyForm → n ≤ result }
 {
     let front = &bytes[..bytes.len().min(LONGEST)];
     let full = unix_text(front);

@@ -5,9 +5,8 @@ ghost use Rattle.cal_format.specs.Moment.{width};
 ghost use Rattle.cal_text.specs.Shape.{Shape, unmatched_bytes};
 ghost use Rattle.cal_text.specs.declared.any.DateOrMoment.{DateOrMoment};
 ghost use Rattle.caldate_lines.specs.declared.no_answer.NoAnswer.{NoAnswer};
-ghost use Rattle.caldate_answers.specs.Readers.{IsFormatText, IsFoundBy, IsTextBy, IsUnread, named};
-ghost use Rattle.caldate_answers.specs.Scans.{StartWithDigits, StartsWithDigits, has_form, starts_with_digits};
-ghost use Rattle.caldate_answers.specs.declared.reading.Reading.{Reading};
+ghost use Rattle.caldate_answers.specs.Readers.{IsFormatText, IsFoundBy, IsTextBy, IsUnread, IsUnreadBy, has_form};
+ghost use Rattle.caldate_answers.specs.Scans.{StartWithDigits, StartsWithDigits, starts_with_digits};
 ghost use Rattle.caldate_answers.specs.declared.reading.reader.Assumptions.{Assumptions};
 
 use crate::reading::reader::Reader;
@@ -64,8 +63,9 @@ fn are_digits(readers: &[Reader]) -> bool
 fn has_digits_first(reader: &Reader) -> bool
     ensures text { result ≡ true → (assumptions : Assumptions) (bytes : List ℕ) (found : DateOrMoment)
         → IsTextBy assumptions reader.now bytes found → StartsWithDigits bytes }
-    ensures form { result ≡ true → (assumptions : Assumptions) (reading : Reading)
-        → ¬ (named assumptions reader.now ≡ Some reading) }
+    ensures rejected { result ≡ true → (assumptions : Assumptions) (bytes : List ℕ) (why : NoAnswer)
+        → IsUnreadBy assumptions reader.now bytes why → has_form why ≡ true
+        → StartsWithDigits bytes }
 {
     match reader {
         Reader::Format(format) => is_number_first(format),

@@ -2,10 +2,8 @@
 ghost use Rattle.std.specs.Prelude.{◌≡◌, ◌<◌, ◌≤◌, ℕ, List, Some, drop, false, length, slice_index, true};
 ghost use Rattle.cal_text.specs.declared.any.DateOrMoment.{DateOrMoment};
 ghost use Rattle.caldate_lines.specs.declared.no_answer.NoAnswer.{NoAnswer};
-ghost use Rattle.caldate_answers.specs.Readers.{IsFoundBy, IsTextBy, IsUnread, named};
-ghost use Rattle.caldate_answers.specs.Readings.{HasFormIn};
-ghost use Rattle.caldate_answers.specs.Scans.{AreUsual, IsUsual, are_digits, has_form, has_short_year, is_digit_or_hyphen, is_last, is_mark, is_usual_end, is_usual_start};
-ghost use Rattle.caldate_answers.specs.declared.reading.Reading.{Reading};
+ghost use Rattle.caldate_answers.specs.Readers.{IsFoundBy, IsTextBy, IsUnread, IsUnreadBy, has_form};
+ghost use Rattle.caldate_answers.specs.Scans.{AreUsual, IsUsual, are_digits, has_short_year, is_digit_or_hyphen, is_last, is_mark, is_usual_end, is_usual_start};
 ghost use Rattle.caldate_answers.specs.declared.reading.reader.Assumptions.{Assumptions};
 
 use crate::reading::Reading;
@@ -147,8 +145,8 @@ fn is_usual(reader: &Reader) -> bool
     ensures text { result ≡ true → (assumptions : Assumptions) (bytes : List ℕ) (found : DateOrMoment)
         → 0 < length bytes → IsTextBy assumptions reader.now bytes found
         → IsUsual bytes }
-    ensures form { result ≡ true → (assumptions : Assumptions) (bytes : List ℕ) (reading : Reading)
-        → 0 < length bytes → named assumptions reader.now ≡ Some reading → HasFormIn reading bytes
+    ensures rejected { result ≡ true → (assumptions : Assumptions) (bytes : List ℕ) (why : NoAnswer)
+        → 0 < length bytes → IsUnreadBy assumptions reader.now bytes why → has_form why ≡ true
         → IsUsual bytes }
 {
     match reader {

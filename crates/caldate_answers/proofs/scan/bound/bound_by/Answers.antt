@@ -1,22 +1,73 @@
-use Rattle.std.proofs.Common.{◌∙◌, subst, sym, take}
-use Rattle.std.proofs.lemmas.Option.{none-some, same_Some}
+use Rattle.std.proofs.Common.{[], ◌++◌, ◌∙◌, ap, append-nil, append_assoc, subst, sym, take}
+use Rattle.std.proofs.lemmas.Bool.{false≢true}
+use Rattle.std.specs.Prelude.{codes}
+use Rattle.caldate_answers.specs.Readers.{IsFormatText, IsTextBy, IsUnreadBy, has_form}
 use Rattle.caldate_answers.specs.Readings.{HasFormIn}
-use Rattle.caldate_answers.proofs.FirstForms.{text_in}
-use Rattle.caldate_answers.proofs.TextBounds.{form_within, text_form}
+use Rattle.caldate_answers.specs.Spellings.{full_by}
+use Rattle.caldate_answers.specs.declared.reading.Reading.TheVariants.{Local}
+use Rattle.caldate_answers.proofs.TextBounds.{form_within, rejected_form, spelled_form, text_form, unspelled_form}
 use Rattle.caldate_answers.proofs.scan.bound.bound_by.Goals as goal
 
-pub returns-in-Some-clause-text : goal.returns-in-Some-clause-text
-returns-in-Some-clause-text c = λ n found fits h.
+pub returns-in-Named-clause-text : goal.returns-in-Named-clause-text
+returns-in-Named-clause-text c = λ n found fits h.
     let text = take n c.args.bytes.now in
-    let reading = c.in-Some.reading in
-    form_within (HasFormIn reading) c.args.bytes.now c.bound_by_name.result n c.bound_by_name.ensures fits
-    (text_form reading text found (text_in c.args.assumptions.now c.args.reader.now reading text found (sym c.named.ensures ∙ c.in-Some.is) h))
+    let reading = c.in-Named.reading in
+    let is = subst (λ r. IsTextBy c.args.assumptions.now r text found) c.in-Named.is h in
+    form_within (HasFormIn reading) c.args.bytes.now c.bound_by_name.result n c.bound_by_name.ensures fits (text_form reading text found is)
 
-pub returns-in-Some-clause-form : goal.returns-in-Some-clause-form
-returns-in-Some-clause-form c = λ n form fits is h.
-    let reading = c.in-Some.reading in
-    let same = same_Some form reading (sym is ∙ sym c.named.ensures ∙ c.in-Some.is) in
-    form_within (HasFormIn reading) c.args.bytes.now c.bound_by_name.result n c.bound_by_name.ensures fits (subst (λ r. HasFormIn r (take n c.args.bytes.now)) same h)
+pub returns-in-Named-clause-rejected : goal.returns-in-Named-clause-rejected
+returns-in-Named-clause-rejected c = λ n any fits h e.
+    let text = take n c.args.bytes.now in
+    let reading = c.in-Named.reading in
+    let is = subst (λ r. IsUnreadBy c.args.assumptions.now r text any) c.in-Named.is h in
+    form_within (HasFormIn reading) c.args.bytes.now c.bound_by_name.result n c.bound_by_name.ensures fits (rejected_form reading text any is e)
 
-pub returns-in-None-clause-form : goal.returns-in-None-clause-form
-returns-in-None-clause-form c = λ n form fits is h. absurd (none-some form (sym c.in-None.is ∙ c.named.ensures ∙ is))
+pub returns-in-Local-clause-text : goal.returns-in-Local-clause-text
+returns-in-Local-clause-text c = λ n found fits h.
+    let text = take n c.args.bytes.now in
+    let reading = Local c.args.assumptions.now.offset in
+    let is = subst (λ r. IsTextBy c.args.assumptions.now r text found) c.in-Local.is h in
+    form_within (HasFormIn reading) c.args.bytes.now c.bound_by_form.result n c.bound_by_form.ensures fits (text_form reading text found is)
+
+pub returns-in-Local-clause-rejected : goal.returns-in-Local-clause-rejected
+returns-in-Local-clause-rejected c = λ n any fits h e.
+    let text = take n c.args.bytes.now in
+    let reading = Local c.args.assumptions.now.offset in
+    let is = subst (λ r. IsUnreadBy c.args.assumptions.now r text any) c.in-Local.is h in
+    form_within (HasFormIn reading) c.args.bytes.now c.bound_by_form.result n c.bound_by_form.ensures fits (rejected_form reading text any is e)
+
+pub returns-in-Spelled-clause-text : goal.returns-in-Spelled-clause-text
+returns-in-Spelled-clause-text c = λ n found fits h.
+    let text = take n c.args.bytes.now in
+    let is = subst (λ r. IsTextBy c.args.assumptions.now r text found) c.in-Spelled.is h in
+    c.bound_by_spelling.ensures.form n fits (spelled_form (full_by c.in-Spelled.spelling text) found is)
+
+pub returns-in-Spelled-clause-rejected : goal.returns-in-Spelled-clause-rejected
+returns-in-Spelled-clause-rejected c = λ n any fits h e.
+    let text = take n c.args.bytes.now in
+    let is = subst (λ r. IsUnreadBy c.args.assumptions.now r text any) c.in-Spelled.is h in
+    c.bound_by_spelling.ensures.form n fits (unspelled_form c.in-Spelled.spelling text any is e)
+
+pub returns-in-Format-clause-text : goal.returns-in-Format-clause-text
+returns-in-Format-clause-text c = λ n found fits h.
+    let text = take n c.args.bytes.now in
+    let assumptions = c.args.assumptions.now in
+    let is = subst (λ r. IsTextBy assumptions r text found) c.in-Format.is h in
+    c.bound_by_format.ensures.front assumptions.offset n [] found fits (subst (λ t. IsFormatText assumptions.offset c.in-Format.format t found) (sym (append-nil text)) is)
+
+pub returns-in-Format-clause-rejected : goal.returns-in-Format-clause-rejected
+returns-in-Format-clause-rejected c = λ n any fits h e.
+    absurd (false≢true (sym (ap has_form (subst (λ r. IsUnreadBy c.args.assumptions.now r (take n c.args.bytes.now) any) c.in-Format.is h)) ∙ e))
+
+pub returns-in-Yearless-clause-text : goal.returns-in-Yearless-clause-text
+returns-in-Yearless-clause-text c = λ n found fits h.
+    let text = take n c.args.bytes.now in
+    let assumptions = c.args.assumptions.now in
+    let is = subst (λ r. IsTextBy assumptions r text found) c.in-Yearless.is h in
+    let full = append_assoc text (codes " ") assumptions.year in
+    c.bound_by_format-in-Yearless.ensures.front assumptions.offset n (codes " " ++ assumptions.year) found fits
+    (subst (λ t. IsFormatText assumptions.offset c.in-Yearless.format t found) full is.text_is)
+
+pub returns-in-Yearless-clause-rejected : goal.returns-in-Yearless-clause-rejected
+returns-in-Yearless-clause-rejected c = λ n any fits h e.
+    absurd (false≢true (sym (ap has_form (subst (λ r. IsUnreadBy c.args.assumptions.now r (take n c.args.bytes.now) any) c.in-Yearless.is h)) ∙ e))

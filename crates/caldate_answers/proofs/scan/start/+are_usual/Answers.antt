@@ -2,7 +2,7 @@ use Rattle.std.proofs.Common.{◌∙◌, ◌∷◌, ap, inl, inr, subst, sym}
 use Rattle.caldate_answers.specs.Readers.{IsFoundBy, IsUnread}
 use Rattle.caldate_answers.specs.Scans.{IsUsual}
 use Rattle.caldate_answers.proofs.FirstForms.{others_of, parts}
-use Rattle.caldate_answers.proofs.TextBounds.{rejected_first}
+use Rattle.caldate_answers.proofs.TextBounds.{rejected_by}
 use Rattle.caldate_answers.proofs.scan.start.+are_usual.Goals as goal
 
 pub returns-then-is_usual-clause-found : goal.returns-then-is_usual-clause-found
@@ -18,5 +18,5 @@ pub returns-then-is_usual-clause-rejected : goal.returns-then-is_usual-clause-re
 returns-then-is_usual-clause-rejected t c = λ on assumptions bytes any some h e.
     let readers = c.args.readers.now in
     let whole = parts readers c.first-item.result c.in-len1-up.len_at_least ∙ ap (λ r. r ∷ others_of readers) (sym c.first-item.is) in
-    rejected_first assumptions c.first-item.result (others_of readers) bytes any (λ form is has. c.is_usual.ensures.form c.if-is_usual.true assumptions bytes form some is has)
-    (subst (λ rs. IsUnread assumptions rs bytes any) whole h) e
+    rejected_by assumptions c.first-item.result (others_of readers) bytes any (λ own is has. c.is_usual.ensures.rejected c.if-is_usual.true assumptions bytes own some is has)
+    (λ later is has. c.are_usual.ensures.rejected on assumptions bytes later some is has) (subst (λ rs. IsUnread assumptions rs bytes any) whole h) e

@@ -1,7 +1,7 @@
 use Rattle.std.proofs.Common.{◌∙◌, ap, Err, Ok, subst, sym}
 use Rattle.caldate_answers.specs.Readers.{IsUnreadIn}
 use Rattle.caldate_answers.proofs.Lacks.{is_unread, lacks_only}
-use Rattle.caldate_answers.proofs.reading.readers.read_named.Goals as goal
+use Rattle.caldate_answers.proofs.reading.reader.read_named.Goals as goal
 
 pub returns-in-Ok-clause-every_error : goal.returns-in-Ok-clause-every_error
 returns-in-Ok-clause-every_error c = λ any h.
