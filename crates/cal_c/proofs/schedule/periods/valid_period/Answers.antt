@@ -1,8 +1,13 @@
+use Rattle.std.proofs.Common.{FitsSigned, w32, rules}
 use Rattle.std.proofs.Math.Facts.{to_z-of_z}
 use Rattle.cal_c.proofs.Periods.{period_is}
 use Rattle.cal_c.proofs.schedule.periods.valid_period.Goals as goal
 
 pub returns : goal.returns
 returns c =
+    let years : FitsSigned w32 c.args.period.years = search rules in
+    let months : FitsSigned w32 c.args.period.months = search rules in
+    let weeks : FitsSigned w32 c.args.period.weeks = search rules in
+    let days : FitsSigned w32 c.args.period.days = search rules in
     let its = c.in_ok-duration.ensures in
-    period_is c.args.period c.in_ok-duration.duration c.new.result its.0 its.1 c.new.ensures
+    period_is c.args.period c.in_ok-duration.duration c.new.result its.0 its.1 (simp to_z-of_z at c.new.ensures)
