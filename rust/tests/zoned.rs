@@ -112,6 +112,21 @@ fn periods_between_local_date_times() {
     }
 }
 
+/// The documentation of `until` of Temporal, for `PlainDate` and `PlainDateTime`.
+#[test]
+fn periods_of_the_documentation() {
+    let (from, to) = (reading("1995-12-07 3:24:30.0000035"), reading("2019-01-31 15:30:00"));
+    let rest = SignedDuration::seconds(12 * 3600 + 5 * 60 + 29) + SignedDuration::nanoseconds(999_996_500);
+    for (unit, years, months, days) in [(CalendarUnit::Day, 0, 0, 8456), (CalendarUnit::Year, 23, 1, 24)] {
+        assert_eq!(Some(from.period_until(to, unit)), Period::new(years, months, 0, days, rest));
+    }
+    assert_eq!(Some(to.period_until(from, CalendarUnit::Year)), Period::new(-23, -1, 0, -24, -rest));
+    let date = |text: &str| text.parse::<Date>().unwrap();
+    for (unit, wanted) in [(CalendarUnit::Day, period(0, 0, 0, 4543, 0)), (CalendarUnit::Year, period(12, 5, 0, 7, 0))] {
+        assert_eq!(date("2006-08-24").period_until_by(date("2019-01-31"), unit), wanted);
+    }
+}
+
 #[test]
 fn periods_keep_the_clock() {
     let berlin = Zone::parse_posix(CET).unwrap();
