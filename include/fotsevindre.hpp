@@ -412,6 +412,14 @@ struct YearFraction {
     std::uint32_t denominator;
 };
 
+enum class CalendarUnit : std::uint32_t {
+    Day = FOTS_DAY,
+    Week = FOTS_WEEK,
+    Month = FOTS_MONTH,
+    Quarter = FOTS_QUARTER,
+    Year = FOTS_YEAR
+};
+
 enum class DayCount : std::uint32_t {
     Actual360 = FOTS_ACTUAL_360,
     Actual365Fixed = FOTS_ACTUAL_365_FIXED,
@@ -504,10 +512,16 @@ public:
     std::optional<Date> nth_period(const Period &period, std::int32_t n) const { return if_any(fots_date_nth_period(value_, period.c(), n)); }
     std::int32_t months_until(Date other) const { return detail::value_or_throw(fots_date_months_until(value_, other.value_)).number; }
     std::int32_t years_until(Date other) const { return detail::value_or_throw(fots_date_years_until(value_, other.value_)).number; }
-    Period period_until(Date other) const
+    // The step that a date is in, or none if it is before this date, or if the period has a duration or isn't positive.
+    std::optional<std::int32_t> step_of(const Period &period, Date date) const
     {
-        const fots_period_result found = detail::value_or_throw(fots_date_period_until(value_, other.value_));
-        return {found.years, found.months, 0, found.days};
+        const fots_number_result found = fots_date_step_of(value_, period.c(), date.value_);
+        return found.status == FOTS_OK ? std::optional<std::int32_t>(found.number) : std::nullopt;
+    }
+    Period period_until(Date other) const { return period_of(fots_date_period_until(value_, other.value_)); }
+    Period period_until_by(Date other, CalendarUnit unit) const
+    {
+        return period_of(fots_date_period_until_by(value_, other.value_, static_cast<std::uint32_t>(unit)));
     }
     YearFraction day_count(Date other, DayCount convention) const
     {
@@ -590,6 +604,11 @@ private:
     static constexpr std::int32_t unix_epoch = 2440588;
 
     static Date from(fots_date_result result) { return Date(detail::value_or_throw(result).date, {}); }
+    static Period period_of(const fots_period_result &result)
+    {
+        const fots_period_result found = detail::value_or_throw(result);
+        return {found.years, found.months, found.weeks, found.days};
+    }
 
     fots_date value_;
 };

@@ -179,6 +179,10 @@ void schedule()
     const Date born = Date::parse("1980-06-01");
     check(born.years_until(Date::parse("2024-05-31")) == 43 && born.years_until(Date::parse("2024-06-01")) == 44, "an age");
     check(end.months_until(leap) == 1 && end.period_until(Date::parse("2025-03-02")) == Period(1, 1, 0, 2), "months, and a period");
+    check(end.period_until_by(Date::parse("2025-03-02"), CalendarUnit::Month) == Period(0, 13, 0, 2)
+        && end.period_until_by(Date::parse("2025-03-02"), CalendarUnit::Week) == Period(0, 0, 56, 4), "a period by a unit");
+    check(end.step_of(Period::from_months(1), leap) == 1 && end.step_of(Period::from_months(1), born) == std::nullopt
+        && end.step_of(Period::from_days(0), leap) == std::nullopt, "the step of a date");
     check(leap.first_of_month() == Date::parse("2024-02-01") && leap.last_of_month() == leap, "the ends of the month");
     check(leap.first_of_quarter() == Date::parse("2024-01-01") && leap.last_of_quarter() == Date::parse("2024-03-31")
         && leap.quarter() == 1, "the quarter");

@@ -297,7 +297,8 @@ class ZonedDateTime:
 
     def to_datetime(self) -> datetime.datetime:
         """Converts to a `datetime.datetime` with the `zoneinfo.ZoneInfo` of the key of the zone, or
-        raises `LookupError` without one; other errors like `OffsetDateTime.to_datetime`."""
+        raises its errors, such as `LookupError` for a POSIX text, and those of
+        `OffsetDateTime.to_datetime`."""
         return self._moment.to_datetime().astimezone(zoneinfo.ZoneInfo(self.zone.key))
 
     def to_offset_date_time(self) -> OffsetDateTime:
