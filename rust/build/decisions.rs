@@ -104,6 +104,7 @@ const HIDDEN: &[(&str, &[&str])] = &[
     ("Rule", &["from_changes", "single_after"]),
     ("UncheckedZone", &["single_in_table", "instants_of", "instants_near_change"]),
     ("Zone", &["from_parts", "instants_of"]),
+    ("WeekdayMarks", &["nth_marked"]),
     ("", &["julian_kernel", "date_of_kernel", "to_date", "to_calendar_date", "to_iso_week_date", "days_since_monday"]),
     ("", &["nth_next_occurrence", "nth_prev_occurrence", "month_number_and_day", "clamped_date_in_month"]),
     ("", &["stays", "in_order", "not_past", "one_more", "months_round_trip"]),

@@ -21,7 +21,7 @@ pub marked-is : (marks : List Bool) (n : ℕ) → is_marked marks n ≡ get_or m
 unfolding is_marked
 marked-is marks n = ap (λ day. get_or marks day false) (weekday_at-is n)
 
-pub marked-period : (marks : List Bool) (n : ℕ) → is_marked marks (n + 7) ≡ is_marked marks n
+marked-period : (marks : List Bool) (n : ℕ) → is_marked marks (n + 7) ≡ is_marked marks n
 marked-period marks n =
     let same : (n + 7) % 7 ≡ n % 7 = omega arith in
     marked-is marks (n + 7) ∙ ap (λ day. get_or marks day false) same ∙ sym (marked-is marks n)
@@ -32,13 +32,13 @@ marked-weeks_on marks q r =
     marked-is marks (q * 7 + r) ∙ ap (λ day. get_or marks day false) same ∙ sym (marked-is marks r)
 
 -- The marked days before a day are the marked days of the whole weeks and of the rest.
-pub marked-weeks : (marks : List Bool) (n : ℕ) → count_before (is_marked marks) n ≡ n / 7 * count_before (is_marked marks) 7 + count_before (is_marked marks) (n % 7)
+marked-weeks : (marks : List Bool) (n : ℕ) → count_before (is_marked marks) n ≡ n / 7 * count_before (is_marked marks) 7 + count_before (is_marked marks) (n % 7)
 marked-weeks marks n =
     let e : n ≡ n / 7 * 7 + n % 7 = omega arith in
     ap (count_before (is_marked marks)) e ∙ count-weeks (is_marked marks) (marked-period marks) (n / 7) (n % 7)
 
 -- the marked day of that rank
-pub marked-nth : (marks : List Bool) (q r y : ℕ) → is_marked marks y ≡ true → count_before (is_marked marks) y ≡ r
+marked-nth : (marks : List Bool) (q r y : ℕ) → is_marked marks y ≡ true → count_before (is_marked marks) y ≡ r
     → (is_marked marks (q * 7 + y) ≡ true) × (count_before (is_marked marks) (q * 7 + y) ≡ q * count_before (is_marked marks) 7 + r)
 marked-nth marks q r y on e =
     (marked-weeks_on marks q y ∙ on, count-weeks (is_marked marks) (marked-period marks) q y ∙ ap (λ k. q * count_before (is_marked marks) 7 + k) e)
@@ -101,17 +101,32 @@ rises days h i (suc j) less low =
       | inr most ↦ let e : i ≡ j = omega arith in omega (arith, next-rises days h j low, ap (λ k. get_or days k 0) e)
     ]
 
+-- the halves of a search for an index
+pub low-more : (days : List ℕ) → Rises days → (m n : ℕ) → m < length days → get_or days m 0 < n → (j : ℕ) → j < m + 1 → get_or days j 0 < n
+low-more days r m n low h j less =
+    elim (cases_lt j m) as (λ _. get_or days j 0 < n) [
+      | inl before ↦ omega (arith, r j m before low)
+      | inr most ↦ let same : j ≡ m = omega arith in omega (arith, ap (λ k. get_or days k 0) same)
+    ]
+
+pub high-less : (days : List ℕ) → Rises days → (m n : ℕ) → n ≤ get_or days m 0 → (j : ℕ) → m ≤ j → j < length days → n ≤ get_or days j 0
+high-less days r m n h j most low =
+    elim (cases_lt m j) as (λ _. n ≤ get_or days j 0) [
+      | inl before ↦ omega (arith, r m j before low)
+      | inr least ↦ let same : m ≡ j = omega arith in omega (arith, ap (λ k. get_or days k 0) same)
+    ]
+
 -- each comes at its index or later
 pub index-most : (days : List ℕ) → Rises days → (i : ℕ) → i < length days → i ≤ get_or days i 0
 index-most days r zero h = omega arith
 index-most days r (suc i) h = omega (arith, index-most days r i (omega arith), r i (suc i) (omega arith) h)
 
 -- A day is a holiday if one of the list has its number.
-pub holiday-at : (w : WorkWeek) (n i : ℕ) → i < length w.holidays → get_or w.holidays i 0 ≡ n → is_holiday w n ≡ true
+holiday-at : (w : WorkWeek) (n i : ℕ) → i < length w.holidays → get_or w.holidays i 0 ≡ n → is_holiday w n ≡ true
 unfolding is_holiday
 holiday-at w n i h e = list_any_at (λ day. day == n) w.holidays i 0 h (eq-eqb _ _ e)
 
-pub holiday-none : (w : WorkWeek) (n : ℕ) → ((i : ℕ) → i < length w.holidays → get_or w.holidays i 0 ≡ n → ⊥) → is_holiday w n ≡ false
+holiday-none : (w : WorkWeek) (n : ℕ) → ((i : ℕ) → i < length w.holidays → get_or w.holidays i 0 ≡ n → ⊥) → is_holiday w n ≡ false
 unfolding is_holiday
 holiday-none w n none =
     list_any_none (λ day. day == n) w.holidays (λ i d h. ne_eqb _ _ (λ e. none i h (get_or_default w.holidays i 0 d h ∙ e)))
@@ -128,7 +143,7 @@ workday-holiday w n k =
       | inr h ↦ rw h refl
     ]
 
-pub workday-unmarked : (w : WorkWeek) (n : ℕ) → is_marked w.marks n ≡ false → is_workday w n ≡ false
+workday-unmarked : (w : WorkWeek) (n : ℕ) → is_marked w.marks n ≡ false → is_workday w n ≡ false
 unfolding is_workday
 workday-unmarked w n h = rw h refl
 
@@ -165,18 +180,8 @@ split-held : (w : WorkWeek) → Rises w.holidays → (i n : ℕ) → IsSplit w.h
 split-held w r i n s e = record {
   most = omega (arith, s.most);
   before = λ j h. omega (arith, r j i h (omega (arith, s.most)));
-  after = λ j low high. elim (cases_lt i j) as (λ _. n ≤ get_or w.holidays j 0) [
-    | inl less ↦ omega (arith, s.after j less high)
-    | inr most ↦ let same : i ≡ j = omega arith in omega (arith, ap (λ k. get_or w.holidays k 0) same)
-  ];
+  after = high-less w.holidays r i n (omega arith);
 }
-
-pub before-last : (w : WorkWeek) → Rises w.holidays → (i n : ℕ) → i < length w.holidays → get_or w.holidays i 0 < n → (j : ℕ) → j < suc i → get_or w.holidays j 0 < n
-before-last w r i n low h j less =
-    elim (cases_lt j i) as (λ _. get_or w.holidays j 0 < n) [
-      | inl before ↦ omega (arith, r j i before low)
-      | inr most ↦ let same : j ≡ i = omega arith in omega (arith, ap (λ k. get_or w.holidays k 0) same)
-    ]
 
 -- The marked days before a day that are not working days are the marked holidays before it.
 pub ranks : (w : WorkWeek) → Rises w.holidays → (i n : ℕ) → IsSplit w.holidays i n → count_before (is_workday w) n + marked_count w i ≡ count_before (is_marked w.marks) n
@@ -190,7 +195,7 @@ ranks w r (suc i) (suc n) s =
     let last : get_or w.holidays i 0 ≤ n = omega (arith, s.before i (omega arith)) in
     elim (cases_lt (get_or w.holidays i 0) n) as (λ _. count_before (is_workday w) (suc n) + marked_count w (suc i) ≡ count_before (is_marked w.marks) (suc n)) [
       | inl less ↦
-          let all = before-last w r i n low less in
+          let all : (j : ℕ) → j < suc i → get_or w.holidays j 0 < n = λ j h. low-more w.holidays r i n low less j (omega arith) in
           more-free w n (marked_count w (suc i)) (free-before w (suc i) n s all) (ranks w r (suc i) n (split-free w (suc i) n s all))
       | inr most ↦
           let e : get_or w.holidays i 0 ≡ n = omega arith in
@@ -212,21 +217,6 @@ pub held-next : (w : WorkWeek) (i : ℕ) (b : Bool) (k : ℕ) → i < length w.h
     → marked_count w (i + 1) ≡ marked_count w i + k
 held-next w i true k h e f = let one : k ≡ 1 = f in omega (arith, count_by_more_yes (is_marked w.marks) w.holidays i 0 h (sym e))
 held-next w i false k h e f = let none : k ≡ 0 = f in omega (arith, count_by_more_no (is_marked w.marks) w.holidays i 0 h (sym e))
-
--- the halves of a search for an index
-pub low-more : (days : List ℕ) → Rises days → (m n : ℕ) → m < length days → get_or days m 0 < n → (j : ℕ) → j < m + 1 → get_or days j 0 < n
-low-more days r m n low h j less =
-    elim (cases_lt j m) as (λ _. get_or days j 0 < n) [
-      | inl before ↦ omega (arith, r j m before low)
-      | inr most ↦ let same : j ≡ m = omega arith in omega (arith, ap (λ k. get_or days k 0) same)
-    ]
-
-pub high-less : (days : List ℕ) → Rises days → (m n : ℕ) → n ≤ get_or days m 0 → (j : ℕ) → m ≤ j → j < length days → n ≤ get_or days j 0
-high-less days r m n h j most low =
-    elim (cases_lt m j) as (λ _. n ≤ get_or days j 0) [
-      | inl before ↦ omega (arith, r m j before low)
-      | inr least ↦ let same : m ≡ j = omega arith in omega (arith, ap (λ k. get_or days k 0) same)
-    ]
 
 -- whether a day is a holiday: by the first one that does not come before it
 pub holiday-is : (w : WorkWeek) → Rises w.holidays → (i n : ℕ) → IsSplit w.holidays i n → i < length w.holidays → (get_or w.holidays i 0 == n) ≡ is_holiday w n

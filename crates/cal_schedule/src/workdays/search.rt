@@ -7,7 +7,7 @@ ghost use Rattle.cal_schedule.specs.Workdays.{is_holiday, is_workday, workdays_f
 ghost use Rattle.cal_schedule.specs.WorkdaysSplit.{IsMarkedBefore, IsSplit};
 
 use crate::workdays::{WeekdayMarks, Workdays};
-use cal_date::day_number::to_date;
+use cal_date::day_number::{day_number, to_date};
 use cal_time::Date;
 
 impl Workdays<'_> {
@@ -16,16 +16,8 @@ impl Workdays<'_> {
         ensures split { IsSplit self.now.holidays result day }
         ensures rising { IsRising julian_day_at self.now.holidays }
     {
-        let (mut low, mut high) = (0, self.holiday_count());
-        while low < high {
-            let middle = low + (high - low) / 2;
-            if self.holiday(middle) < day {
-                low = middle + 1;
-            } else {
-                high = middle;
-            }
-        }
-        low
+        self.holidays
+            .partition_point(|holiday| day_number(*holiday) < day)
     }
 
     /// Returns `true` if a day is a holiday.
