@@ -14,7 +14,7 @@ use cal_datetime::{OffsetDateTime, PlainDateTime};
 use cal_format::Format;
 use cal_text::DateOrMoment;
 use cal_time::{Date, Month, Time, UtcOffset};
-use cal_zone::Zone;
+use cal_zone::{Policy, Zone};
 use caldate_answers::reading::reader::Reader;
 use caldate_answers::reading::value_format::ValueFormat;
 use caldate_answers::reading::{DateOrder, Reading};
@@ -206,13 +206,7 @@ fn filter_text(filter: &Filter<'_>) -> String {
     parts.push(format!("offset={}", filter.assumptions.offset.whole_seconds()));
     parts.push(format!("year={}", String::from_utf8_lossy(&filter.assumptions.year)));
     if let Some(clock) = &filter.clock {
-        let policy = match clock.policy {
-            Policy::Compatible => "compatible",
-            Policy::Earlier => "earlier",
-            Policy::Later => "later",
-            Policy::Reject => "reject",
-        };
-        parts.push(format!("zone={} {policy}", zone_text(&clock.zone)));
+        parts.push(format!("zone={} {}", zone_text(&clock.zone), policy_name(clock.policy)));
     }
     let Some(first) = Date::from_calendar_date(2024, Month::March, 25).ok() else {
         return "no date".into();
@@ -222,6 +216,15 @@ fn filter_text(filter: &Filter<'_>) -> String {
         filter.workdays.workdays_between(first, first.saturating_add(cal_time::SignedDuration::days(14)))
     ));
     parts.join(" ")
+}
+
+fn policy_name(policy: Policy) -> &'static str {
+    match policy {
+        Policy::Compatible => "compatible",
+        Policy::Earlier => "earlier",
+        Policy::Later => "later",
+        Policy::Reject => "reject",
+    }
 }
 
 fn field_text(filter: &Filter<'_>, field: Field) -> String {
@@ -312,9 +315,10 @@ fn request_text(request: &Request<'_>) -> String {
     match request {
         Request::To(form) => format!("to {}", form_name(*form)),
         Request::Print(format) => format!("print {}", printed(format)),
-        Request::Add(duration) => format!("add {}s", duration.whole_seconds()),
         Request::Move(by) => move_text(*by),
-        Request::Floor(minutes) => format!("floor {minutes}"),
+        Request::MoveAt(clock, by) => {
+            format!("at {} {} {}", zone_text(&clock.zone), policy_name(clock.policy), move_text(*by))
+        }
         Request::Until(target, unit) => format!("until {}", target_text(target, *unit)),
         Request::Since(target, unit) => format!("since {}", target_text(target, *unit)),
         Request::At(Place::Offset(offset)) => format!("at {}", offset.whole_seconds()),
@@ -345,7 +349,16 @@ fn form_name(form: Form) -> &'static str {
     }
 }
 
-fn move_text(by: DayMove) -> String {
+fn move_text(by: Move) -> String {
+    match by {
+        Move::Day(by) => day_move_text(by),
+        Move::Days(duration) => format!("add {}d", duration.whole_seconds()),
+        Move::Add(duration) => format!("add {}s", duration.whole_seconds()),
+        Move::Floor(minutes) => format!("floor {minutes}"),
+    }
+}
+
+fn day_move_text(by: DayMove) -> String {
     match by {
         DayMove::Next(weekday, count) => format!("next {weekday} {count}"),
         DayMove::Last(weekday, count) => format!("last {weekday} {count}"),

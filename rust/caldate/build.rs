@@ -20,6 +20,7 @@ fn main() -> ExitCode {
             "cal_text",
             "cal_format",
             "cal_zone",
+            "cal_zoned",
             "cal_tzif",
             "cal_recurrence",
             "caldate_lines",

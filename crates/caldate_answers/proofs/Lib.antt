@@ -1,4 +1,6 @@
 pub mod Appends
+pub mod ClockCounts
+pub mod ClockMoves
 pub mod DateShapes
 pub mod DigitBounds
 pub mod DigitStarts

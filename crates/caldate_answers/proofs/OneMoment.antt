@@ -7,11 +7,11 @@ use Rattle.cal_text.specs.declared.any.MomentForm.{MomentForm}
 use Rattle.cal_zone.specs.Local.{IsInRange, IsLocalOf, moved_back, moved_forward}
 use Rattle.cal_zone.specs.declared.local.Local.{Local}
 use Rattle.cal_zone.specs.declared.local.Local.TheVariants.{Single, Gap, Fold}
+use Rattle.cal_zone.specs.declared.policy.Policy.{Policy}
+use Rattle.cal_zone.specs.declared.policy.Policy.TheVariants.{Compatible, Earlier, Later, Reject}
 use Rattle.caldate_lines.specs.declared.no_answer.NoAnswer.{NoAnswer}
 use Rattle.caldate_answers.specs.Clocks.{IsByPolicy, IsOnClock, placed_as}
 use Rattle.caldate_answers.specs.declared.request.Clock.{Clock}
-use Rattle.caldate_answers.specs.declared.request.Policy.{Policy}
-use Rattle.caldate_answers.specs.declared.request.Policy.TheVariants.{Compatible, Earlier, Later, Reject}
 
 in_range-one : (m : LocalAndOffset) (r s : Option LocalAndOffset) → IsInRange m r → IsInRange m s → r ≡ s
 in_range-one m None None h k = refl

@@ -1,12 +1,11 @@
 -- The answer to the text of a line.
-use Rattle.std.specs.Prelude.{◌≡◌, ◌⊎◌, ℕ, ◌+◌, ◌-◌, ◌*◌, ◌%◌, max, ◌&&◌, Bool, true, false, not, ℤ, pos, ◌+ℤ◌, ◌-ℤ◌, List, Option, Some, None, is_some, Result, Ok, Err, if◌then◌else◌}
+use Rattle.std.specs.Prelude.{◌≡◌, ◌⊎◌, ℕ, ◌&&◌, Bool, true, false, not, ℤ, pos, ◌+ℤ◌, ◌-ℤ◌, List, Option, Some, None, is_some, Result, Ok, Err, if◌then◌else◌}
 use Rattle.std.specs.Fmt.{signed_decimal}
 use Rattle.std.specs.Option.{option_map_or}
 use Rattle.cal_time.specs.Date.{IsDate, julian_day_at}
 use Rattle.cal_time.specs.SignedDuration.{whole_days}
 use Rattle.cal_time.specs.SignedDuration as duration
-use Rattle.cal_time.specs.Time.{hour_of, minute_of}
-use Rattle.cal_datetime.specs.DateTime.{IsDateTime, date_at, date_time, time_at}
+use Rattle.cal_datetime.specs.DateTime.{IsDateTime, date_time}
 use Rattle.cal_datetime.specs.OffsetDateTime.{LocalAndOffset, instant, local_at, unix_seconds}
 use Rattle.cal_text.specs.declared.any.DateOrMoment.{DateOrMoment}
 use Rattle.cal_text.specs.declared.any.DateOrMoment.TheVariants as read
@@ -17,24 +16,27 @@ use Rattle.caldate_lines.specs.declared.no_answer.NoAnswer.{NoAnswer}
 use Rattle.caldate_lines.specs.declared.no_answer.NoAnswer.TheVariants as why
 use Rattle.caldate_answers.specs.Clocks.{IsPlaced}
 use Rattle.caldate_answers.specs.Counts.{IsCount}
+use Rattle.caldate_answers.specs.ClockCounts.{IsCountOn}
 use Rattle.caldate_answers.specs.Bounds.{lies_in}
 use Rattle.caldate_answers.specs.Forms.{IsInForm, format_text}
 pub use Rattle.caldate_answers.specs.Found.{day_of, form_read, is_date, moment_of}
+use Rattle.caldate_answers.specs.ClockMoves.{IsMovedOn}
+pub use Rattle.caldate_answers.specs.Moves.{floored, on_day}
 use Rattle.caldate_answers.specs.Moves.{MovesTo}
 use Rattle.caldate_answers.specs.Readers.{IsFoundBy, IsUnread}
+use Rattle.caldate_answers.specs.declared.request.Clock.{Clock}
 use Rattle.caldate_answers.specs.declared.request.DayMove.{DayMove}
 use Rattle.caldate_answers.specs.declared.request.Filter.{Filter}
+use Rattle.caldate_answers.specs.declared.request.Form.{Form}
 use Rattle.caldate_answers.specs.declared.request.Form.TheVariants.{Moment}
+use Rattle.caldate_answers.specs.declared.request.Move.{Move as AnyMove}
+use Rattle.caldate_answers.specs.declared.request.Move.TheVariants as move
 use Rattle.caldate_answers.specs.declared.request.Place.{Place}
 use Rattle.caldate_answers.specs.declared.request.Place.TheVariants as place
 use Rattle.caldate_answers.specs.declared.request.Request.{Request}
-use Rattle.caldate_answers.specs.declared.request.Request.TheVariants.{To, Print, Add, Move, Floor, Until, Since, At, Keep}
+use Rattle.caldate_answers.specs.declared.request.Request.TheVariants.{To, Print, Move, MoveAt, Until, Since, At, Keep}
 use Rattle.caldate_answers.specs.declared.request.Target.TheVariants as target
 use Rattle.caldate_answers.specs.declared.request.TimeUnit.{TimeUnit}
-
--- Moment m moves to day n and keeps its time of day and offset.
-abbrev pub on_day : LocalAndOffset → ℕ → LocalAndOffset
-on_day m n = record { local = date_time n (time_at m.local); offset = m.offset }
 
 -- A date moves by only the whole days of a duration, a moment by all of it.
 pub record IsDayLater (n : ℕ) (d : ℤ) (m : LocalAndOffset) : Type 0 where
@@ -77,28 +79,50 @@ abbrev pub IsAt : Place → LocalAndOffset → List ℕ → Type 0
 IsAt place from words = (m : LocalAndOffset) × IsShownAt (offset_in place from) from m × IsInForm (Moment Rfc3339) m words
 
 -- The words are the moved day in the form that was read, at the same time of day.
-abbrev pub IsMoved : WorkWeek → DayMove → DateOrMoment → List ℕ → Type 0
-IsMoved workdays by found words = (n : ℕ) × MovesTo workdays by (day_of found) n × IsInForm (form_read found) (on_day (moment_of found) n) words
+abbrev pub IsOnMovedDay : WorkWeek → DayMove → DateOrMoment → List ℕ → Type 0
+IsOnMovedDay workdays by found words = (n : ℕ) × MovesTo workdays by (day_of found) n × IsInForm (form_read found) (on_day (moment_of found) n) words
 
--- The time of day is rounded down to a multiple of n minutes after midnight, or of 1 minute for 0.
-abbrev pub floored : ℕ → LocalAndOffset → LocalAndOffset
-floored n m =
-    let minutes = hour_of (time_at m.local) * 60 + minute_of (time_at m.local) in
-    record { local = date_time (date_at m.local) ((minutes - minutes % max n 1) * duration.minute); offset = m.offset }
+-- The words are the date or moment after adding a duration, in the form that was read.
+abbrev pub IsAnswerLater : ℤ → DateOrMoment → List ℕ → Type 0
+IsAnswerLater d found words = (m : LocalAndOffset) × IsLater found d m × IsInForm (form_read found) m words
+
+-- The words are the moved date or moment in the form that was read. A moment keeps its offset.
+abbrev pub IsMoved : WorkWeek → AnyMove → DateOrMoment → List ℕ → Type 0
+IsMoved workdays (move.Day by) found words = IsOnMovedDay workdays by found words
+IsMoved workdays (move.Days d) found words = IsAnswerLater d found words
+IsMoved workdays (move.Add d) found words = IsAnswerLater d found words
+IsMoved workdays (move.Floor n) found words = IsInForm (form_read found) (floored n (moment_of found)) words
+
+-- The words are the moment in a form, moved by the clocks of a zone.
+abbrev pub IsMovedAt : Clock → WorkWeek → AnyMove → Form → LocalAndOffset → List ℕ → Type 0
+IsMovedAt clock workdays by form from words = (m : LocalAndOffset) × IsMovedOn clock workdays by from m × IsInForm form m words
+
+-- With a clock, a moment goes by it. A date moves as without one.
+abbrev pub IsMovedBy : Option Clock → WorkWeek → AnyMove → DateOrMoment → List ℕ → Type 0
+IsMovedBy (Some clock) workdays by (read.Moment form m) words = IsMovedAt clock workdays by (Moment form) m words
+IsMovedBy clock workdays by found words = IsMoved workdays by found words
+
+-- With a clock, whole units go by it.
+abbrev pub IsBetweenBy : Option Clock → WorkWeek → Option TimeUnit → DateOrMoment → DateOrMoment → List ℕ → Type 0
+IsBetweenBy (Some clock) workdays (Some unit) from to words = (z : ℤ) × IsCountOn clock.zone workdays unit from to z × (words ≡ signed_decimal z)
+IsBetweenBy clock workdays unit from to words = IsBetween workdays unit from to words
 
 -- The words replace the text that was read. `keep` leaves it as it is. TEXT of `until` and `since`
 -- must be given: if other fields have it, it is put in at each line.
-abbrev pub IsAnswerTo : WorkWeek → Request → List ℕ → DateOrMoment → List ℕ → Type 0
-IsAnswerTo workdays (To form) text found words = IsInForm form (moment_of found) words
-IsAnswerTo workdays (Print items) text found words = words ≡ format_text items (moment_of found)
-IsAnswerTo workdays (Add d) text found words = (m : LocalAndOffset) × IsLater found d m × IsInForm (form_read found) m words
-IsAnswerTo workdays (Move by) text found words = IsMoved workdays by found words
-IsAnswerTo workdays (Floor n) text found words = IsInForm (form_read found) (floored n (moment_of found)) words
-IsAnswerTo workdays (Until (target.Text to) unit) text found words = IsBetween workdays unit found to words
-IsAnswerTo workdays (Since (target.Text from) unit) text found words = IsBetween workdays unit from found words
-IsAnswerTo workdays (At place) text found words = IsAt place (moment_of found) words
-IsAnswerTo workdays (Keep bounds) text found words = (lies_in bounds found ≡ Some true) × (words ≡ text)
-IsAnswerTo workdays other text found words = ⊥
+abbrev pub IsAnswerTo : Option Clock → WorkWeek → Request → List ℕ → DateOrMoment → List ℕ → Type 0
+IsAnswerTo clock workdays (To form) text found words = IsInForm form (moment_of found) words
+IsAnswerTo clock workdays (Print items) text found words = words ≡ format_text items (moment_of found)
+IsAnswerTo clock workdays (Move by) text found words = IsMovedBy clock workdays by found words
+IsAnswerTo clock workdays (MoveAt other by) text found words = IsMovedAt other workdays by (Moment Rfc3339) (moment_of found) words
+IsAnswerTo clock workdays (Until (target.Text to) unit) text found words = IsBetweenBy clock workdays unit found to words
+IsAnswerTo clock workdays (Since (target.Text from) unit) text found words = IsBetweenBy clock workdays unit from found words
+IsAnswerTo clock workdays (At place) text found words = IsAt place (moment_of found) words
+IsAnswerTo clock workdays (Keep bounds) text found words = (lies_in bounds found ≡ Some true) × (words ≡ text)
+IsAnswerTo clock workdays other text found words = ⊥
+
+-- The answer to the date or moment of a text by a filter.
+abbrev pub IsAnswerBy : Filter → List ℕ → DateOrMoment → List ℕ → Type 0
+IsAnswerBy filter text found words = IsAnswerTo filter.clock filter.workdays filter.request text found words
 
 -- `keep` answers with the text itself.
 abbrev pub keeps : Request → Bool
@@ -121,8 +145,8 @@ abbrev pub Answer : Type 0
 Answer = Result (Option (List ℕ)) NoAnswer
 
 -- The date or moment that was read has no answer, and its line is not left out.
-abbrev pub HasNone : WorkWeek → Request → List ℕ → DateOrMoment → Type 0
-HasNone workdays request text found = (leaves_out request found ≡ false) × ((words : List ℕ) → ¬ IsAnswerTo workdays request text found words)
+abbrev pub HasNone : Filter → List ℕ → DateOrMoment → Type 0
+HasNone filter text found = (leaves_out filter.request found ≡ false) × ((words : List ℕ) → ¬ IsAnswerBy filter text found words)
 
 -- The text is read, as this date or moment. With a clock, its local time is a reading of the clock.
 abbrev pub IsReadAs : Filter → List ℕ → DateOrMoment → Type 0
@@ -136,7 +160,7 @@ IsNotRead filter text any = IsUnread filter.assumptions filter.readers text any
 
 -- The answer to a text.
 abbrev pub IsAnswer : Filter → List ℕ → Answer → Type 0
-IsAnswer filter text (Ok (Some words)) = (found : DateOrMoment) × IsReadAs filter text found × IsAnswerTo filter.workdays filter.request text found words
+IsAnswer filter text (Ok (Some words)) = (found : DateOrMoment) × IsReadAs filter text found × IsAnswerBy filter text found words
 IsAnswer filter text (Ok None) = (found : DateOrMoment) × IsReadAs filter text found × (leaves_out filter.request found ≡ true)
-IsAnswer filter text (Err why.None) = (found : DateOrMoment) × IsReadAs filter text found × HasNone filter.workdays filter.request text found
+IsAnswer filter text (Err why.None) = (found : DateOrMoment) × IsReadAs filter text found × HasNone filter text found
 IsAnswer filter text (Err other) = IsNotRead filter text other

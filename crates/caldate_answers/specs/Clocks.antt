@@ -6,12 +6,12 @@ use Rattle.cal_text.specs.declared.any.DateOrMoment.TheVariants.{Date, Moment}
 use Rattle.cal_text.specs.declared.any.MomentForm.{MomentForm}
 use Rattle.cal_zone.specs.Local.{IsCompatible, IsEarlier, IsLater, IsLocalOf, reject}
 use Rattle.cal_zone.specs.declared.local.Local.{Local}
+use Rattle.cal_zone.specs.declared.policy.Policy.{Policy}
+use Rattle.cal_zone.specs.declared.policy.Policy.TheVariants as policy
 use Rattle.cal_zone.specs.declared.local.Local.TheVariants.{Fold}
 use Rattle.caldate_lines.specs.declared.no_answer.NoAnswer.{NoAnswer}
 use Rattle.caldate_lines.specs.declared.no_answer.NoAnswer.TheVariants.{Skipped, Repeated}
 use Rattle.caldate_answers.specs.declared.request.Clock.{Clock}
-use Rattle.caldate_answers.specs.declared.request.Policy.{Policy}
-use Rattle.caldate_answers.specs.declared.request.Policy.TheVariants as policy
 
 -- The date-time that a policy selects, if it selects one (Temporal).
 abbrev pub IsByPolicy : Policy → Local → Option LocalAndOffset → Type 0

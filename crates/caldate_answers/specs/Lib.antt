@@ -1,6 +1,8 @@
 pub mod Answers
 pub mod Appends
 pub mod Bounds
+pub mod ClockCounts
+pub mod ClockMoves
 pub mod Clocks
 pub mod Counts
 pub mod Forms

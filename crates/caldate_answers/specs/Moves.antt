@@ -1,8 +1,12 @@
--- The day after a move.
-use Rattle.std.specs.Prelude.{◌≡◌, ℕ, ◌+◌, ◌-◌, ◌*◌, true, false, pos, ◌*ℤ◌, List, [], ◌∷◌, Some, slice_get}
+-- The day after a move, and the moments on it.
+use Rattle.std.specs.Prelude.{◌≡◌, ℕ, ◌+◌, ◌-◌, ◌*◌, ◌%◌, max, true, false, pos, ◌*ℤ◌, List, [], ◌∷◌, Some, slice_get}
 use Rattle.cal_time.specs.Date.{IsDate, HasCalendarDate, year_at, month_at, weekday_at}
 use Rattle.cal_time.specs.Lengths.{days_in_month}
 use Rattle.cal_time.specs.Occurrences.{next_occurrences, prev_occurrences, kth}
+use Rattle.cal_time.specs.SignedDuration as duration
+use Rattle.cal_time.specs.Time.{hour_of, minute_of}
+use Rattle.cal_datetime.specs.DateTime.{date_at, date_time, time_at}
+use Rattle.cal_datetime.specs.OffsetDateTime.{LocalAndOffset}
 use Rattle.cal_time.specs.Weekday.{index}
 use Rattle.cal_schedule.specs.Months.{IsMonthsLater, quarter_at}
 use Rattle.cal_schedule.specs.Weekdays.{occurrences_from, occurrences_upto}
@@ -32,6 +36,16 @@ IsLastOf Week n r = r + weekday_at n ≡ n + 6
 IsLastOf Month n r = HasCalendarDate (year_at n) (month_at n) (days_in_month (year_at n) (month_at n)) r
 IsLastOf Quarter n r = HasCalendarDate (year_at n) (3 * quarter_at n) (days_in_month (year_at n) (3 * quarter_at n)) r
 IsLastOf Year n r = HasCalendarDate (year_at n) 12 31 r
+
+-- Moment m moves to day n and keeps its time of day and offset.
+abbrev pub on_day : LocalAndOffset → ℕ → LocalAndOffset
+on_day m n = record { local = date_time n (time_at m.local); offset = m.offset }
+
+-- The time of day is rounded down to a multiple of n minutes after midnight, or of 1 minute for 0.
+abbrev pub floored : ℕ → LocalAndOffset → LocalAndOffset
+floored n m =
+    let minutes = hour_of (time_at m.local) * 60 + minute_of (time_at m.local) in
+    record { local = date_time (date_at m.local) ((minutes - minutes % max n 1) * duration.minute); offset = m.offset }
 
 -- The move goes from day n to day r, with these working days.
 abbrev pub MovesTo : WorkWeek → DayMove → ℕ → ℕ → Type 0

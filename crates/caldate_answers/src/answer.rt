@@ -1,11 +1,13 @@
 //! The answer to the text of a line.
-ghost use Rattle.std.specs.Prelude.{◌≡◌, ◌+◌, ◌≤◌, ◌++◌, ◌∷◌, ℕ, List, None, Some, Ok, Err, IfOk, IfErr, false, true, length, MatchOption};
+ghost use Rattle.std.specs.Prelude.{◌≡◌, ◌+◌, ◌≤◌, ◌++◌, ◌∷◌, ℕ, ℤ, List, None, Some, Ok, Err, IfOk, IfErr, false, true, length, MatchOption};
+ghost use Rattle.std.specs.Fmt.{signed_decimal};
 ghost use Rattle.cal_datetime.specs.OffsetDateTime.{LocalAndOffset};
 ghost use Rattle.cal_text.specs.declared.any.DateOrMoment.{DateOrMoment};
 ghost use Rattle.caldate_lines.specs.Room.{HasRoom, longest_answer};
 ghost use Rattle.caldate_lines.specs.declared.no_answer.NoAnswer.{NoAnswer};
-ghost use Rattle.caldate_answers.specs.Answers.{IsAnswer, IsAnswerTo, IsAt, IsBetween, IsDayLater, IsLater, IsMomentLater, IsMoved, IsNotRead, IsReadAs, compares, floored, form_read, is_date, keeps, moment_of, offset_in, on_day, until_text};
+ghost use Rattle.caldate_answers.specs.Answers.{IsAnswer, IsAnswerLater, IsAnswerTo, IsAt, IsBetween, IsBetweenBy, IsDayLater, IsLater, IsMomentLater, IsMoved, IsMovedAt, IsMovedBy, IsNotRead, IsOnMovedDay, IsReadAs, compares, floored, form_read, is_date, keeps, moment_of, offset_in, on_day, until_text};
 ghost use Rattle.caldate_answers.specs.Bounds.{lies_in};
+ghost use Rattle.caldate_answers.specs.ClockCounts.{IsCountOn};
 ghost use Rattle.caldate_answers.specs.Forms.{IsInForm, format_text};
 ghost use Rattle.caldate_answers.specs.Readers.{IsUnreadIn};
 ghost use Rattle.caldate_answers.specs.Readings.{IsTextIn};
@@ -17,6 +19,8 @@ ghost use Rattle.caldate_answers.specs.declared.reading.reader.Reader.TheVariant
 
 pub(crate) mod bounds;
 pub(crate) mod clock;
+pub(crate) mod clock_counts;
+pub(crate) mod clock_moves;
 pub(crate) mod counts;
 pub(crate) mod forms;
 pub mod moves;
@@ -25,6 +29,8 @@ pub(crate) mod texts;
 
 use crate::answer::bounds::{is_comparable, lies_in};
 use crate::answer::clock::placed;
+use crate::answer::clock_counts::count_on;
+use crate::answer::clock_moves::moved_on;
 use crate::answer::counts::count_between;
 use crate::answer::moves::moved_day;
 use crate::answer::texts::{
@@ -33,12 +39,16 @@ use crate::answer::texts::{
 };
 use crate::reading::reader::Reader;
 use crate::reading::{Reading, read, read_in, reason_of};
-use crate::request::{Bounds, DayMove, Filter, Form, Place, Request, Target, TimeUnit};
+use crate::request::{
+    Bounds, Clock, DayMove, Filter, Form, Move, Place, Request, Target, TimeUnit,
+};
 use cal_datetime::OffsetDateTime;
 use cal_format::Format;
 use cal_schedule::Workdays;
 use cal_text::{DateOrMoment, MomentForm};
 use cal_time::{Date, ShortText, SignedDuration, Time, UtcOffset};
+use cal_zone::Zone;
+use cal_zone::laws::one_local;
 use caldate_lines::no_answer::NoAnswer;
 use caldate_lines::output::buffer::Buffer;
 
@@ -57,7 +67,7 @@ pub fn push_answer(buffer: &mut Buffer, filter: &Filter<'_>, text: &[u8]) -> Res
 {
     if reads_six_forms(filter) {
         return match read_in(Reading::Any, text) {
-            Ok(found) => push_found(buffer, filter, text, &found),
+            Ok(found) => push_found(buffer, &None, filter, text, &found),
             Err(error) => match push_by_others(buffer, filter, text, reason_of(error)) {
                 Ok(goes_out) => Ok(goes_out),
                 Err(why) => Err(why),
@@ -119,7 +129,7 @@ fn push_by_others(
 {
     let others = &filter.readers.as_slice()[1..];
     match read(others, &filter.assumptions, text) {
-        Ok(found) => push_found(buffer, filter, text, &found),
+        Ok(found) => push_found(buffer, &None, filter, text, &found),
         Err(_) => Err(why),
     }
 }
@@ -140,28 +150,37 @@ pub fn push_read(
         → length buffer.new ≤ length buffer.old + longest_answer }
 {
     match read {
-        Ok(found) => push_found(buffer, filter, text, &found),
+        Ok(found) => push_found(buffer, &filter.clock, filter, text, &found),
         Err(why) => Err(why),
     }
 }
 
 /// Appends the answer to `text`, which is read as this date or moment, and returns whether its line
-/// goes out.
+/// goes out. The clock is that of the filter, so that most lines know that there is none.
 #[inline(always)]
 fn push_found(
     buffer: &mut Buffer,
+    clock: &Option<Clock<'_>>,
     filter: &Filter<'_>,
     text: &[u8],
     found: &DateOrMoment,
 ) -> Result<bool, NoAnswer>
     requires room { HasRoom (length text.now + longest_answer) buffer.old }
+    requires clock { filter.now.clock ≡ clock.now }
     requires read { IsReadAs filter.now text.now found.now }
     ensures answered { AppendsAnswer (IsAnswer filter.now text.now) result buffer.old buffer.new }
     ensures short { length buffer.new ≤ length buffer.old + length text.now + longest_answer }
     ensures few { keeps filter.now.request ≡ false
         → length buffer.new ≤ length buffer.old + longest_answer }
 {
-    if push_answer_to(buffer, &filter.workdays, &filter.request, text, found) {
+    if push_answer_to(
+        buffer,
+        clock,
+        &filter.workdays,
+        &filter.request,
+        text,
+        found,
+    ) {
         Ok(true)
     } else if compares(&filter.request, found) {
         Ok(false)
@@ -190,6 +209,7 @@ pub fn read_with(filter: &Filter<'_>, text: &[u8]) -> Result<DateOrMoment, NoAns
 #[inline(always)]
 fn push_answer_to(
     buffer: &mut Buffer,
+    clock: &Option<Clock<'_>>,
     workdays: &Workdays<'_>,
     request: &Request<'_>,
     text: &[u8],
@@ -197,9 +217,9 @@ fn push_answer_to(
 ) -> bool
     requires { HasRoom (length text.now + longest_answer) buffer.old }
     ensures has { result ≡ true → AppendsSome
-        (IsAnswerTo workdays.now request.now text.now found.now) buffer.old buffer.new }
+        (IsAnswerTo clock.now workdays.now request.now text.now found.now) buffer.old buffer.new }
     ensures none { result ≡ false → (buffer.new ≡ buffer.old)
-        × ((words : List ℕ) → ¬ IsAnswerTo workdays.now request.now text.now found.now words) }
+        × ((words : List ℕ) → ¬ IsAnswerTo clock.now workdays.now request.now text.now found.now words) }
     ensures short { length buffer.new ≤ length buffer.old + length text.now + longest_answer }
     ensures few { keeps request.now ≡ false
         → length buffer.new ≤ length buffer.old + longest_answer }
@@ -210,22 +230,16 @@ fn push_answer_to(
             push_printed(buffer, format, moment_of(found));
             true
         }
-        Request::Add(duration) => match later(found, *duration) {
-            Some(later) => push_in_form(buffer, form_read(found), later),
-            None => false,
-        },
-        Request::Move(by) => push_moved(buffer, workdays, *by, found),
-        Request::Floor(minutes) => {
-            let floor = floored(*minutes, moment_of(found));
-            push_in_form(buffer, form_read(found), floor)
+        Request::Move(by) => push_moved_by(buffer, clock, workdays, by, found),
+        Request::MoveAt(clock, by) => {
+            let form = Form::Moment(MomentForm::Rfc3339);
+            push_moved_at(buffer, clock, workdays, *by, form, moment_of(found))
         }
         Request::Until(Target::Text(to), unit) => {
-            push_between(buffer, workdays, *unit, found, to);
-            true
+            push_between_by(buffer, clock, workdays, *unit, found, to)
         }
         Request::Since(Target::Text(from), unit) => {
-            push_between(buffer, workdays, *unit, from, found);
-            true
+            push_between_by(buffer, clock, workdays, *unit, from, found)
         }
         Request::Until(Target::Fields(_), _) => false,
         Request::Until(Target::Name(_), _) => false,
@@ -293,7 +307,7 @@ fn on_day(moment: OffsetDateTime, date: Date) -> OffsetDateTime
 }
 
 /// Rounds the time of day down to a multiple of `minutes` minutes, or of 1 for 0.
-fn floored(minutes: u16, moment: OffsetDateTime) -> OffsetDateTime
+pub(crate) fn floored(minutes: u16, moment: OffsetDateTime) -> OffsetDateTime
     ensures { result ≡ floored minutes moment }
 {
     let time = moment.time();
@@ -375,18 +389,103 @@ fn moment_later(moment: OffsetDateTime, duration: SignedDuration) -> Option<Offs
     moment.checked_add(duration)
 }
 
+/// Appends the moved date or moment, or nothing. Returns whether there is one.
+#[inline(always)]
+fn push_moved_by(
+    buffer: &mut Buffer,
+    clock: &Option<Clock<'_>>,
+    workdays: &Workdays<'_>,
+    by: &Move,
+    found: &DateOrMoment,
+) -> bool
+    requires { HasRoom longest_answer buffer.old }
+    ensures has { result ≡ true → AppendsSome (IsMovedBy clock.now workdays.now by.now found.now)
+        buffer.old buffer.new }
+    ensures none { result ≡ false → (buffer.new ≡ buffer.old)
+        × ((words : List ℕ) → ¬ IsMovedBy clock.now workdays.now by.now found.now words) }
+    ensures short { length buffer.new ≤ length buffer.old + longest_answer }
+{
+    match (clock, found) {
+        (Some(clock), DateOrMoment::Moment(form, moment)) => {
+            push_moved_at(buffer, clock, workdays, *by, Form::Moment(*form), *moment)
+        }
+        _ => push_moved(buffer, workdays, by, found),
+    }
+}
+
+/// Appends a moment moved by the clocks of a zone, or nothing. Returns whether it did.
+#[inline(never)]
+fn push_moved_at(
+    buffer: &mut Buffer,
+    clock: &Clock<'_>,
+    workdays: &Workdays<'_>,
+    by: Move,
+    form: Form,
+    moment: OffsetDateTime,
+) -> bool
+    requires { HasRoom longest_answer buffer.old }
+    ensures has { result ≡ true → AppendsSome (IsMovedAt clock.now workdays.now by form moment)
+        buffer.old buffer.new }
+    ensures none { result ≡ false → (buffer.new ≡ buffer.old)
+        × ((words : List ℕ) → ¬ IsMovedAt clock.now workdays.now by form moment words) }
+    ensures short { length buffer.new ≤ length buffer.old + longest_answer }
+{
+    one_local(&clock.zone);
+    match moved_on(clock, workdays, by, moment) {
+        Some(moved) => push_in_form(buffer, form, moved),
+        None => false,
+    }
+}
+
+/// Appends the moved date or moment by no clock, or nothing. Returns whether there is one.
+#[inline(always)]
+fn push_moved(buffer: &mut Buffer, workdays: &Workdays<'_>, by: &Move, found: &DateOrMoment) -> bool
+    requires { HasRoom longest_answer buffer.old }
+    ensures has { result ≡ true → AppendsSome (IsMoved workdays.now by.now found.now)
+        buffer.old buffer.new }
+    ensures none { result ≡ false → (buffer.new ≡ buffer.old)
+        × ((words : List ℕ) → ¬ IsMoved workdays.now by.now found.now words) }
+    ensures short { length buffer.new ≤ length buffer.old + longest_answer }
+{
+    match by {
+        Move::Day(by) => push_on_moved_day(buffer, workdays, *by, found),
+        Move::Days(duration) => push_later(buffer, *duration, found),
+        Move::Add(duration) => push_later(buffer, *duration, found),
+        Move::Floor(minutes) => {
+            let floor = floored(*minutes, moment_of(found));
+            push_in_form(buffer, form_read(found), floor)
+        }
+    }
+}
+
+/// Appends the date or moment after adding a duration, or nothing. Returns whether there is one.
+#[inline(always)]
+fn push_later(buffer: &mut Buffer, duration: SignedDuration, found: &DateOrMoment) -> bool
+    requires { HasRoom longest_answer buffer.old }
+    ensures has { result ≡ true → AppendsSome (IsAnswerLater duration found.now)
+        buffer.old buffer.new }
+    ensures none { result ≡ false → (buffer.new ≡ buffer.old)
+        × ((words : List ℕ) → ¬ IsAnswerLater duration found.now words) }
+    ensures short { length buffer.new ≤ length buffer.old + longest_answer }
+{
+    match later(found, duration) {
+        Some(later) => push_in_form(buffer, form_read(found), later),
+        None => false,
+    }
+}
+
 /// Appends the moved day at the same time of day, or nothing. Returns whether there is one.
-fn push_moved(
+fn push_on_moved_day(
     buffer: &mut Buffer,
     workdays: &Workdays<'_>,
     by: DayMove,
     found: &DateOrMoment,
 ) -> bool
     requires { HasRoom longest_answer buffer.old }
-    ensures has { result ≡ true → AppendsSome (IsMoved workdays.now by found.now)
+    ensures has { result ≡ true → AppendsSome (IsOnMovedDay workdays.now by found.now)
         buffer.old buffer.new }
     ensures none { result ≡ false → (buffer.new ≡ buffer.old)
-        × ((words : List ℕ) → ¬ IsMoved workdays.now by found.now words) }
+        × ((words : List ℕ) → ¬ IsOnMovedDay workdays.now by found.now words) }
     ensures short { length buffer.new ≤ length buffer.old + longest_answer }
 {
     let moment = moment_of(found);
@@ -421,7 +520,63 @@ fn offset_in(place: &Place<'_>, moment: OffsetDateTime) -> UtcOffset
     }
 }
 
-/// Appends the number of units, or without a unit the days or the duration.
+/// Appends the number of units, or without a unit the days or the duration. Returns whether there
+/// is one: `false` only with a clock, if what it shows is out of range.
+#[inline(always)]
+pub fn push_between_by(
+    buffer: &mut Buffer,
+    clock: &Option<Clock<'_>>,
+    workdays: &Workdays<'_>,
+    unit: Option<TimeUnit>,
+    from: &DateOrMoment,
+    to: &DateOrMoment,
+) -> bool
+    requires { HasRoom longest_answer buffer.old }
+    ensures has { result ≡ true → AppendsSome
+        (IsBetweenBy clock.now workdays.now unit from.now to.now) buffer.old buffer.new }
+    ensures none { result ≡ false → (buffer.new ≡ buffer.old)
+        × ((words : List ℕ) → ¬ IsBetweenBy clock.now workdays.now unit from.now to.now words) }
+    ensures short { length buffer.new ≤ length buffer.old + longest_answer }
+{
+    match (clock, unit) {
+        (Some(clock), Some(unit)) => {
+            push_count_on(buffer, &clock.zone, workdays, unit, from, to)
+        }
+        _ => {
+            push_between(buffer, workdays, unit, from, to);
+            true
+        }
+    }
+}
+
+/// Appends the number of units by the clocks of a zone, or nothing. Returns whether there is one.
+#[inline(never)]
+fn push_count_on(
+    buffer: &mut Buffer,
+    zone: &Zone<'_>,
+    workdays: &Workdays<'_>,
+    unit: TimeUnit,
+    from: &DateOrMoment,
+    to: &DateOrMoment,
+) -> bool
+    requires { HasRoom longest_answer buffer.old }
+    ensures has { result ≡ true → AppendsSome (λ words. (z : ℤ)
+        × IsCountOn zone.now workdays.now unit from.now to.now z × (words ≡ signed_decimal z))
+        buffer.old buffer.new }
+    ensures none { result ≡ false → (buffer.new ≡ buffer.old)
+        × ((z : ℤ) → ¬ IsCountOn zone.now workdays.now unit from.now to.now z) }
+    ensures short { length buffer.new ≤ length buffer.old + longest_answer }
+{
+    match count_on(zone, workdays, unit, from, to) {
+        Some(count) => {
+            push_signed(buffer, count);
+            true
+        }
+        None => false,
+    }
+}
+
+/// Appends the number of units, or without a unit the days or the duration, by no clock.
 pub fn push_between(
     buffer: &mut Buffer,
     workdays: &Workdays<'_>,

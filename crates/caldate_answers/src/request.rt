@@ -9,7 +9,7 @@ use cal_format::Format;
 use cal_schedule::Workdays;
 use cal_text::{DateForm, DateOrMoment, MomentForm};
 use cal_time::{SignedDuration, UtcOffset, Weekday};
-use cal_zone::Zone;
+use cal_zone::{Policy, Zone};
 use caldate_lines::field::Field;
 use caldate_lines::field_name::FieldName;
 use caldate_lines::field_names::FieldNames;
@@ -93,6 +93,20 @@ pub enum DayMove {
     End(Period),
 }
 
+/// A move of a date or a moment.
+#[derive(Clone, Copy)]
+pub enum Move {
+    /// To another day, at the same time of day.
+    Day(DayMove),
+    /// `add N days`, `add N weeks`: by the whole days of a duration, at the same time of day.
+    Days(SignedDuration),
+    /// `add N hours`, `add N minutes`, `add N seconds`: by a duration.
+    Add(SignedDuration),
+    /// `start day`, `start hour`, `start minute` or `start N minutes`: the time of day rounded down
+    /// to a multiple of a number of minutes, from 1 to 1440.
+    Floor(u16),
+}
+
 /// A range for dates and moments. A date bound compares local dates, a moment bound instants.
 #[derive(Clone, Copy)]
 pub enum Bounds {
@@ -111,19 +125,6 @@ pub enum Place<'a> {
     Offset(UtcOffset),
     /// One in this time zone.
     Zone(Zone<'a>),
-}
-
-/// A policy of Temporal: a way to choose one moment if clocks skip a local time or show it twice.
-#[derive(Clone, Copy)]
-pub enum Policy {
-    /// The time moved forward by what the clocks skip, or the first of two.
-    Compatible,
-    /// The time moved back by what the clocks skip, or the first of two.
-    Earlier,
-    /// The time moved forward by what the clocks skip, or the second of two.
-    Later,
-    /// No moment.
-    Reject,
 }
 
 /// The clocks of a zone, which give a local time its moment.
@@ -153,13 +154,10 @@ pub enum Request<'a> {
     To(Form),
     /// `to FORMAT`: the same date or moment in this format.
     Print(Format),
-    /// `add N UNIT`: the date or moment after adding a duration.
-    Add(SignedDuration),
-    /// The moved day, at the same time of day.
-    Move(DayMove),
-    /// `start day`, `start hour`, `start minute` or `start N minutes`: the time of day rounded down
-    /// to a multiple of a number of minutes, from 1 to 1440.
-    Floor(u16),
+    /// The moved date or moment, such as `add N UNIT`.
+    Move(Move),
+    /// `at ZONE` and a move: the moment moved by the clocks of the zone, at the offset of the zone.
+    MoveAt(Clock<'a>, Move),
     /// `until TEXT [in UNIT]`: the days or the duration to TEXT, or the whole units.
     Until(Target<'a>, Option<TimeUnit>),
     /// `since TEXT [in UNIT]`: the days or the duration from TEXT, or the whole units.
@@ -220,10 +218,19 @@ impl<'a> Request<'a> {
         }
     }
 
+    /// Returns whether this is `at ZONE` and a move.
+    pub fn moves_at(&self) -> bool {
+        match self {
+            Request::MoveAt(_, _) => true,
+            _ => false,
+        }
+    }
+
     /// Returns whether this counts working days.
     pub fn counts_workdays(&self) -> bool {
         match self {
-            Request::Move(DayMove::Workdays(_)) => true,
+            Request::Move(Move::Day(DayMove::Workdays(_))) => true,
+            Request::MoveAt(_, Move::Day(DayMove::Workdays(_))) => true,
             Request::Until(_, Some(TimeUnit::Workdays)) => true,
             Request::Since(_, Some(TimeUnit::Workdays)) => true,
             _ => false,

@@ -21,7 +21,7 @@ use crate::args::bounds::bounds_at;
 use crate::args::clock_words::now_in;
 use crate::args::formats::to_of;
 use crate::args::listing::list_of;
-use crate::args::names::{CommandName, Verb};
+use crate::args::names::{CommandName, MoveVerb, Verb};
 use crate::args::offset::offset_of;
 use crate::args::options::{
     Options, assumptions_in, conflict_in, field_of, options_of, readers_in, zone_of,
@@ -39,9 +39,9 @@ use crate::zones::is_zone_like;
 use cal_datetime::{OffsetDateTime, PlainDateTime};
 use cal_schedule::Workdays;
 use cal_time::{SignedDuration, Weekday};
-use cal_zone::Zone;
+use cal_zone::{Policy, Zone};
 use caldate_answers::answer::moves;
-use caldate_answers::request::{Clock, DayMove, Filter, Place, Policy, Request, TimeUnit};
+use caldate_answers::request::{Clock, DayMove, Filter, Move, Place, Request, TimeUnit};
 use caldate_lines::field::Field;
 use caldate_lines::field_name::FieldName;
 use caldate_lines::field_names::MAX_FIELDS;
@@ -168,7 +168,8 @@ fn filter_at<'a, D: DataFiles<'a>>(
     if let Some(expected) = conflict_in(&options) {
         return Err(usage_error_at(at, expected));
     }
-    let request = request_at(words, at, now_in(&options.zone, now), files)?;
+    let now = now_in(&options.zone, now);
+    let request = request_at(words, at, policy_of(options.policy), now, files)?;
     filter_with(at, options, request)
 }
 
@@ -198,6 +199,8 @@ fn conflict_with_request(options: &Options<'_>, request: &Request<'_>) -> Option
         Some(Expected::Header)
     } else if options.workdays.is_some() && !request.counts_workdays() {
         Some(Expected::WorkdaysOnly)
+    } else if options.policy.is_some() && options.zone.is_none() && !request.moves_at() {
+        Some(Expected::ZoneOption)
     } else {
         None
     }
@@ -219,7 +222,7 @@ fn filter_of<'a>(options: Options<'a>, request: Request<'a>) -> Filter<'a> {
         several: several_of(options.fields, options.more),
         column: column_of(options.header, options.append),
         readers: readers_in(options.readers),
-        clock: clock_of(options.zone, options.policy),
+        clock: clock_of(options.zone, policy_of(options.policy)),
     }
 }
 
@@ -243,11 +246,16 @@ fn column_of<'a>(header: bool, name: Option<FieldName<'a>>) -> Option<FieldName<
     name
 }
 
-/// Returns the clocks of the zone. The default policy is `compatible`.
-fn clock_of<'a>(zone: Option<Zone<'a>>, policy: Option<Policy>) -> Option<Clock<'a>> {
+/// Returns the policy of `--ambiguous`. The default is `compatible`.
+fn policy_of(given: Option<Policy>) -> Policy {
+    given.unwrap_or(Policy::Compatible)
+}
+
+/// Returns the clocks of the zone.
+fn clock_of<'a>(zone: Option<Zone<'a>>, policy: Policy) -> Option<Clock<'a>> {
     Some(Clock {
         zone: zone?,
-        policy: policy.unwrap_or(Policy::Compatible),
+        policy,
     })
 }
 
@@ -271,36 +279,17 @@ fn default_mode(request: &Request<'_>, part: bool) -> OnInvalid {
 fn request_at<'a, D: DataFiles<'a>>(
     words: &'a [u8],
     at: usize,
+    policy: Policy,
     now: Option<OffsetDateTime>,
     files: &mut D,
 ) -> Result<Request<'a>, UsageError<'a>>
     requires { at + 5 < 2 ^ 64 }
 {
     let verb = word_as(words, at, verb_of, expected_verb(at))?;
-    request_of(verb, words, at + 1, now, files)
-}
-
-/// Parses the arguments of a verb.
-fn request_of<'a, D: DataFiles<'a>>(
-    verb: Verb,
-    words: &'a [u8],
-    at: usize,
-    now: Option<OffsetDateTime>,
-    files: &mut D,
-) -> Result<Request<'a>, UsageError<'a>>
-    requires { at + 4 < 2 ^ 64 }
-{
+    let at = at + 1;
     match verb {
         Verb::To => to_at(words, at),
-        Verb::Add => amount_at(words, at),
-        Verb::Next => {
-            let (weekday, count) = occurrence_at(words, at)?;
-            Ok(Request::Move(DayMove::Next(weekday, count)))
-        }
-        Verb::Last => {
-            let (weekday, count) = occurrence_at(words, at)?;
-            Ok(Request::Move(DayMove::Last(weekday, count)))
-        }
+        Verb::Move(verb) => Ok(Request::Move(move_of(verb, words, at)?)),
         Verb::Until => {
             let (target, unit) = target_at(words, at, now)?;
             Ok(Request::Until(target, unit))
@@ -309,12 +298,29 @@ fn request_of<'a, D: DataFiles<'a>>(
             let (target, unit) = target_at(words, at, now)?;
             Ok(Request::Since(target, unit))
         }
-        Verb::Start => start_at(words, at),
-        Verb::End => end_at(words, at),
-        Verb::OnOrAfter => Ok(Request::Move(DayMove::OnOrAfter(weekday_at(words, at)?))),
-        Verb::OnOrBefore => Ok(Request::Move(DayMove::OnOrBefore(weekday_at(words, at)?))),
-        Verb::At => Ok(Request::At(place_at(words, at, files)?)),
+        Verb::At => at_place(words, at, policy, files),
         Verb::Keep => Ok(Request::Keep(bounds_at(words, at, now)?)),
+    }
+}
+
+/// Parses the arguments of a move.
+fn move_of(verb: MoveVerb, words: &[u8], at: usize) -> Result<Move, UsageError<'static>>
+    requires { at + 2 < 2 ^ 64 }
+{
+    match verb {
+        MoveVerb::Add => amount_at(words, at),
+        MoveVerb::Next => {
+            let (weekday, count) = occurrence_at(words, at)?;
+            Ok(Move::Day(DayMove::Next(weekday, count)))
+        }
+        MoveVerb::Last => {
+            let (weekday, count) = occurrence_at(words, at)?;
+            Ok(Move::Day(DayMove::Last(weekday, count)))
+        }
+        MoveVerb::Start => start_at(words, at),
+        MoveVerb::End => end_at(words, at),
+        MoveVerb::OnOrAfter => Ok(Move::Day(DayMove::OnOrAfter(weekday_at(words, at)?))),
+        MoveVerb::OnOrBefore => Ok(Move::Day(DayMove::OnOrBefore(weekday_at(words, at)?))),
     }
 }
 
@@ -336,7 +342,7 @@ fn to_at(words: &[u8], at: usize) -> Result<Request<'static>, UsageError<'static
 }
 
 /// Parses `PERIOD`, `day`, `hour`, `minute` or `N minutes`.
-fn start_at(words: &[u8], at: usize) -> Result<Request<'static>, UsageError<'static>>
+fn start_at(words: &[u8], at: usize) -> Result<Move, UsageError<'static>>
     requires { at + 2 < 2 ^ 64 }
 {
     match word_at(words, at).and_then(minutes_of) {
@@ -345,34 +351,42 @@ fn start_at(words: &[u8], at: usize) -> Result<Request<'static>, UsageError<'sta
     }
 }
 
-fn floor_at(words: &[u8], at: usize, minutes: u16) -> Result<Request<'static>, UsageError<'static>>
+fn floor_at(words: &[u8], at: usize, minutes: u16) -> Result<Move, UsageError<'static>>
     requires { at + 1 < 2 ^ 64 }
 {
     only_at(words, at, minutes_word, Expected::Minutes)?;
-    Ok(Request::Floor(minutes))
+    Ok(Move::Floor(minutes))
 }
 
 /// Parses `PERIOD`.
-fn end_at(words: &[u8], at: usize) -> Result<Request<'static>, UsageError<'static>>
+fn end_at(words: &[u8], at: usize) -> Result<Move, UsageError<'static>>
     requires { at + 1 < 2 ^ 64 }
 {
     let period = only_at(words, at, period_of, Expected::Period)?;
-    Ok(Request::Move(DayMove::End(period)))
+    Ok(Move::Day(DayMove::End(period)))
 }
 
-/// Parses `OFFSET` or `ZONE`.
-fn place_at<'a, D: DataFiles<'a>>(
+/// Parses `OFFSET`, `ZONE`, or `ZONE` and a move.
+fn at_place<'a, D: DataFiles<'a>>(
     words: &'a [u8],
     at: usize,
+    policy: Policy,
     files: &mut D,
-) -> Result<Place<'a>, UsageError<'a>>
-    requires { at + 1 < 2 ^ 64 }
+) -> Result<Request<'a>, UsageError<'a>>
+    requires { at + 4 < 2 ^ 64 }
 {
-    if names_zone(words, at) {
-        return Ok(Place::Zone(zone_at(words, at, files)?));
+    if !names_zone(words, at) {
+        let offset = only_at(words, at, offset_of, Expected::Place)?;
+        return Ok(Request::At(Place::Offset(offset)));
     }
-    let offset = only_at(words, at, offset_of, Expected::Place)?;
-    Ok(Place::Offset(offset))
+    let zone = first_zone_at(words, at, files)?;
+    match word_at(words, at + 1).and_then(verb_of) {
+        Some(Verb::Move(verb)) => {
+            let by = move_of(verb, words, at + 2)?;
+            Ok(Request::MoveAt(Clock { zone, policy }, by))
+        }
+        _ => ended(words, at + 1, Request::At(Place::Zone(zone))),
+    }
 }
 
 /// Returns whether the word is read as the name of a zone.
@@ -383,7 +397,7 @@ fn names_zone(words: &[u8], at: usize) -> bool {
     }
 }
 
-/// Parses `ZONE`.
+/// Parses `ZONE`, the last word.
 pub(crate) fn zone_at<'a, D: DataFiles<'a>>(
     words: &'a [u8],
     at: usize,
@@ -391,10 +405,19 @@ pub(crate) fn zone_at<'a, D: DataFiles<'a>>(
 ) -> Result<Zone<'a>, UsageError<'a>>
     requires { at + 1 < 2 ^ 64 }
 {
+    let zone = first_zone_at(words, at, files)?;
+    ended(words, at + 1, zone)
+}
+
+/// Parses `ZONE`, after which words may follow.
+fn first_zone_at<'a, D: DataFiles<'a>>(
+    words: &'a [u8],
+    at: usize,
+    files: &mut D,
+) -> Result<Zone<'a>, UsageError<'a>> {
     let usage_error = usage_error_at(at, Expected::Zone);
     let name = word_at(words, at).ok_or(usage_error)?;
-    let zone = zone_of(name, usage_error, files)?;
-    ended(words, at + 1, zone)
+    zone_of(name, usage_error, files)
 }
 
 /// Returns the word expected for the verb. At index 0, options such as `--help` are allowed too.
@@ -407,13 +430,13 @@ fn expected_verb(at: usize) -> Expected {
 }
 
 /// Parses `N` or `N UNIT`. The default unit is days.
-fn amount_at(words: &[u8], at: usize) -> Result<Request<'static>, UsageError<'static>>
+fn amount_at(words: &[u8], at: usize) -> Result<Move, UsageError<'static>>
     requires { at + 2 < 2 ^ 64 }
 {
     let number = word_as(words, at, parse_i64, Expected::Number)?;
     let unit = unit_at(words, at + 1)?;
     match amount_of(number, unit) {
-        Some(request) => Ok(request),
+        Some(by) => Ok(by),
         None => Err(usage_error_at(at, Expected::Amount)),
     }
 }
@@ -428,24 +451,24 @@ fn unit_at(words: &[u8], at: usize) -> Result<TimeUnit, UsageError<'static>>
     only_at(words, at, unit_of, Expected::UnitOfTime)
 }
 
-/// Returns the request to add `number` units, or `None` if a duration can't hold them.
-fn amount_of(number: i64, unit: TimeUnit) -> Option<Request<'static>> {
+/// Returns the move by `number` units, or `None` if a duration can't hold them.
+fn amount_of(number: i64, unit: TimeUnit) -> Option<Move> {
     match unit {
-        TimeUnit::Years => Some(Request::Move(DayMove::Years(number))),
-        TimeUnit::Months => Some(Request::Move(DayMove::Months(number))),
-        TimeUnit::Workdays => Some(Request::Move(DayMove::Workdays(number))),
-        TimeUnit::Weeks => duration_of(number, 604_800),
-        TimeUnit::Days => duration_of(number, 86_400),
-        TimeUnit::Hours => duration_of(number, 3_600),
-        TimeUnit::Minutes => duration_of(number, 60),
-        TimeUnit::Seconds => duration_of(number, 1),
+        TimeUnit::Years => Some(Move::Day(DayMove::Years(number))),
+        TimeUnit::Months => Some(Move::Day(DayMove::Months(number))),
+        TimeUnit::Workdays => Some(Move::Day(DayMove::Workdays(number))),
+        TimeUnit::Weeks => Some(Move::Days(duration_of(number, 604_800)?)),
+        TimeUnit::Days => Some(Move::Days(duration_of(number, 86_400)?)),
+        TimeUnit::Hours => Some(Move::Add(duration_of(number, 3_600)?)),
+        TimeUnit::Minutes => Some(Move::Add(duration_of(number, 60)?)),
+        TimeUnit::Seconds => Some(Move::Add(duration_of(number, 1)?)),
     }
 }
 
-/// Returns the request to add `number` units of `unit` seconds each.
-fn duration_of(number: i64, unit: u32) -> Option<Request<'static>> {
+/// Returns the duration of `number` units of `unit` seconds each.
+fn duration_of(number: i64, unit: u32) -> Option<SignedDuration> {
     let seconds = number.checked_mul(i64::from(unit))?;
-    Some(Request::Add(SignedDuration::seconds(seconds)))
+    Some(SignedDuration::seconds(seconds))
 }
 
 /// Parses `WEEKDAY` or `WEEKDAY N`.

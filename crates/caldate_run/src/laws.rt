@@ -1,19 +1,24 @@
 //! Laws: a text has one answer, a recurrence has one list, a record has its fields, and an answer
 //! becomes one field.
 ghost use Rattle.std.specs.List.{join_with_byte};
-ghost use Rattle.std.specs.Prelude.{◌≡◌, ◌==◌, ◌<◌, List, ℕ, All, IsOk, Option, Result, Some, false, length, map, true};
+ghost use Rattle.std.specs.Prelude.{◌≡◌, ◌==◌, ◌<◌, List, ℕ, ℤ, All, IsOk, Option, Result, Some, false, length, map, true};
+ghost use Rattle.cal_zone.specs.Local.{IsLocalOf};
+ghost use Rattle.cal_zone.specs.declared.local.Local.{Local};
 ghost use Rattle.caldate_lines.specs.Fields.{in_place_of, split_fields};
 ghost use Rattle.caldate_lines.specs.Lines.{all_lines};
 ghost use Rattle.caldate_lines.specs.Records.{IsField, IsRecord, records_text};
 ghost use Rattle.caldate_lines.specs.declared.quoting.Quoting.TheVariants.{Ready};
 ghost use Rattle.caldate_lines.specs.declared.run_error.RunError.{RunError};
 ghost use Rattle.caldate_answers.specs.Answers.{Answer, IsAnswer};
+ghost use Rattle.caldate_answers.specs.declared.request.Clock.{Clock};
+ghost use Rattle.caldate_answers.specs.declared.request.Move.{Move};
+ghost use Rattle.caldate_answers.specs.declared.request.Request.TheVariants.{MoveAt};
 ghost use Rattle.caldate_run.specs.Recurring.{ListsOccurrences};
 
 use cal_text::DateOrMoment;
 use cal_zone::laws::one_local;
 use caldate_answers::answer::read_with;
-use caldate_answers::request::Filter;
+use caldate_answers::request::{Clock, Filter, Request};
 use caldate_args::command::{Occurrences, Span};
 use caldate_lines::field::Field;
 use caldate_lines::no_answer::NoAnswer;
@@ -23,7 +28,30 @@ pub fn one_answer(filter: &Filter<'_>, text: &[u8]) -> Result<DateOrMoment, NoAn
     ensures { (answer other : Answer) → IsAnswer filter.now text.now answer
         → IsAnswer filter.now text.now other → answer ≡ other }
 {
+    one_clock(&filter.clock);
+    one_place(&filter.request);
     read_with(filter, text)
+}
+
+/// Proves that a reading has one meaning by the clock of a filter.
+fn one_clock(given: &Option<Clock<'_>>)
+    ensures { (clock : Clock) → given.now ≡ Some clock → (reading : ℤ) (a b : Local)
+        → IsLocalOf clock.zone reading a → IsLocalOf clock.zone reading b → a ≡ b }
+{
+    if let Some(clock) = given {
+        one_local(&clock.zone);
+    }
+}
+
+/// Proves that a reading has one meaning in the zone of `at ZONE` and a move.
+fn one_place(request: &Request<'_>)
+    ensures { (clock : Clock) (by : Move) → request.now ≡ MoveAt clock by
+        → (reading : ℤ) (a b : Local) → IsLocalOf clock.zone reading a
+        → IsLocalOf clock.zone reading b → a ≡ b }
+{
+    if let Request::MoveAt(clock, _) = request {
+        one_local(&clock.zone);
+    }
 }
 
 /// Proves that a recurrence has one list of dates or moments.

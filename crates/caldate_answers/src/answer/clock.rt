@@ -4,11 +4,11 @@ ghost use Rattle.cal_text.specs.declared.any.DateOrMoment.{DateOrMoment};
 ghost use Rattle.caldate_lines.specs.declared.no_answer.NoAnswer.{NoAnswer};
 ghost use Rattle.caldate_answers.specs.Clocks.{IsByPolicy, IsOnClock, IsPlaced, why_none};
 
-use crate::request::{Clock, Policy};
+use crate::request::Clock;
 use cal_datetime::OffsetDateTime;
 use cal_text::{DateOrMoment, MomentForm};
-use cal_zone::Local;
 use cal_zone::laws::one_local;
+use cal_zone::{Local, Policy};
 use caldate_lines::no_answer::NoAnswer;
 
 /// Replaces a moment by the one at which clocks show its local time, if there are clocks.

@@ -65,7 +65,7 @@ pub fn message_for(expected: Expected) -> Message
         Local: "--assume requires --read of a form without an offset";
         AssumeYear: "a format without a year requires --assume-year";
         Yearless: "--assume-year requires --read of a format without a year";
-        ZoneOption: "--ambiguous requires --zone";
+        ZoneOption: "--ambiguous requires --zone, or at ZONE and a move";
         OffsetOrZone: "--assume can't be used with --zone";
         LocalOnly: "--zone requires --read of forms without an offset only";
         Policy: "unknown policy", "policy", "compatible, earlier, later or reject";

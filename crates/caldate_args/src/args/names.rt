@@ -1,9 +1,10 @@
 //! The names in the arguments, and their meanings.
 
 use cal_text::{DateForm, MomentForm};
+use cal_zone::Policy;
 use caldate_answers::reading::DateOrder;
 use caldate_answers::reading::spelling::Spelling;
-use caldate_answers::request::{Form, Period, Policy, TimeUnit, UnixUnit};
+use caldate_answers::request::{Form, Period, TimeUnit, UnixUnit};
 use caldate_lines::on_invalid::OnInvalid;
 
 /// A form of `--read` that has a name.
@@ -38,17 +39,23 @@ pub enum OptionName {
 #[derive(Clone, Copy)]
 pub enum Verb {
     To,
+    Move(MoveVerb),
+    Until,
+    Since,
+    At,
+    Keep,
+}
+
+/// The first word of a move.
+#[derive(Clone, Copy)]
+pub enum MoveVerb {
     Add,
     Next,
     Last,
-    Until,
-    Since,
     Start,
     End,
     OnOrAfter,
     OnOrBefore,
-    At,
-    Keep,
 }
 
 /// The first word of a command that reads no input.
@@ -81,15 +88,15 @@ pub(crate) const OPTIONS: [(&str, OptionName); 14] = [
 /// The verbs.
 pub(crate) const VERBS: [(&str, Verb); 12] = [
     ("to", Verb::To),
-    ("add", Verb::Add),
-    ("next", Verb::Next),
-    ("last", Verb::Last),
+    ("add", Verb::Move(MoveVerb::Add)),
+    ("next", Verb::Move(MoveVerb::Next)),
+    ("last", Verb::Move(MoveVerb::Last)),
     ("until", Verb::Until),
     ("since", Verb::Since),
-    ("start", Verb::Start),
-    ("end", Verb::End),
-    ("on-or-after", Verb::OnOrAfter),
-    ("on-or-before", Verb::OnOrBefore),
+    ("start", Verb::Move(MoveVerb::Start)),
+    ("end", Verb::Move(MoveVerb::End)),
+    ("on-or-after", Verb::Move(MoveVerb::OnOrAfter)),
+    ("on-or-before", Verb::Move(MoveVerb::OnOrBefore)),
     ("at", Verb::At),
     ("keep", Verb::Keep),
 ];

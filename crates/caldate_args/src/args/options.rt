@@ -10,13 +10,12 @@ use crate::args::words::cut;
 use crate::data_files::DataFiles;
 use cal_schedule::Workdays;
 use cal_time::UtcOffset;
-use cal_zone::Zone;
+use cal_zone::{Policy, Zone};
 use caldate_answers::answer::moves::workdays_except;
 use caldate_answers::reading::reader::{Assumptions, Reader};
 use caldate_answers::reading::spelling::Spelling;
 use caldate_answers::reading::value_format::ValueFormat;
 use caldate_answers::reading::{Readers, Reading};
-use caldate_answers::request::Policy;
 use caldate_lines::field::Field;
 use caldate_lines::field_name::FieldName;
 use caldate_lines::field_names::{FieldNames, MAX_FIELDS};
@@ -530,8 +529,6 @@ fn conflict_with_readers(options: &Options<'_>) -> Option<Expected> {
         Some(Expected::AssumeYear)
     } else if options.year.is_some() && !any_yearless(options.readers.as_slice()) {
         Some(Expected::Yearless)
-    } else if options.policy.is_some() && options.zone.is_none() {
-        Some(Expected::ZoneOption)
     } else if options.zone.is_some() {
         conflict_with_zone(options)
     } else if any_local(options.readers.as_slice()) && options.offset.is_none() {

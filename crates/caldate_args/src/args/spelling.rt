@@ -7,7 +7,7 @@ use crate::args::names::{
     value_named, value_of_unit,
 };
 use cal_time::Weekday;
-use caldate_answers::request::{DayMove, Period, Request, TimeUnit};
+use caldate_answers::request::{DayMove, Move, Period, TimeUnit};
 use std::str;
 
 /// Parses the name of a command that reads no input.
@@ -75,10 +75,10 @@ pub fn period_of(word: &[u8]) -> Option<Period> {
 }
 
 /// Parses the argument of `start`.
-pub fn start_of(word: &[u8]) -> Option<Request<'static>> {
+pub fn start_of(word: &[u8]) -> Option<Move> {
     match period_of(word) {
-        Some(period) => Some(Request::Move(DayMove::Start(period))),
-        None => Some(Request::Floor(value_of_unit(word, &ROUNDINGS)?)),
+        Some(period) => Some(Move::Day(DayMove::Start(period))),
+        None => Some(Move::Floor(value_of_unit(word, &ROUNDINGS)?)),
     }
 }
 

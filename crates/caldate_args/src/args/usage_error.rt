@@ -59,7 +59,7 @@ pub enum Expected {
     AssumeYear,
     /// A format without a year, which `--assume-year` requires.
     Yearless,
-    /// `--zone`, which `--ambiguous` requires.
+    /// `--zone`, or `at ZONE` and a move, which `--ambiguous` requires.
     ZoneOption,
     /// Only one of `--assume` and `--zone`.
     OffsetOrZone,
