@@ -89,7 +89,7 @@ multiple (pos a) m d (inr h) = inr (down a m h.0, down a d h.1)
 multiple (negsuc a) m d (inl h) = inr (turned_down a m h.0, turned_down a d h.1)
 multiple (negsuc a) m d (inr h) = inl (turned_up a m h.0, turned_up a d h.1)
 
-parts_agree : (p : Parts) → IsOneSign p → AgreeInSign (months_of p) (days_of p)
+pub parts_agree : (p : Parts) → IsOneSign p → AgreeInSign (months_of p) (days_of p)
 parts_agree p (inl h) = inl (omega (arith, ints), omega (arith, ints))
 parts_agree p (inr h) = inr (omega (arith, ints), omega (arith, ints))
 
