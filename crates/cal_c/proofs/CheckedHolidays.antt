@@ -1,14 +1,13 @@
 -- Holidays of a struct, and its working days by their ranks.
-use Rattle.std.proofs.Common.{◌≡◌, ℕ, zero, suc, ◌+◌, ◌-◌, ◌<◌, ◌≤◌, sym, ap, ◌∙◌, arith, subst, List, All, set, Bool, add-one, ◌≢◌, get_or-set_other, get_or-set_same, if◌then◌else◌, not, ◌%◌, false, pos, length, get_or, take, slice_get, Option, Some, None, true, inl, inr, ℤ, negsuc, ◌+ℤ◌, ◌-ℤ◌, ◌<ℤ◌, ◌≤ℤ◌}
+use Rattle.std.proofs.Common.{◌≡◌, ℕ, zero, suc, ◌+◌, ◌<◌, ◌≤◌, sym, ap, ◌∙◌, arith, subst, List, All, Bool, add-one, if◌then◌else◌, not, false, pos, length, get_or, take, Option, true, inl, inr, ℤ, negsuc, ◌+ℤ◌, ◌-ℤ◌, ◌<ℤ◌, ◌≤ℤ◌}
 use Rattle.std.specs.Int.Signed.{lt_z, lt_z_yes, lt_z_no}
-use Rattle.std.specs.Prelude.{MatchOption, Result, Ok, Err}
+use Rattle.std.specs.Prelude.{Result, Ok, Err}
 use Rattle.std.specs.Int.{from_bool}
-use Rattle.std.proofs.lemmas.Bool.{cases_lt, cases_Bool}
+use Rattle.std.proofs.lemmas.Bool.{cases_Bool}
 use Rattle.std.proofs.lemmas.Float.{T_from_true}
 use Rattle.std.proofs.lemmas.Int.{ints}
 use Rattle.std.proofs.lemmas.List.{get_or-take, get_or-map, length-map, length-take-le}
-use Rattle.std.proofs.lemmas.List.Sums.{count_by_more_yes, count_by_more_no}
-use Rattle.cal_time.specs.Date.{last_day, IsDate}
+use Rattle.cal_time.specs.Date.{IsDate}
 use Rattle.cal_time.specs.IsoWeekDate.{count_before}
 use Rattle.cal_schedule.specs.Ranks.{count-yes, count-no}
 use Rattle.cal_schedule.specs.Workdays.{WorkWeek, is_workday, nth_workday}
