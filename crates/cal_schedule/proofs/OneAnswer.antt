@@ -1,6 +1,6 @@
 -- Contracts that allow only one result.
 use Rattle.std.proofs.Common.{◌≡◌, ℕ, ◌<◌, ◌≤◌, inl, inr, refl, sym, ap, ◌∙◌, subst, arith, ℤ, pos, neg_ℤ, ◌+◌, ◌+ℤ◌, ◌*ℤ◌, ◌≤ℤ◌, ◌<ℤ◌, List, [], ◌∷◌, reverse, slice_get, Option, Some, None, Result, Ok, Err}
-use Rattle.std.specs.Prelude.{IfSome, IfOk, IfErr}
+use Rattle.std.specs.Prelude.{IfNone, IfSome, IfOk, IfErr, IsSome, ◌↔◌}
 use Rattle.std.specs.Iterator.{YieldsLast}
 use Rattle.std.proofs.lemmas.Bool.{cases_lt}
 use Rattle.std.proofs.lemmas.Int.{ints, by_lt_z}
@@ -153,3 +153,17 @@ until_by-one unit n t p q h k = by_unit unit h.counted k.counted
 
 pub greatest_step-one : (start t : ℕ) (p : Parts) (y z : ℤ) → IsGreatestStep start t p y → IsGreatestStep start t p z → y ≡ z
 greatest_step-one start t p y z h k = greatest-one (IsStepUpTo start t p) y z h k
+
+pub last_of-both : (unit : CalendarUnit) (n : ℕ) (r s : Option ℕ) → IfSome r (λ k. IsDate k × IsLastOf unit n k) → IfNone r ((k : ℕ) → IsDate k → ¬ IsLastOf unit n k)
+    → IfSome s (λ k. IsDate k × IsLastOf unit n k) → IfNone s ((k : ℕ) → IsDate k → ¬ IsLastOf unit n k) → r ≡ s
+last_of-both unit n None None has none having other = refl
+last_of-both unit n (Some a) None has none having other = absurd (other a has.0 has.1)
+last_of-both unit n None (Some b) has none having other = absurd (none b having.0 having.1)
+last_of-both unit n (Some a) (Some b) has none having other = ap (λ (k : ℕ). Some k) (last_of-one unit n a b has.0 having.0 has.1 having.1)
+
+-- ---- the last step that is not after a day, if there is one
+pub step_of-one : (start t : ℕ) (p : Parts) (P : Type 0) (r s : Option ℤ) → IfSome r (IsGreatestStep start t p) → IsSome r ↔ P → IfSome s (IsGreatestStep start t p) → IsSome s ↔ P → r ≡ s
+step_of-one start t p P (Some y) (Some z) h i k j = ap (λ (x : ℤ). Some x) (greatest-one (IsStepUpTo start t p) y z h k)
+step_of-one start t p P None None h i k j = refl
+step_of-one start t p P (Some y) None h i k j = absurd (let e = j.1 (i.0 refl) in cc)
+step_of-one start t p P None (Some z) h i k j = absurd (let e = i.1 (j.0 refl) in cc)

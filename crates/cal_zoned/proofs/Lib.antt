@@ -4,3 +4,4 @@ pub mod OneResult
 pub mod Periods
 pub mod ZoneResults
 pub mod UnitEnds
+pub mod PeriodsUntil

@@ -4,4 +4,5 @@ pub mod Day
 pub mod Period
 pub mod Unchecked
 pub mod Moves
+pub mod Until
 pub mod Hash
