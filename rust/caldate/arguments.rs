@@ -14,18 +14,20 @@ use cal_datetime::{OffsetDateTime, PlainDateTime};
 use cal_format::Format;
 use cal_text::DateOrMoment;
 use cal_time::{Date, Month, Time, UtcOffset};
-use cal_zone::Zone;
-use caldate_run::args::arguments::{MAX_BYTES, join};
-use caldate_run::args::asked_by;
-use caldate_run::data_files::system_files::SystemFiles;
-use caldate_run::holidays::MAX_HOLIDAYS;
-use caldate_run::on_invalid::OnInvalid;
+use cal_zone::{Policy, Zone};
+use caldate_answers::reading::reader::Reader;
+use caldate_answers::reading::value_format::ValueFormat;
+use caldate_answers::reading::{DateOrder, Reading};
+use caldate_answers::request::*;
+use caldate_args::args::arguments::{MAX_BYTES, join};
+use caldate_args::args::asked_by;
+use caldate_args::command::*;
+use caldate_args::data_files::system_files::SystemFiles;
+use caldate_args::holidays::MAX_HOLIDAYS;
+use caldate_args::zones::zone_source::{MAX_FILE_BYTES, MAX_PATH_BYTES, find_folder};
+use caldate_lines::field::Field;
+use caldate_lines::on_invalid::OnInvalid;
 use caldate_run::program::perform;
-use caldate_run::reading::reader::Reader;
-use caldate_run::reading::value_format::ValueFormat;
-use caldate_run::reading::{DateOrder, Reading};
-use caldate_run::request::*;
-use caldate_run::zones::zone_source::{MAX_FILE_BYTES, MAX_PATH_BYTES, find_folder};
 use std::env::{Env, FillError};
 use std::fs::Files;
 use std::io::{Read, Write};
@@ -136,7 +138,7 @@ fn answer(call: &Call<'_>) -> Vec<u8> {
     }
 }
 
-fn message_of(error: caldate_run::args::usage_error::UsageError<'_>, words: &[u8]) -> Vec<u8> {
+fn message_of(error: caldate_args::args::usage_error::UsageError<'_>, words: &[u8]) -> Vec<u8> {
     let mut message = Vec::new();
     let mut output = Vec::new();
     let now = Some(start());
@@ -204,13 +206,7 @@ fn filter_text(filter: &Filter<'_>) -> String {
     parts.push(format!("offset={}", filter.assumptions.offset.whole_seconds()));
     parts.push(format!("year={}", String::from_utf8_lossy(&filter.assumptions.year)));
     if let Some(clock) = &filter.clock {
-        let policy = match clock.policy {
-            Policy::Compatible => "compatible",
-            Policy::Earlier => "earlier",
-            Policy::Later => "later",
-            Policy::Reject => "reject",
-        };
-        parts.push(format!("zone={} {policy}", zone_text(&clock.zone)));
+        parts.push(format!("zone={} {}", zone_text(&clock.zone), policy_name(clock.policy)));
     }
     let Some(first) = Date::from_calendar_date(2024, Month::March, 25).ok() else {
         return "no date".into();
@@ -220,6 +216,15 @@ fn filter_text(filter: &Filter<'_>) -> String {
         filter.workdays.workdays_between(first, first.saturating_add(cal_time::SignedDuration::days(14)))
     ));
     parts.join(" ")
+}
+
+fn policy_name(policy: Policy) -> &'static str {
+    match policy {
+        Policy::Compatible => "compatible",
+        Policy::Earlier => "earlier",
+        Policy::Later => "later",
+        Policy::Reject => "reject",
+    }
 }
 
 fn field_text(filter: &Filter<'_>, field: Field) -> String {
@@ -247,8 +252,8 @@ fn reader_text(reader: &Reader) -> String {
         Reader::Named(Reading::Date(DateOrder::MonthFirst)) => "mdy".into(),
         Reader::Named(Reading::Unix(unit)) => unix_name(*unit).into(),
         Reader::Named(Reading::Local(_)) | Reader::Local => "local".into(),
-        Reader::Spelled(caldate_run::reading::spelling::Spelling::Iso) => "iso".into(),
-        Reader::Spelled(caldate_run::reading::spelling::Spelling::Seconds) => "unix".into(),
+        Reader::Spelled(caldate_answers::reading::spelling::Spelling::Iso) => "iso".into(),
+        Reader::Spelled(caldate_answers::reading::spelling::Spelling::Seconds) => "unix".into(),
         Reader::Format(format) => value_format_text(format),
         Reader::Yearless(format) => format!("yearless {}", value_format_text(format)),
     }
@@ -310,9 +315,10 @@ fn request_text(request: &Request<'_>) -> String {
     match request {
         Request::To(form) => format!("to {}", form_name(*form)),
         Request::Print(format) => format!("print {}", printed(format)),
-        Request::Add(duration) => format!("add {}s", duration.whole_seconds()),
         Request::Move(by) => move_text(*by),
-        Request::Floor(minutes) => format!("floor {minutes}"),
+        Request::MoveAt(clock, by) => {
+            format!("at {} {} {}", zone_text(&clock.zone), policy_name(clock.policy), move_text(*by))
+        }
         Request::Until(target, unit) => format!("until {}", target_text(target, *unit)),
         Request::Since(target, unit) => format!("since {}", target_text(target, *unit)),
         Request::At(Place::Offset(offset)) => format!("at {}", offset.whole_seconds()),
@@ -343,7 +349,16 @@ fn form_name(form: Form) -> &'static str {
     }
 }
 
-fn move_text(by: DayMove) -> String {
+fn move_text(by: Move) -> String {
+    match by {
+        Move::Day(by) => day_move_text(by),
+        Move::Days(duration) => format!("add {}d", duration.whole_seconds()),
+        Move::Add(duration) => format!("add {}s", duration.whole_seconds()),
+        Move::Floor(minutes) => format!("floor {minutes}"),
+    }
+}
+
+fn day_move_text(by: DayMove) -> String {
     match by {
         DayMove::Next(weekday, count) => format!("next {weekday} {count}"),
         DayMove::Last(weekday, count) => format!("last {weekday} {count}"),

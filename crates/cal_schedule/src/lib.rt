@@ -37,5 +37,5 @@ pub use unit::CalendarUnit;
 pub use unit_ends::{first_of, last_of};
 pub use until::{months_until, period_until, period_until_by, years_until};
 pub use weekdays::{last_weekday_of_month, nth_weekday_of_month, on_or_after, on_or_before};
-pub use workdays::{Convention, Workdays};
+pub use workdays::{Convention, WeekdayMarks, Workdays};
 pub use year_fraction::{DayCount, YearFraction, day_count};

@@ -12,7 +12,7 @@ use Rattle.cal_zone.specs.Local.{IsLocalOf, Shows}
 use Rattle.cal_zone.specs.declared.local.Local.{Local}
 use Rattle.cal_zone.specs.declared.local.Local.TheVariants.{Single, Gap, Fold}
 use Rattle.cal_zone.specs.Timeline.{Timeline, offset_at}
-use Rattle.cal_zoned.specs.Zoned.{InZone, IsSeen, reading_at}
+use Rattle.cal_zoned.specs.Zoned.{InZone, IsSeen, at_instant, reading_at}
 use Rattle.cal_zoned.specs.Period.{IsExact, IsMovedThen, IsPeriodLater}
 use Rattle.cal_zoned.specs.Resolved.{IsKept, IsResolved, IsMeant}
 use Rattle.cal_zone.specs.declared.policy.Policy.{Policy}
@@ -28,6 +28,12 @@ by_range x A here out =
 seen-one : (zone : Timeline) (z : ℤ) (a b : Result InZone LocalTimeError) → IsSeen zone z a → IsSeen zone z b → a ≡ b
 seen-one zone z a b p q =
     by_range (reading_at zone z) (a ≡ b) (λ inside. p.value inside ∙ sym (q.value inside)) (λ out. p.error out ∙ sym (q.error out))
+
+-- the date-time that is seen at an instant
+pub seen-is : (zone : Timeline) (z : ℤ) (m : InZone) → IsSeen zone z (Ok m) → IsDateTime (reading_at zone z) × (m ≡ at_instant zone z)
+seen-is zone z m h =
+    by_range (reading_at zone z) (IsDateTime (reading_at zone z) × (m ≡ at_instant zone z))
+    (λ inside. let same = h.value inside in (inside, cc)) (λ out. let same = h.error out in absurd cc)
 
 meant-one : (p : Policy) (zone : Timeline) (local : Local) (a b : Result InZone LocalTimeError) → IsMeant p zone local a → IsMeant p zone local b → a ≡ b
 meant-one p zone (Single m) a b h k = h ∙ sym k

@@ -3,15 +3,15 @@
 #![tactic(auto)]
 
 use cal_time::Date;
-use caldate_run::args::arguments::{MAX_BYTES, join};
-use caldate_run::args::asked_by;
+use caldate_args::args::arguments::{MAX_BYTES, join};
+use caldate_args::args::asked_by;
+use caldate_args::data_files::system_files::SystemFiles;
+use caldate_args::files::Joined;
+use caldate_args::files::named_files::NamedFiles;
+use caldate_args::holidays::MAX_HOLIDAYS;
+use caldate_args::zones::zone_source::{MAX_FILE_BYTES, MAX_PATH_BYTES, find_folder};
 use caldate_run::clock::read_clock;
-use caldate_run::data_files::system_files::SystemFiles;
-use caldate_run::files::Joined;
-use caldate_run::files::named_files::NamedFiles;
-use caldate_run::holidays::MAX_HOLIDAYS;
 use caldate_run::program::{perform, perform_on_files};
-use caldate_run::zones::zone_source::{MAX_FILE_BYTES, MAX_PATH_BYTES, find_folder};
 use std::io;
 use std::process::ExitCode;
 

@@ -2,20 +2,20 @@
 use Rattle.std.proofs.Common.{◌≡◌, ℕ, ◌+◌, ◌<◌, ◌++◌, false, List, [], length, Option, None, Result, Ok, Err, refl, sym, ap, subst}
 use Rattle.std.specs.Prelude.{IfErr, OnOk}
 use Rattle.std.specs.declared.io.Error.{Error}
-use Rattle.caldate_run.specs.Calls.{Writes, kind_of, write_failure}
-use Rattle.caldate_run.specs.Lines.{all_lines, ended_lines, unended}
-use Rattle.caldate_run.specs.Outputs.{HasTaken, IsOfWrite, Outputs, PassesOn}
+use Rattle.caldate_lines.specs.Calls.{Writes, kind_of, write_failure}
+use Rattle.caldate_lines.specs.Lines.{all_lines, ended_lines, unended}
+use Rattle.caldate_lines.specs.Outputs.{HasTaken, IsOfWrite, Outputs, PassesOn}
+use Rattle.caldate_lines.specs.RunStates.{DropsFront, FirstEnds, NoEnd, RunState, counted, quoting_of}
+use Rattle.caldate_lines.specs.declared.output.Output.{Output}
+use Rattle.caldate_lines.specs.declared.progress.Progress.{Progress}
+use Rattle.caldate_lines.specs.declared.run_error.RunError.{RunError}
+use Rattle.caldate_lines.specs.declared.run_error.RunError.TheVariants.{Read, Write, Stopped, Unanswered}
+use Rattle.caldate_lines.specs.declared.tally.Tally.{Tally}
+use Rattle.caldate_lines.specs.declared.unanswered.UnansweredLine.{UnansweredLine}
+use Rattle.caldate_lines.proofs.Outputs.{all_taken, appended, none_failed, same_buffer}
+use Rattle.caldate_answers.specs.declared.request.Filter.{Filter}
 use Rattle.caldate_run.specs.Replies.{IsReplyTo}
 use Rattle.caldate_run.specs.Runs.{AnswersAll, AnswersFront, AppendsReply, EndsEarly, HasRun}
-use Rattle.caldate_run.specs.RunStates.{DropsFront, FirstEnds, NoEnd, RunState, counted, quoting_of}
-use Rattle.caldate_run.specs.declared.output.Output.{Output}
-use Rattle.caldate_run.specs.declared.request.Filter.{Filter}
-use Rattle.caldate_run.specs.declared.run.progress.Progress.{Progress}
-use Rattle.caldate_run.specs.declared.run.run_error.RunError.{RunError}
-use Rattle.caldate_run.specs.declared.run.run_error.RunError.TheVariants.{Read, Write, Stopped, Unanswered}
-use Rattle.caldate_run.specs.declared.run.tally.Tally.{Tally}
-use Rattle.caldate_run.specs.declared.run.unanswered.UnansweredLine.{UnansweredLine}
-use Rattle.caldate_run.proofs.Outputs.{all_taken, appended, none_failed, same_buffer}
 use Rattle.caldate_run.proofs.Steps.{Ends, RepliesToAll, all_answered, answered, failed, held_line, last_answered, last_failed, last_stopped, stopped}
 
 -- ---- the result of a call

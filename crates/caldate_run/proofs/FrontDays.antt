@@ -24,7 +24,7 @@ use Rattle.cal_schedule.specs.declared.rule.rule.Rule.{Rule}
 use Rattle.cal_schedule.proofs.Rules.{all_of_them}
 use Rattle.cal_time.specs.Date.{last_day}
 use Rattle.cal_time.specs.Occurrences.{days_from}
-use Rattle.caldate_run.specs.Lists.{line_of}
+use Rattle.caldate_args.specs.Lists.{line_of}
 use Rattle.caldate_run.specs.Recurring.{is_day_up_to, is_moment_up_to, lines_left, reading_line}
 use Rattle.caldate_run.specs.declared.list.remaining.Remaining.TheVariants as left
 

@@ -11,14 +11,14 @@ use Rattle.cal_recurrence.specs.declared.zoned_set.ZonedSet.{ZonedSet}
 use Rattle.cal_time.specs.Date.{IsDate}
 use Rattle.cal_schedule.specs.Months.{IsMonthsLater}
 use Rattle.cal_schedule.proofs.MonthMoves.{IsMonthNumber-date, one_later}
-use Rattle.caldate_run.specs.Lists.{AreListed, IfAll, IsEnd, IsUnitsAfter, Lists, WritesLines, line_of}
-use Rattle.caldate_run.specs.Outputs.{WritesPage}
+use Rattle.caldate_lines.specs.Outputs.{IfAll, WritesPage}
+use Rattle.caldate_lines.specs.declared.run_error.RunError.{RunError}
+use Rattle.caldate_answers.proofs.OneAnswer.{took-one}
+use Rattle.caldate_args.specs.declared.command.Listing.{Listing}
+use Rattle.caldate_args.specs.declared.command.StepUnit.{StepUnit}
+use Rattle.caldate_args.specs.declared.command.StepUnit.TheVariants.{Days, Months}
+use Rattle.caldate_args.specs.Lists.{AreListed, IsEnd, IsUnitsAfter, Lists, WritesLines, line_of}
 use Rattle.caldate_run.specs.Recurring.{AreListedIn, IsEndIn, IsNextIn}
-use Rattle.caldate_run.specs.declared.run.run_error.RunError.{RunError}
-use Rattle.caldate_run.specs.declared.request.Listing.{Listing}
-use Rattle.caldate_run.specs.declared.request.StepUnit.{StepUnit}
-use Rattle.caldate_run.specs.declared.request.StepUnit.TheVariants.{Days, Months}
-use Rattle.caldate_run.proofs.OneAnswer.{took-one}
 
 -- any two days of the range are less than a thousand million months from each other
 few_months : (n m s : ℕ) → IsDate n → IsDate s → IsMonthsLater n (pos m) s → m < 1000000000

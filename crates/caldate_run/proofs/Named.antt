@@ -2,14 +2,15 @@
 use denote.Ref.{Bor}
 use Rattle.std.proofs.Common.{◌≡◌, ◌⊎◌, ◌<◌, ◌∙◌, ℕ, ℤ, List, Bool, false, true, Option, Some, Result, Ok, Err, inl, inr, length, subst, sym}
 use Rattle.std.specs.Prelude.{MatchBool, MatchResult}
-use Rattle.caldate_run.specs.Ending.{Says}
-use Rattle.caldate_run.specs.Fields.{overlap}
-use Rattle.caldate_run.specs.Header.{EndsNamed, HasHeader, HasLine, header_of, numbered, numbers_in}
-use Rattle.caldate_run.specs.RunStates.{NoEnd}
-use Rattle.caldate_run.specs.declared.request.Field.{Field}
-use Rattle.caldate_run.specs.declared.request.Filter.{Filter}
-use Rattle.caldate_run.specs.declared.run.quoting.Quoting.TheVariants.{Ready}
-use Rattle.caldate_run.specs.declared.run.run_error.RunError.{RunError}
+use Rattle.caldate_lines.specs.Ending.{Says}
+use Rattle.caldate_lines.specs.Fields.{overlap}
+use Rattle.caldate_lines.specs.Header.{HasHeader, HasLine, header_of}
+use Rattle.caldate_lines.specs.RunStates.{NoEnd}
+use Rattle.caldate_lines.specs.declared.field.Field.{Field}
+use Rattle.caldate_lines.specs.declared.quoting.Quoting.TheVariants.{Ready}
+use Rattle.caldate_lines.specs.declared.run_error.RunError.{RunError}
+use Rattle.caldate_answers.specs.declared.request.Filter.{Filter}
+use Rattle.caldate_run.specs.Named.{EndsNamed, numbered, numbers_in}
 
 pub has_header : (field : Field) (left : Option (List ℕ)) (bytes input : List ℕ) → bytes ≡ input → HasLine field bytes ⊎ (4097 < length bytes) → HasHeader field left input
 has_header field left bytes input e (inl line) = subst (HasHeader field left) e (inl line)

@@ -14,12 +14,12 @@ use Rattle.cal_recurrence.specs.declared.zoned_set.ZonedSet.{ZonedSet}
 use Rattle.cal_zone.specs.Local.{IsLocalOf}
 use Rattle.cal_zone.specs.Timeline.{Timeline}
 use Rattle.cal_zone.specs.declared.local.Local.{Local}
+use Rattle.caldate_lines.specs.declared.run_error.RunError.{RunError}
+use Rattle.caldate_answers.proofs.OneAnswer.{took-one}
+use Rattle.caldate_args.specs.declared.command.Span.{Span}
+use Rattle.caldate_args.specs.declared.command.Span.TheVariants.{Dates, InZone, Moments}
 use Rattle.caldate_run.specs.Recurring.{AreNextIn, IsEndIn, IsNextIn, IsSetIn, ListsSet, ListsSpan, moment_line}
-use Rattle.caldate_run.specs.declared.request.Span.{Span}
-use Rattle.caldate_run.specs.declared.request.Span.TheVariants.{Dates, InZone, Moments}
-use Rattle.caldate_run.specs.declared.run.run_error.RunError.{RunError}
 use Rattle.caldate_run.proofs.Listed.{pages-one}
-use Rattle.caldate_run.proofs.OneAnswer.{took-one}
 
 -- A reading has one result in the zone.
 abbrev OneLocal : Timeline → Type 0

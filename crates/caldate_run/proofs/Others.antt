@@ -3,13 +3,13 @@ use Rattle.std.proofs.Common.{◌≡◌, ◌∙◌, ℕ, true, List, Option, Som
 use Rattle.std.specs.Prelude.{MatchOption, is_some, option_and_then, option_map}
 use Rattle.std.proofs.lemmas.Option.{none-some}
 use Rattle.cal_text.specs.declared.any.DateOrMoment.{DateOrMoment}
-use Rattle.caldate_run.specs.Answers.{Answer, IsAnswer, IsNotRead, IsReadAs}
-use Rattle.caldate_run.specs.Targets.{IsAnswerAt, IsAnswerBeside, IsAnswerWith, IsOther, IsReadOther, fields_beside, other_field, target_fields, with_text}
-use Rattle.caldate_run.specs.declared.request.Field.{Field}
-use Rattle.caldate_run.specs.declared.request.FieldNumbers.{FieldNumbers}
-use Rattle.caldate_run.specs.declared.request.Filter.{Filter}
-use Rattle.caldate_run.specs.declared.request.Request.{Request}
-use Rattle.caldate_run.specs.declared.run.no_answer.NoAnswer.{NoAnswer}
+use Rattle.caldate_lines.specs.declared.field.Field.{Field}
+use Rattle.caldate_lines.specs.declared.field_numbers.FieldNumbers.{FieldNumbers}
+use Rattle.caldate_lines.specs.declared.no_answer.NoAnswer.{NoAnswer}
+use Rattle.caldate_answers.specs.Answers.{Answer, IsAnswer, IsNotRead, IsReadAs}
+use Rattle.caldate_answers.specs.Targets.{IsAnswerAt, IsAnswerBeside, IsAnswerWith, IsOther, IsReadOther, fields_beside, other_field, target_fields, with_text}
+use Rattle.caldate_answers.specs.declared.request.Filter.{Filter}
+use Rattle.caldate_answers.specs.declared.request.Request.{Request}
 
 -- ---- the other fields
 pub no_other : (filter : Filter) → filter.field ≡ None → other_field filter ≡ None

@@ -8,20 +8,22 @@ use Rattle.std.proofs.lemmas.Bool.Decides.{nat_tests}
 use Rattle.std.proofs.lemmas.List.{append-nil, take_all, take_rest}
 use Rattle.cal_schedule.specs.Workdays.{WorkWeek}
 use Rattle.cal_text.specs.declared.any.DateOrMoment.{DateOrMoment}
-use Rattle.caldate_run.specs.Answers.{Answer, IsAnswer, IsAnswerTo, keeps}
-use Rattle.caldate_run.specs.Fields.{Cut, cut_of, end_of_field, in_place_of, in_quotes, as_field, field_text, is_quote, is_quoted, unquoted, with_numbers}
+use Rattle.caldate_lines.specs.Fields.{Cut, cut_of, end_of_field, in_place_of, in_quotes, as_field, field_text, is_quote, is_quoted, unquoted, with_numbers}
+use Rattle.caldate_lines.proofs.NewFields.{plain_words}
+use Rattle.caldate_lines.specs.declared.field.Field.{Field}
+use Rattle.caldate_lines.specs.declared.no_answer.NoAnswer.{NoAnswer}
+use Rattle.caldate_lines.specs.declared.several_fields.RankedField.{RankedField}
+use Rattle.caldate_answers.specs.Answers.{Answer, IsAnswer, IsAnswerTo, keeps}
+use Rattle.caldate_answers.specs.Appends.{AppendsAnswer, AppendsSome}
+use Rattle.caldate_answers.specs.Targets.{other_field}
+use Rattle.caldate_answers.specs.declared.request.Filter.{Filter}
+use Rattle.caldate_answers.specs.declared.request.Clock.{Clock}
+use Rattle.caldate_answers.specs.declared.request.Request.{Request}
+use Rattle.caldate_answers.specs.declared.request.Request.TheVariants.{To, Print, Move, MoveAt, Until, Since, At, Keep}
 use Rattle.caldate_run.specs.Pieces.{IsAnswered, IsAnswerToAsked, IsOutOf, IsPieceOut, Piece, Pieces, closed_words, earlier, field_end, field_piece, fields_from, fields_in, is_quoted_in, joined, later_cut, new_field, own_field, pieces_in, pieces_of, placed, replaced, single, whole}
-use Rattle.caldate_run.specs.Runs.{AppendsAnswer, AppendsOut, AppendsSome}
-use Rattle.caldate_run.specs.Targets.{other_field}
-use Rattle.caldate_run.proofs.NewFields.{plain_words}
+use Rattle.caldate_run.specs.Runs.{AppendsOut}
 use Rattle.caldate_run.proofs.Others.{by_itself}
 use Rattle.caldate_run.proofs.Replied.{weaker}
-use Rattle.caldate_run.specs.declared.request.Field.{Field}
-use Rattle.caldate_run.specs.declared.request.Filter.{Filter}
-use Rattle.caldate_run.specs.declared.request.Request.{Request}
-use Rattle.caldate_run.specs.declared.request.Request.TheVariants.{To, Print, Add, Move, Floor, Until, Since, At, Keep}
-use Rattle.caldate_run.specs.declared.run.no_answer.NoAnswer.{NoAnswer}
-use Rattle.caldate_run.specs.declared.several_fields.RankedField.{RankedField}
 
 -- ---- one piece
 joined_nil : (out : Option (List ℕ)) → out ≡ joined out (Some [])
@@ -159,21 +161,20 @@ cond_of true part words all h e = sym (h refl)
 cond_of false part words all h e = e
 
 -- `keep` answers with the text itself
-kept_words : (workdays : WorkWeek) (q : Request) (text : List ℕ) (found : DateOrMoment) (words : List ℕ) → IsAnswerTo workdays q text found words → keeps q ≡ true → words ≡ text
-kept_words workdays (Keep bounds) text found words h e = h.1
-kept_words workdays (To form) text found words h e = absurd (false≢true e)
-kept_words workdays (Print items) text found words h e = absurd (false≢true e)
-kept_words workdays (Add d) text found words h e = absurd (false≢true e)
-kept_words workdays (Move by) text found words h e = absurd (false≢true e)
-kept_words workdays (Floor n) text found words h e = absurd (false≢true e)
-kept_words workdays (Until target unit) text found words h e = absurd (false≢true e)
-kept_words workdays (Since target unit) text found words h e = absurd (false≢true e)
-kept_words workdays (At place) text found words h e = absurd (false≢true e)
+kept_words : (clock : Option Clock) (workdays : WorkWeek) (q : Request) (text : List ℕ) (found : DateOrMoment) (words : List ℕ) → IsAnswerTo clock workdays q text found words → keeps q ≡ true → words ≡ text
+kept_words clock workdays (Keep bounds) text found words h e = h.1
+kept_words clock workdays (To form) text found words h e = absurd (false≢true e)
+kept_words clock workdays (Print items) text found words h e = absurd (false≢true e)
+kept_words clock workdays (Move by) text found words h e = absurd (false≢true e)
+kept_words clock workdays (MoveAt other by) text found words h e = absurd (false≢true e)
+kept_words clock workdays (Until target unit) text found words h e = absurd (false≢true e)
+kept_words clock workdays (Since target unit) text found words h e = absurd (false≢true e)
+kept_words clock workdays (At place) text found words h e = absurd (false≢true e)
 
 own_words : (filter : Filter) (text words : List ℕ) → IsAnswer filter text (Ok (Some words)) → placed filter.field text words ≡ words
     → replaced filter text true (Ok (Some words)) ≡ Some words
 own_words filter text words h e =
-    ap Some (cond_of (keeps filter.request) text (placed filter.field text words) words (λ k. kept_words filter.workdays filter.request text h.0 words h.2 k) e)
+    ap Some (cond_of (keeps filter.request) text (placed filter.field text words) words (λ k. kept_words filter.clock filter.workdays filter.request text h.0 words h.2 k) e)
 
 -- a whole line
 whole_out : (filter : Filter) (text : List ℕ) (goes : Bool) (old new : List ℕ) → filter.field ≡ None → other_field filter ≡ None → AppendsAnswer (IsAnswer filter text) (Ok goes) old new

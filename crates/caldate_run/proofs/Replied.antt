@@ -1,27 +1,28 @@
 -- The reply to a line, from what goes out for its text.
-use Rattle.std.proofs.Common.{◌≡◌, ◌⊎◌, inl, inr, ℕ, ◌+◌, ◌-◌, ◌<◌, ◌≤◌, Bool, true, false, cond, eqb, List, [], ◌∷◌, ◌++◌, length, take, get_or, Option, Some, None, Result, Ok, Err, refl, sym, ap, ◌∙◌, subst, arith, length-append, append_assoc}
+use Rattle.std.proofs.Common.{◌≡◌, ◌⊎◌, inl, inr, ℕ, ◌+◌, ◌-◌, ◌<◌, ◌≤◌, Bool, true, false, cond, eqb, List, [], ◌∷◌, ◌++◌, length, take, get_or, Option, Some, None, Ok, Err, refl, sym, ap, ◌∙◌, subst, arith, length-append, append_assoc}
 use Rattle.std.specs.Prelude.{IsSomeAnd, MatchBool, MatchOption, is_some, nat_lt, unwrap_or, ◌&&◌}
-use Rattle.std.proofs.Math.Seq.{take-append-add, take-append_seam}
+use Rattle.std.proofs.Math.Seq.{take-append-add}
 use Rattle.std.proofs.lemmas.Bool.{false≢true, le-ltb, lt-ltb}
 use Rattle.std.proofs.lemmas.List.{append-nil, get_or-append-add}
-use Rattle.caldate_run.specs.Answers.{Answer}
+use Rattle.caldate_lines.specs.Fields.{text_without}
+use Rattle.caldate_lines.specs.Lines.{has_return, text_of}
+use Rattle.caldate_lines.specs.Reasons.{reason}
+use Rattle.caldate_lines.specs.RunStates.{more, IsDroppedFront, passed}
+use Rattle.caldate_lines.specs.declared.no_answer.NoAnswer.{NoAnswer}
+use Rattle.caldate_lines.specs.declared.no_answer.NoAnswer.TheVariants as why
+use Rattle.caldate_lines.specs.declared.on_invalid.OnInvalid.{OnInvalid}
+use Rattle.caldate_lines.specs.declared.on_invalid.OnInvalid.TheVariants as invalid
+use Rattle.caldate_lines.specs.declared.field.Field.{Field}
+use Rattle.caldate_lines.specs.declared.tally.Tally.{Tally}
+use Rattle.caldate_lines.specs.declared.unanswered.UnansweredLine.{UnansweredLine}
+use Rattle.caldate_answers.specs.Answers.{Answer}
+use Rattle.caldate_answers.specs.Appends.{AppendsAnswer, AppendsSome}
+use Rattle.caldate_answers.specs.Scans.{IsScanned}
+use Rattle.caldate_answers.specs.declared.request.Filter.{Filter}
 use Rattle.caldate_run.proofs.Steps.{passed_none}
-use Rattle.caldate_run.specs.Fields.{text_without}
-use Rattle.caldate_run.specs.Lines.{has_return, text_of}
 use Rattle.caldate_run.specs.Pieces.{IsAnswered, instead, pieces_of}
-use Rattle.caldate_run.specs.Reasons.{reason}
-use Rattle.caldate_run.specs.Replies.{Describes, IsCounted, IsLine, IsOutcome, IsOutcomeOfText, IsReplyTo, more, own_field, skipped, stops, with_end}
-use Rattle.caldate_run.specs.Runs.{AppendsAnswer, AppendsOut, AppendsSome}
-use Rattle.caldate_run.specs.RunStates.{IsDroppedFront, passed}
-use Rattle.caldate_run.specs.Scans.{IsScanned}
-use Rattle.caldate_run.specs.declared.run.no_answer.NoAnswer.{NoAnswer}
-use Rattle.caldate_run.specs.declared.run.no_answer.NoAnswer.TheVariants as why
-use Rattle.caldate_run.specs.declared.on_invalid.OnInvalid.{OnInvalid}
-use Rattle.caldate_run.specs.declared.on_invalid.OnInvalid.TheVariants as invalid
-use Rattle.caldate_run.specs.declared.request.Field.{Field}
-use Rattle.caldate_run.specs.declared.request.Filter.{Filter}
-use Rattle.caldate_run.specs.declared.run.tally.Tally.{Tally}
-use Rattle.caldate_run.specs.declared.run.unanswered.UnansweredLine.{UnansweredLine}
+use Rattle.caldate_run.specs.Replies.{Describes, IsCounted, IsLine, IsOutcome, IsOutcomeOfText, IsReplyTo, own_field, skipped, stops, with_end}
+use Rattle.caldate_run.specs.Runs.{AppendsOut}
 
 -- ---- a line of which a front was let go
 same_return : (kept line : List ℕ) → 0 < length line → has_return (kept ++ line) ≡ has_return line
@@ -84,14 +85,6 @@ of_scan filter before text any out fits skip scans h = of_text filter before tex
 -- ---- the bytes that are appended
 pub weaker : (P Q : Option (List ℕ) → Type 0) (goes : Bool) (old new : List ℕ) → ((out : Option (List ℕ)) → P out → Q out) → AppendsOut P goes old new → AppendsOut Q goes old new
 weaker P Q goes old new f h = (h.0, h.1, h.2, f h.0 h.3)
-
-pub puts_other : (P Q : Answer → Type 0) (r : Result Bool NoAnswer) (old new : List ℕ) → ((answer : Answer) → P answer → Q answer) → AppendsAnswer P r old new → AppendsAnswer Q r old new
-puts_other P Q (Ok true) old new f h = (h.0, h.1, f (Ok (Some h.0)) h.2)
-puts_other P Q (Ok false) old new f h = (h.0, f (Ok None) h.1)
-puts_other P Q (Err any) old new f h = (h.0, f (Err any) h.1)
-
-pub taken_back : (old mid rest new : List ℕ) (before : ℕ) → before ≡ length old → mid ≡ old ++ rest → new ≡ take before mid → new ≡ old
-taken_back old mid rest new before at e f = f ∙ ap (λ k. take k mid) at ∙ ap (λ l. take (length old) l) e ∙ take-append_seam old rest
 
 pub line_answered : (Is : Answer → Type 0) (mode : OnInvalid) (text : List ℕ) (goes : Bool) (old new : List ℕ) → AppendsAnswer Is (Ok goes) old new
     → AppendsOut (λ out. (answer : Answer) × Is answer × IsLine mode text answer None out) goes old new

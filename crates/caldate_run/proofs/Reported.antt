@@ -1,11 +1,11 @@
 -- The steps of the files in a run.
 use Rattle.std.proofs.Common.{ℕ, Bool, false, Result, refl, ◌∙◌, inl, inr}
 use Rattle.std.specs.declared.io.Error.{Error}
-use Rattle.caldate_run.specs.Calls.{Gives, Reads, most_reads}
-use Rattle.caldate_run.specs.Calls.Gives.{ok, fails, again}
-use Rattle.caldate_run.specs.Calls.Reads.{no_more, given, ended, failed, too_many}
-use Rattle.caldate_run.specs.Files.{FailsOrKeeps, Steps}
-use Rattle.caldate_run.specs.Files.Steps.{none, some}
+use Rattle.caldate_lines.specs.Calls.{Gives, Reads, most_reads}
+use Rattle.caldate_lines.specs.Calls.Gives.{ok, fails, again}
+use Rattle.caldate_lines.specs.Calls.Reads.{no_more, given, ended, failed, too_many}
+use Rattle.caldate_args.specs.Files.{FailsOrKeeps, Steps}
+use Rattle.caldate_args.specs.Files.Steps.{none, some}
 
 then : {S : Type 0} (step : S → S → Type 0) (s t end : S) → Steps step s t → Steps step t end → Steps step s end
 then step s t end (none _) more = more

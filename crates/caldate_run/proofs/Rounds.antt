@@ -5,20 +5,21 @@ use Rattle.std.specs.declared.io.Error.{Error}
 use Rattle.std.specs.Io.KnownBytes.{Consumes, IsAtEnd, Keeps}
 use Rattle.std.proofs.KnownBytes.{Consumes-kept, Consumes-nil, Consumes-trans, Keeps-refl}
 use Rattle.std.proofs.lemmas.List.{append-nil}
-use Rattle.caldate_run.specs.Calls.{Gives, Reads, Writes, has_read_failure, is_of_read, kind_of, most_retries, write_failure}
-use Rattle.caldate_run.specs.Calls.Reads.{no_more, too_many}
-use Rattle.caldate_run.specs.Lines.{all_lines, ended_lines, unended}
+use Rattle.caldate_lines.specs.Calls.{Gives, Reads, Writes, has_read_failure, is_of_read, kind_of, most_retries, write_failure}
+use Rattle.caldate_lines.specs.Calls.Reads.{no_more, too_many}
+use Rattle.caldate_lines.specs.Lines.{all_lines, ended_lines, unended}
+use Rattle.caldate_lines.specs.Outputs.{HasRead}
+use Rattle.caldate_lines.specs.RunStates.{NoEnd, no_lines, quoting_of}
+use Rattle.caldate_lines.specs.declared.output.Output.{Output}
+use Rattle.caldate_lines.specs.declared.progress.Progress.{Progress}
+use Rattle.caldate_lines.specs.declared.run_error.RunError.{RunError}
+use Rattle.caldate_lines.specs.declared.run_error.RunError.TheVariants.{Read, Write, Stopped, Unanswered}
+use Rattle.caldate_lines.specs.declared.tally.Tally.{Tally}
+use Rattle.caldate_lines.proofs.Calls.{reads_ended, reads_failed, reads_given}
+use Rattle.caldate_lines.proofs.Outputs.{all_taken, new_output, none_failed}
+use Rattle.caldate_answers.specs.declared.request.Filter.{Filter}
 use Rattle.caldate_run.specs.Replies.{IsReplyTo}
-use Rattle.caldate_run.specs.Runs.{Advances, AnswersAll, CompletesFrom, EndsEarly, EndsFrom, HasEnded, HasRead, HasRun, IsRunResult}
-use Rattle.caldate_run.specs.RunStates.{NoEnd, no_lines, quoting_of}
-use Rattle.caldate_run.specs.declared.output.Output.{Output}
-use Rattle.caldate_run.specs.declared.request.Filter.{Filter}
-use Rattle.caldate_run.specs.declared.run.progress.Progress.{Progress}
-use Rattle.caldate_run.specs.declared.run.run_error.RunError.{RunError}
-use Rattle.caldate_run.specs.declared.run.run_error.RunError.TheVariants.{Read, Write, Stopped, Unanswered}
-use Rattle.caldate_run.specs.declared.run.tally.Tally.{Tally}
-use Rattle.caldate_run.proofs.Calls.{reads_ended, reads_failed, reads_given}
-use Rattle.caldate_run.proofs.Outputs.{all_taken, new_output, none_failed}
+use Rattle.caldate_run.specs.Runs.{Advances, AnswersAll, CompletesFrom, EndsEarly, EndsFrom, HasEnded, HasRun, IsRunResult}
 use Rattle.caldate_run.proofs.Steps.{begun, ended_answered, reads_more}
 
 -- ---- from the result of a run

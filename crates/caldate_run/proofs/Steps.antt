@@ -1,25 +1,26 @@
 -- How far a run is after each of its steps.
-use Rattle.std.proofs.Common.{◌≡◌, ℕ, inl, inr, ◌+◌, ◌-◌, ◌<◌, ◌≤◌, Bool, true, false, cond, List, [], ◌∷◌, ◌++◌, length, take, drop, Option, Some, None, Err, refl, sym, ap, ◌∙◌, subst, arith, append_assoc, length-append, length-take, length-drop, take-append-drop}
+use Rattle.std.proofs.Common.{◌≡◌, ℕ, inl, inr, ◌+◌, ◌-◌, ◌<◌, Bool, true, false, cond, List, [], ◌∷◌, ◌++◌, length, take, drop, Option, Some, refl, sym, ap, ◌∙◌, subst, arith, append_assoc, length-append, length-take, length-drop, take-append-drop}
 use Rattle.std.specs.Io.KnownBytes.{Appends}
 use Rattle.std.proofs.Math.Nat.{min-eq_left}
 use Rattle.std.proofs.lemmas.List.{append-nil, take-append-le, take_all}
 use Rattle.std.proofs.lemmas.Bool.{false≢true}
-use Rattle.caldate_run.specs.Lines.{all_lines, ended_lines, last_part, split_from, split_input, text_of, unended, without_empty_last, without_last}
+use Rattle.caldate_lines.specs.Lines.{all_lines, ended_lines, last_part, split_from, split_input, text_of, unended, without_empty_last, without_last}
+use Rattle.caldate_lines.specs.Outputs.{AppendsFront}
+use Rattle.caldate_lines.specs.RunStates.{AreReplies, AtLine, FirstEnds, IsDroppedFront, NoEnd, Replies, RunState, counted, no_lines, onto, passed, quoting_in, quoting_of}
+use Rattle.caldate_lines.specs.declared.no_answer.NoAnswer.{NoAnswer}
+use Rattle.caldate_lines.specs.declared.on_invalid.OnInvalid.{OnInvalid}
+use Rattle.caldate_lines.specs.declared.on_invalid.OnInvalid.TheVariants as invalid
+use Rattle.caldate_lines.specs.declared.progress.Progress.{Progress}
+use Rattle.caldate_lines.specs.declared.field.Field.{Field}
+use Rattle.caldate_lines.specs.declared.quoting.Quoting.{Quoting}
+use Rattle.caldate_lines.specs.declared.quoting.Quoting.TheVariants.{Ready}
+use Rattle.caldate_lines.specs.declared.tally.Tally.{Tally}
+use Rattle.caldate_lines.specs.declared.unanswered.UnansweredLine.{UnansweredLine}
+use Rattle.caldate_lines.proofs.Quotes.{onto_one}
+use Rattle.caldate_lines.proofs.Splits.{line_some, of_none, onto_onto, onto_parts, part_counts, parts_some, passes_front}
+use Rattle.caldate_answers.specs.declared.request.Filter.{Filter}
 use Rattle.caldate_run.specs.Replies.{Describes, EndsAt, IsOutcome, IsReplyTo, stops}
-use Rattle.caldate_run.specs.Runs.{AnswersAll, AnswersEnded, AnswersFront, AppendsFront, IsPassedOn, AppendsReply, EndsUnanswered, StopsAt}
-use Rattle.caldate_run.specs.RunStates.{AreReplies, AtLine, FirstEnds, IsDroppedFront, NoEnd, Replies, RunState, counted, no_lines, onto, passed, quoting_in, quoting_of}
-use Rattle.caldate_run.specs.declared.run.no_answer.NoAnswer.{NoAnswer}
-use Rattle.caldate_run.specs.declared.on_invalid.OnInvalid.{OnInvalid}
-use Rattle.caldate_run.specs.declared.on_invalid.OnInvalid.TheVariants as invalid
-use Rattle.caldate_run.specs.declared.run.progress.Progress.{Progress}
-use Rattle.caldate_run.specs.declared.request.Field.{Field}
-use Rattle.caldate_run.specs.declared.request.Filter.{Filter}
-use Rattle.caldate_run.specs.declared.run.quoting.Quoting.{Quoting}
-use Rattle.caldate_run.specs.declared.run.quoting.Quoting.TheVariants.{Ready}
-use Rattle.caldate_run.specs.declared.run.tally.Tally.{Tally}
-use Rattle.caldate_run.specs.declared.run.unanswered.UnansweredLine.{UnansweredLine}
-use Rattle.caldate_run.proofs.Quotes.{onto_one}
-use Rattle.caldate_run.proofs.Splits.{line_some, of_none, onto_onto, onto_parts, parts_some, passes_front}
+use Rattle.caldate_run.specs.Runs.{AnswersEnded, AnswersFront, IsPassedOn, EndsUnanswered, StopsAt}
 
 -- ---- replies
 one_reply : (IsReply : Replies) (before n : ℕ) (lines : List (List ℕ)) (line out reply : List ℕ) (t u v : Tally) → n ≡ before + length lines
@@ -109,13 +110,6 @@ answered IsReply mode field input given words pending line after progress progre
 }
 
 -- ---- the lines of the input
-pub part_counts : (part : List ℕ) (parts : List (List ℕ)) → 0 < length parts
-    → without_empty_last (part ∷ parts) ≡ part ∷ without_empty_last parts
-part_counts [] [] h = absurd (omega arith)
-part_counts (b ∷ bs) [] h = absurd (omega arith)
-part_counts [] (p ∷ parts) h = refl
-part_counts (b ∷ bs) (p ∷ parts) h = refl
-
 some_parts : (lines : List (List ℕ)) (parts : List (List ℕ)) → 0 < length parts → 0 < length (lines ++ parts)
 some_parts lines parts h = omega (arith, h, length-append lines parts)
 

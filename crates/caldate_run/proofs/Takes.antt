@@ -1,9 +1,9 @@
 -- Reads of a text in memory.
 use Rattle.std.proofs.Common.{◌≡◌, ℕ, ◌<◌, Bool, false, List, length, Err, Ok, Result, arith, refl}
 use Rattle.std.specs.declared.io.Error.{Error}
-use Rattle.caldate_run.specs.Calls.{Gives, Reads, Takes, most_retries}
-use Rattle.caldate_run.specs.Calls.Gives.{ok, fails, again}
-use Rattle.caldate_run.specs.Calls.Reads.{no_more, given, ended, failed, too_many}
+use Rattle.caldate_lines.specs.Calls.{Gives, Reads, Takes, most_retries}
+use Rattle.caldate_lines.specs.Calls.Gives.{ok, fails, again}
+use Rattle.caldate_lines.specs.Calls.Reads.{no_more, given, ended, failed, too_many}
 
 gives_takes : (retries : ℕ) (s end : List ℕ) (outcome : Result ℕ Error) → Gives Takes retries s outcome end → Takes s outcome end
 gives_takes retries s end outcome (ok _ n _ _ takes) = takes

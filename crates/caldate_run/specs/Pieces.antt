@@ -2,17 +2,17 @@
 use Rattle.std.specs.Prelude.{◌≡◌, ℕ, ◌+◌, ◌||◌, nat_le, nat_lt, Bool, true, false, List, [], ◌∷◌, ◌++◌, length, drop, MatchOption, Option, Some, None, option_map, is_some, Ok, Err, if◌then◌else◌}
 use Rattle.std.specs.Option.{option_map_or}
 use Rattle.std.specs.Result.{result_err}
-use Rattle.caldate_run.specs.Answers.{Answer, keeps}
-use Rattle.caldate_run.specs.Fields.{Cut, cut_of, end_of_field, field_text, in_place_of, is_quoted, selected_text, with_numbers}
-use Rattle.caldate_run.specs.Reasons.{reason}
-use Rattle.caldate_run.specs.Targets.{IsAnswerAt}
-use Rattle.caldate_run.specs.declared.on_invalid.OnInvalid.{OnInvalid}
-use Rattle.caldate_run.specs.declared.on_invalid.OnInvalid.TheVariants as invalid
-use Rattle.caldate_run.specs.declared.request.Field.{Field}
-use Rattle.caldate_run.specs.declared.request.Filter.{Filter}
-use Rattle.caldate_run.specs.declared.run.no_answer.NoAnswer.{NoAnswer}
-use Rattle.caldate_run.specs.declared.run.no_answer.NoAnswer.TheVariants as why
-use Rattle.caldate_run.specs.declared.several_fields.RankedField.{RankedField}
+use Rattle.caldate_lines.specs.Fields.{Cut, cut_of, end_of_field, field_text, in_place_of, is_quoted, selected_text, with_numbers}
+use Rattle.caldate_lines.specs.Reasons.{reason}
+use Rattle.caldate_lines.specs.declared.on_invalid.OnInvalid.{OnInvalid}
+use Rattle.caldate_lines.specs.declared.on_invalid.OnInvalid.TheVariants as invalid
+use Rattle.caldate_lines.specs.declared.field.Field.{Field}
+use Rattle.caldate_lines.specs.declared.no_answer.NoAnswer.{NoAnswer}
+use Rattle.caldate_lines.specs.declared.no_answer.NoAnswer.TheVariants as why
+use Rattle.caldate_lines.specs.declared.several_fields.RankedField.{RankedField}
+use Rattle.caldate_answers.specs.Answers.{Answer, keeps}
+use Rattle.caldate_answers.specs.Targets.{IsAnswerAt}
+use Rattle.caldate_answers.specs.declared.request.Filter.{Filter}
 
 -- Bytes that stay, and then the bytes that an answer replaces. The text to answer may be missing.
 pub record Piece : Type 0 where

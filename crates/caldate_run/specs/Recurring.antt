@@ -9,15 +9,15 @@ use Rattle.cal_recurrence.specs.ZonedSet.{IsFirstAfter, Occurs}
 use Rattle.cal_recurrence.specs.declared.recurrence.Recurrence.{Recurrence}
 use Rattle.cal_recurrence.specs.declared.zoned_set.ZonedSet.{ZonedSet}
 use Rattle.cal_zone.specs.Timeline.{Timeline}
-use Rattle.caldate_run.specs.ClockWords.{moment_in, rfc3339_or_unix_text}
-use Rattle.caldate_run.specs.Lists.{IfAll, WritesLines, line_of}
-use Rattle.caldate_run.specs.Outputs.{WritesPage}
+use Rattle.caldate_lines.specs.Outputs.{IfAll, WritesPage}
+use Rattle.caldate_lines.specs.declared.run_error.RunError.{RunError}
+use Rattle.caldate_args.specs.declared.command.Occurrences.{Occurrences}
+use Rattle.caldate_args.specs.declared.command.Span.{Span}
+use Rattle.caldate_args.specs.declared.command.Span.TheVariants.{Dates, InZone, Moments}
+use Rattle.caldate_args.specs.ClockWords.{moment_in, rfc3339_or_unix_text}
+use Rattle.caldate_args.specs.Lists.{WritesLines, line_of}
 use Rattle.caldate_run.specs.declared.list.remaining.Remaining.{Remaining}
 use Rattle.caldate_run.specs.declared.list.remaining.Remaining.TheVariants as left
-use Rattle.caldate_run.specs.declared.request.Occurrences.{Occurrences}
-use Rattle.caldate_run.specs.declared.request.Span.{Span}
-use Rattle.caldate_run.specs.declared.request.Span.TheVariants.{Dates, InZone, Moments}
-use Rattle.caldate_run.specs.declared.run.run_error.RunError.{RunError}
 
 -- Day n is not past the last day.
 abbrev pub is_day_up_to : ℕ → ℕ → Bool

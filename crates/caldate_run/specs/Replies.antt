@@ -1,22 +1,22 @@
 -- The reply to a line, and the count of the lines without an answer.
-use Rattle.std.specs.Prelude.{◌≡◌, ℕ, ◌+◌, ◌-◌, ◌^◌, ◌==◌, ◌&&◌, min, not, nat_lt, Bool, true, false, List, [], ◌++◌, ◌∷◌, length, MatchBool, MatchOption, IsSomeAnd, Option, Some, None, is_some, Ok, Err, if◌then◌else◌}
+use Rattle.std.specs.Prelude.{◌≡◌, ℕ, ◌+◌, ◌-◌, ◌==◌, ◌&&◌, not, nat_lt, Bool, true, false, List, [], ◌++◌, length, MatchBool, MatchOption, IsSomeAnd, Option, Some, None, is_some, Ok, Err, if◌then◌else◌}
 use Rattle.std.specs.Result.{result_err}
-use Rattle.caldate_run.specs.Answers.{Answer}
-use Rattle.caldate_run.specs.Fields.{text_without, with_last}
-use Rattle.caldate_run.specs.Lines.{end_of, text_of}
+use Rattle.caldate_lines.specs.Fields.{text_without, with_last}
+use Rattle.caldate_lines.specs.Lines.{end_of, text_of}
+use Rattle.caldate_lines.specs.Reasons.{reason}
+use Rattle.caldate_lines.specs.Room.{longest_answer, longest_text}
+use Rattle.caldate_lines.specs.RunStates.{counted, more}
+use Rattle.caldate_lines.specs.declared.no_answer.NoAnswer.{NoAnswer}
+use Rattle.caldate_lines.specs.declared.no_answer.NoAnswer.TheVariants as why
+use Rattle.caldate_lines.specs.declared.on_invalid.OnInvalid.{OnInvalid}
+use Rattle.caldate_lines.specs.declared.on_invalid.OnInvalid.TheVariants as invalid
+use Rattle.caldate_lines.specs.declared.field.Field.{Field}
+use Rattle.caldate_lines.specs.declared.tally.Tally.{Tally}
+use Rattle.caldate_lines.specs.declared.unanswered.UnansweredLine.{UnansweredLine}
+use Rattle.caldate_answers.specs.Answers.{Answer}
+use Rattle.caldate_answers.specs.Scans.{IsScanned}
+use Rattle.caldate_answers.specs.declared.request.Filter.{Filter}
 use Rattle.caldate_run.specs.Pieces.{IsAnswered, instead, pieces_of}
-use Rattle.caldate_run.specs.Reasons.{reason}
-use Rattle.caldate_run.specs.Room.{longest_answer, longest_text}
-use Rattle.caldate_run.specs.RunStates.{counted}
-use Rattle.caldate_run.specs.Scans.{IsScanned}
-use Rattle.caldate_run.specs.declared.run.no_answer.NoAnswer.{NoAnswer}
-use Rattle.caldate_run.specs.declared.run.no_answer.NoAnswer.TheVariants as why
-use Rattle.caldate_run.specs.declared.on_invalid.OnInvalid.{OnInvalid}
-use Rattle.caldate_run.specs.declared.on_invalid.OnInvalid.TheVariants as invalid
-use Rattle.caldate_run.specs.declared.request.Field.{Field}
-use Rattle.caldate_run.specs.declared.request.Filter.{Filter}
-use Rattle.caldate_run.specs.declared.run.tally.Tally.{Tally}
-use Rattle.caldate_run.specs.declared.run.unanswered.UnansweredLine.{UnansweredLine}
 
 -- ---- a line that is not cut
 -- The header with the name of a new field. A name that is longer than an answer has no room.
@@ -69,10 +69,6 @@ pub record Describes (before : ℕ) (any : NoAnswer) (reported : UnansweredLine)
   pub why_is : reported.why ≡ any
 
 -- ---- the reply
--- A count and one more, at most 2^64 - 1.
-abbrev pub more : ℕ → ℕ
-more n = min (n + 1) (2 ^ 64 - 1)
-
 -- The line is counted. The first one without an answer is described.
 abbrev pub IsCounted : ℕ → Option NoAnswer → Tally → Tally → Type 0
 IsCounted before None old new = new ≡ record { lines = more old.lines; unanswered = old.unanswered; first = old.first }

@@ -1,35 +1,24 @@
 -- The effect of a run on the bytes of its reader and its writer, if they are known.
-use Rattle.std.specs.Prelude.{◌≡◌, ◌⊎◌, ℕ, ⊤, ◌<◌, Bool, true, false, List, [], ◌∷◌, ◌++◌, length, is_some, unwrap_or, Option, Some, None, Result, Ok, Err}
+use Rattle.std.specs.Prelude.{◌≡◌, ◌⊎◌, ℕ, ◌<◌, Bool, true, List, [], ◌∷◌, ◌++◌, length, is_some, unwrap_or, Option, Some, None, Result, Ok, Err}
 use Rattle.std.specs.Io.KnownBytes.{Appends, Consumes, IsAtEnd}
 use Rattle.std.specs.declared.io.Error.{Error}
-use Rattle.caldate_run.specs.Answers.{Answer}
-use Rattle.caldate_run.specs.Calls.{Reads, Writes, has_read_failure, kind_of, write_failure}
-use Rattle.caldate_run.specs.Lines.{all_lines, ended_lines, text_of, unended}
-use Rattle.caldate_run.specs.Outputs.{Outputs}
-pub use Rattle.caldate_run.specs.Outputs.{AppendsFront, IsOfWrite, WritesPage}
+use Rattle.caldate_lines.specs.Calls.{Reads, Writes, has_read_failure, kind_of, write_failure}
+use Rattle.caldate_lines.specs.Lines.{all_lines, ended_lines, text_of, unended}
+use Rattle.caldate_lines.specs.Outputs.{AppendsFront, Outputs}
+use Rattle.caldate_lines.specs.Room.{longest_text}
+use Rattle.caldate_lines.specs.RunStates.{AreReplies, AtLine, IsDroppedFront, Replies, RunState, counted, no_lines, passed}
+use Rattle.caldate_lines.specs.declared.output.Output.{Output}
+use Rattle.caldate_lines.specs.declared.run_error.RunError.{RunError}
+use Rattle.caldate_lines.specs.declared.run_error.RunError.TheVariants.{Read, Write, Stopped, Unanswered}
+use Rattle.caldate_lines.specs.declared.no_answer.NoAnswer.{NoAnswer}
+use Rattle.caldate_lines.specs.declared.on_invalid.OnInvalid.{OnInvalid}
+use Rattle.caldate_lines.specs.declared.on_invalid.OnInvalid.TheVariants as invalid
+use Rattle.caldate_lines.specs.declared.progress.Progress.{Progress}
+use Rattle.caldate_lines.specs.declared.tally.Tally.{Tally}
+use Rattle.caldate_lines.specs.declared.unanswered.UnansweredLine.{UnansweredLine}
+use Rattle.caldate_answers.specs.Appends.{AppendsSome}
+use Rattle.caldate_answers.specs.declared.request.Filter.{Filter}
 use Rattle.caldate_run.specs.Replies.{EndsAt, IsOutcome, IsReplyTo, stops}
-use Rattle.caldate_run.specs.Room.{longest_text}
-use Rattle.caldate_run.specs.RunStates.{AreReplies, AtLine, IsDroppedFront, Replies, RunState, counted, no_lines, passed}
-use Rattle.caldate_run.specs.declared.output.Output.{Output}
-use Rattle.caldate_run.specs.declared.run.run_error.RunError.{RunError}
-use Rattle.caldate_run.specs.declared.run.run_error.RunError.TheVariants.{Read, Write, Stopped, Unanswered}
-use Rattle.caldate_run.specs.declared.run.no_answer.NoAnswer.{NoAnswer}
-use Rattle.caldate_run.specs.declared.on_invalid.OnInvalid.{OnInvalid}
-use Rattle.caldate_run.specs.declared.on_invalid.OnInvalid.TheVariants as invalid
-use Rattle.caldate_run.specs.declared.run.progress.Progress.{Progress}
-use Rattle.caldate_run.specs.declared.request.Filter.{Filter}
-use Rattle.caldate_run.specs.declared.run.tally.Tally.{Tally}
-use Rattle.caldate_run.specs.declared.run.unanswered.UnansweredLine.{UnansweredLine}
-
--- The new bytes are the old ones, and then words with this property.
-abbrev pub AppendsSome : (List ℕ → Type 0) → List ℕ → List ℕ → Type 0
-AppendsSome IsOne old new = (words : List ℕ) × (new ≡ old ++ words) × IsOne words
-
--- The new bytes are the old ones and the words that go out, if any do.
-abbrev pub AppendsAnswer : (Answer → Type 0) → Result Bool NoAnswer → List ℕ → List ℕ → Type 0
-AppendsAnswer Is (Ok true) old new = AppendsSome (λ words. Is (Ok (Some words))) old new
-AppendsAnswer Is (Ok false) old new = (new ≡ old) × Is (Ok None)
-AppendsAnswer Is (Err any) old new = (new ≡ old) × Is (Err any)
 
 -- The new bytes are the old ones and what goes out, if anything does.
 abbrev pub AppendsOut : (Option (List ℕ) → Type 0) → Bool → List ℕ → List ℕ → Type 0
@@ -54,10 +43,6 @@ Leaves filter progress line why goes old new =
 abbrev pub EndsUnanswered : Filter → Progress → List ℕ → NoAnswer → Type 0
 EndsUnanswered filter progress line any =
     AtLine progress line (λ before whole. (stops filter.on_invalid ≡ true) × ((out : Option (List ℕ)) × IsOutcome filter before (text_of whole) (Some any) out))
-
--- The reader gave some bytes, which come after the old ones.
-abbrev pub HasRead : Option (List ℕ) → Option (List ℕ) → List ℕ → List ℕ → Type 0
-HasRead before after old new = (given : List ℕ) × Consumes before after given × (new ≡ old ++ given)
 
 -- The writer took exactly the replies to these lines, which have this tally.
 pub record AnswersAll (filter : Filter) (all : List (List ℕ)) (tally : Tally) (old new : Option (List ℕ)) : Type 0 where

@@ -32,6 +32,8 @@ invalid, or the input or the output fails.
                                   of the line; also since, and N-M or NAME as after --field
   caldate at OFFSET               the moment at that offset, such as +01:00
   caldate at ZONE                 the moment by the clocks of that zone, such as Europe/Berlin
+  caldate at ZONE MOVE            the moment moved by those clocks; MOVE is add, next, last,
+                                  on-or-after, on-or-before, start or end with its words
   caldate keep from A to B        the line itself if it is from A to B, otherwise nothing;
                                   also keep after A and keep before B
   caldate list from A to B        without input: all dates from A to B; with by N UNIT every N
@@ -60,9 +62,9 @@ invalid, or the input or the output fails.
                                   unix-ns, clf, rfc2822, syslog, iso or local, or in a format of
                                   strftime, such as %d.%m.%Y; of up to four, the first that fits wins
   caldate --assume OFFSET ...     with --read local, or a format without an offset: their offset
-  caldate --zone ZONE ...         the same, by the clocks of that zone
+  caldate --zone ZONE ...         the same, by the clocks of that zone, which moves go by too
   caldate --assume-year YEAR ...  with --read syslog, or a format without a year: their year
-  caldate --ambiguous POLICY ...  with --zone: what is meant by a time that clocks skip or show twice:
+  caldate --ambiguous POLICY ...  with --zone or at ZONE MOVE: a time that clocks skip or show twice is
                                   compatible (the default), earlier, later, or reject for none
   caldate --holidays FILE ...     with workdays: the dates in that file, one in each line, are not
                                   workdays
@@ -90,6 +92,7 @@ moment of the start, and its date at UTC or in the zone of --zone.
   echo 2024-02-29T23:30:00+01:00 | caldate at Z            2024-02-29T22:30:00Z
   echo 2024-07-01T12:00:00Z | caldate at Europe/Berlin     2024-07-01T14:00:00+02:00
   echo 2024-07-01T14:00:00 | caldate --read local --zone Europe/Berlin at Z   2024-07-01T12:00:00Z
+  echo 2024-03-15T11:00:00Z | caldate at Europe/Berlin add 1 month   2024-04-15T12:00:00+02:00
   echo 2024-02-29 | caldate to unix-ms                     1709164800000
   echo 29.02.2024 | caldate --read dmy to calendar         2024-02-29
   echo '29 February 2024' | caldate --read '%d %B %Y' to week   2024-W09-4

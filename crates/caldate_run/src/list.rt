@@ -1,20 +1,20 @@
 //! Lists of dates in steps of one length.
 ghost use Rattle.std.specs.Prelude.{◌≡◌, ◌<◌, ◌+◌, ℕ, IfSome, MatchOption};
 ghost use Rattle.cal_time.specs.Date.{IsDate};
-ghost use Rattle.caldate_run.specs.Calls.{Writes, write_failure};
-ghost use Rattle.caldate_run.specs.Lists.{IsEnd, IsUnitsAfter, IsStep, IsWithin, Lists};
+ghost use Rattle.caldate_lines.specs.Calls.{Writes, write_failure};
+ghost use Rattle.caldate_args.specs.Lists.{IsEnd, IsUnitsAfter, IsStep, IsWithin, Lists};
 
 pub(crate) mod in_zone;
 pub mod recurring;
 pub(crate) mod remaining;
 
-use crate::output::Output;
-use crate::request::{Listing, StepUnit};
-use crate::run::run_error::RunError;
-use crate::streams::Sink;
 use cal_schedule::checked_add_months;
 use cal_text::date::CalendarText;
 use cal_time::Date;
+use caldate_args::command::{Listing, StepUnit};
+use caldate_lines::output::Output;
+use caldate_lines::run_error::RunError;
+use caldate_lines::streams::Sink;
 
 /// More days, and more months, than there are between any two dates.
 const FAR: u64 = 1_000_000_000;

@@ -1,38 +1,41 @@
 //! The program, from its arguments to its status.
 ghost use Rattle.std.specs.Prelude.{◌≡◌, ◌<◌, ℕ, length, Bool, false, List, Option, Some, None, Result, Ok, IfErr, IfOk, unwrap_or, if◌then◌else◌};
-ghost use Rattle.caldate_run.specs.Calls.{Reads, Writes, has_read_failure, most_reads, write_failure};
-ghost use Rattle.caldate_run.specs.Ending.{ReportsOutcome};
-ghost use Rattle.caldate_run.specs.Files.{FailsOrKeeps};
-ghost use Rattle.caldate_run.specs.Header.{EndsNamed};
-ghost use Rattle.caldate_run.specs.Lists.{HasValidStep, Lists};
+ghost use Rattle.caldate_lines.specs.Calls.{Reads, Writes, has_read_failure, most_reads, write_failure};
+ghost use Rattle.caldate_lines.specs.Ending.{ReportsOutcome};
+ghost use Rattle.caldate_lines.specs.Outputs.{WritesPage};
+ghost use Rattle.caldate_lines.specs.declared.ending.Ending.{Ending};
+ghost use Rattle.caldate_lines.specs.declared.run_error.RunError.{RunError};
+ghost use Rattle.caldate_lines.specs.declared.field.Field.{Field};
+ghost use Rattle.caldate_answers.specs.declared.request.Filter.{Filter};
+ghost use Rattle.caldate_args.specs.declared.command.Listing.{Listing};
+ghost use Rattle.caldate_args.specs.declared.command.Occurrences.{Occurrences};
+ghost use Rattle.caldate_args.specs.Files.{FailsOrKeeps};
+ghost use Rattle.caldate_args.specs.Lists.{HasValidStep, Lists};
+ghost use Rattle.caldate_run.specs.Named.{EndsNamed};
 ghost use Rattle.caldate_run.specs.Recurring.{ListsOccurrences};
-ghost use Rattle.caldate_run.specs.Runs.{IsRunResult, WritesPage};
-ghost use Rattle.caldate_run.specs.declared.run.ending.Ending.{Ending};
-ghost use Rattle.caldate_run.specs.declared.run.run_error.RunError.{RunError};
-ghost use Rattle.caldate_run.specs.declared.request.Field.{Field};
-ghost use Rattle.caldate_run.specs.declared.request.Filter.{Filter};
-ghost use Rattle.caldate_run.specs.declared.request.Listing.{Listing};
-ghost use Rattle.caldate_run.specs.declared.request.Occurrences.{Occurrences};
+ghost use Rattle.caldate_run.specs.Runs.{IsRunResult};
 
-use crate::args::clock_words::clock_text;
-use crate::args::usage_error::UsageError;
-use crate::args::usage_message::report_usage_error;
-use crate::args::words::word_at;
-use crate::files::Joined;
-use crate::files::named_files::NamedFiles;
 use crate::help::{HELP, VERSION};
 use crate::list::list;
 use crate::list::recurring::list_occurrences;
-use crate::output::write_all;
-use crate::request::{Command, Field, Filter};
-use crate::run::ending::{Ending, end};
 use crate::run::named::run_named;
 use crate::run::run;
-use crate::run::run_error::RunError;
-use crate::streams::{Sink, Source};
 use crate::text::Text;
 use cal_datetime::PlainDateTime;
 use cal_time::ShortText;
+use caldate_answers::request::Filter;
+use caldate_args::args::clock_words::clock_text;
+use caldate_args::args::usage_error::UsageError;
+use caldate_args::args::usage_message::report_usage_error;
+use caldate_args::args::words::word_at;
+use caldate_args::command::Command;
+use caldate_args::files::Joined;
+use caldate_args::files::named_files::NamedFiles;
+use caldate_lines::ending::{Ending, end};
+use caldate_lines::field::Field;
+use caldate_lines::output::write_all;
+use caldate_lines::run_error::RunError;
+use caldate_lines::streams::{Sink, Source};
 use std::env::Env;
 use std::fs::Files;
 use std::io::Read;
@@ -43,7 +46,7 @@ const INVALID_ARGUMENTS: u8 = 2;
 /// Runs the command that the arguments ask for. The words `today` and `now` after `--date` mean the
 /// date-time `now`, which is at UTC. Returns the status and the result of writing to standard error.
 /// If the arguments are invalid, this only writes one line to standard error, and the status is 2.
-#[tactic(auto, using(crate::proofs::Calls::sent_all, crate::proofs::Reported::no_reads))]
+#[tactic(auto, using(caldate_lines::proofs::Calls::sent_all, crate::proofs::Reported::no_reads))]
 pub fn perform<R: Source, W: Sink, E: Sink>(
     asked: Result<Command<'_>, UsageError<'_>>,
     arguments: &[u8],

@@ -1,41 +1,31 @@
 //! Runs: the answers to the lines of an input of any length.
 ghost use Rattle.std.specs.Prelude.{◌≡◌, ◌<◌, ◌≤◌, ◌+◌, ◌-◌, ◌++◌, List, [], false, true, is_some, length, drop, None, Ok, OnOk, IfOk, IfErr};
-ghost use Rattle.caldate_run.specs.Calls.{Reads, Writes, has_read_failure, most_reads, write_failure};
-ghost use Rattle.caldate_run.specs.Lines.{all_lines, ended_lines, unended};
+ghost use Rattle.caldate_lines.specs.Calls.{Reads, Writes, has_read_failure, most_reads, write_failure};
+ghost use Rattle.caldate_lines.specs.Lines.{all_lines, ended_lines, unended};
+ghost use Rattle.caldate_lines.specs.Room.{capacity, longest_text};
+ghost use Rattle.caldate_lines.specs.RunStates.{DropsFront, NoEnd, passed, quoting_of};
 ghost use Rattle.caldate_run.specs.Replies.{IsReplyTo};
-ghost use Rattle.caldate_run.specs.Room.{capacity, longest_text};
 ghost use Rattle.caldate_run.specs.Runs.{Advances, CompletesFrom, EndsFrom, HasEnded, IsRunResult};
-ghost use Rattle.caldate_run.specs.RunStates.{DropsFront, NoEnd, passed, quoting_of};
 
-pub mod ending;
-pub mod excerpt;
-pub mod lines;
 pub(crate) mod named;
-pub mod no_answer;
 pub(crate) mod other;
 pub(crate) mod piece;
 pub(crate) mod pieces;
-pub(crate) mod progress;
-pub mod quoting;
-pub(crate) mod record;
 pub(crate) mod reply;
-pub mod run_error;
-pub mod tally;
-pub mod unanswered;
 
-use crate::input::Input;
-use crate::on_invalid::OnInvalid;
-use crate::output::Output;
-use crate::output::buffer::Buffer;
-use crate::request::Filter;
-use crate::run::excerpt::Excerpt;
-use crate::run::lines::{next_line, quoting_in};
-use crate::run::progress::Progress;
-use crate::run::quoting::Quoting;
 use crate::run::reply::{describe_line, push_reply};
-use crate::run::run_error::RunError;
-use crate::run::tally::Tally;
-use crate::streams::{Sink, Source};
+use caldate_answers::request::Filter;
+use caldate_lines::excerpt::Excerpt;
+use caldate_lines::input::Input;
+use caldate_lines::lines::{next_line, quoting_in};
+use caldate_lines::on_invalid::OnInvalid;
+use caldate_lines::output::Output;
+use caldate_lines::output::buffer::Buffer;
+use caldate_lines::progress::Progress;
+use caldate_lines::quoting::Quoting;
+use caldate_lines::run_error::RunError;
+use caldate_lines::streams::{Sink, Source};
+use caldate_lines::tally::Tally;
 
 /// The maximum length of an unfinished line: a text and a carriage return.
 const MAX_KEPT: usize = 4097;

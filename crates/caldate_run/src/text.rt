@@ -1,8 +1,8 @@
 //! Texts in memory as inputs.
 ghost use Rattle.std.specs.Prelude.{◌≡◌, Some};
-ghost use Rattle.caldate_run.specs.Calls.{Takes};
+ghost use Rattle.caldate_lines.specs.Calls.{Takes};
 
-use crate::streams::Source;
+use caldate_lines::streams::Source;
 use std::io::{self, Read};
 use std::marker::Model;
 

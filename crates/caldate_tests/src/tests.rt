@@ -2,12 +2,12 @@
 //! and values that the program doesn't print.
 use crate::tests::memory_files::MemoryFiles;
 use crate::tests::streams::Dripping;
-use caldate_run::args::parse_args;
+use caldate_args::args::parse_args;
+use caldate_args::command::Command;
+use caldate_lines::ending::end;
+use caldate_lines::run_error::RunError;
 use caldate_run::list::list;
-use caldate_run::request::Command;
-use caldate_run::run::ending::end;
 use caldate_run::run::run;
-use caldate_run::run::run_error::RunError;
 use std::alloc::{AllocError, Global};
 use std::fmt::Debug;
 use std::io::{ErrorKind, Read, Write};

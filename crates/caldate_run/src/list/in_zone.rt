@@ -2,16 +2,16 @@
 ghost use Rattle.std.specs.Prelude.{◌≡◌, ◌≤ℤ◌, ◌<ℤ◌, MatchOption, Some};
 ghost use Rattle.cal_datetime.specs.OffsetDateTime.{LocalAndOffset, instant};
 ghost use Rattle.cal_recurrence.specs.declared.zoned_set.ZonedSet.{ZonedSet};
-ghost use Rattle.caldate_run.specs.Calls.{Writes, write_failure};
+ghost use Rattle.caldate_lines.specs.Calls.{Writes, write_failure};
 ghost use Rattle.caldate_run.specs.Recurring.{IsSetIn, ListsSet};
 
-use crate::args::clock_words::{moment_in, rfc3339_or_unix_text};
-use crate::output::Output;
-use crate::run::run_error::RunError;
-use crate::streams::Sink;
 use cal_datetime::OffsetDateTime;
 use cal_recurrence::{CountedZonedSet, Recurrence};
 use cal_zone::Zone;
+use caldate_args::args::clock_words::{moment_in, rfc3339_or_unix_text};
+use caldate_lines::output::Output;
+use caldate_lines::run_error::RunError;
+use caldate_lines::streams::Sink;
 
 /// Writes the moments of the recurrence in order, each in RFC 3339 at the offset of the zone with a
 /// line feed. The recurrence starts at the reading of the zone's clocks at the first moment. After a

@@ -1,14 +1,14 @@
 //! Lists of the dates or moments of a recurrence.
-ghost use Rattle.caldate_run.specs.Calls.{Writes, write_failure};
+ghost use Rattle.caldate_lines.specs.Calls.{Writes, write_failure};
+ghost use Rattle.caldate_lines.specs.Outputs.{WritesPage};
 ghost use Rattle.caldate_run.specs.Recurring.{ListsOccurrences, lines_left};
-ghost use Rattle.caldate_run.specs.Runs.{WritesPage};
 
 use crate::list::in_zone::list_in_zone;
 use crate::list::remaining::Remaining;
-use crate::output::Output;
-use crate::request::{Occurrences, Span};
-use crate::run::run_error::RunError;
-use crate::streams::Sink;
+use caldate_args::command::{Occurrences, Span};
+use caldate_lines::output::Output;
+use caldate_lines::run_error::RunError;
+use caldate_lines::streams::Sink;
 
 /// Writes the dates or moments of the recurrence in order, each in the calendar form or in RFC 3339
 /// with a line feed. After a `RunError::Write`, only a part of the lines was written.

@@ -3,12 +3,12 @@ ghost use Rattle.std.specs.Prelude.{◌≡◌, ◌≤◌, [], ◌∷◌, ◌++�
 ghost use Rattle.std.specs.List.{take_while};
 ghost use Rattle.caldate_run.specs.Recurring.{is_day_up_to, is_moment_up_to, lines_left};
 
-use crate::args::clock_words::rfc3339_or_unix_text;
 use cal_datetime::OffsetDateTime;
 use cal_recurrence::RuleReadings;
 use cal_schedule::RuleDays;
 use cal_text::date::CalendarText;
 use cal_time::{Date, ShortText, UtcOffset};
+use caldate_args::args::clock_words::rfc3339_or_unix_text;
 
 /// The days or readings of a recurrence that are left, and the last one that may be listed.
 #[derive(Drop)]

@@ -1,25 +1,29 @@
 //! Runs with names of fields.
 ghost use Rattle.std.specs.Prelude.{◌≡◌, ◌+◌, ◌<◌, ◌≤◌, ◌⊎◌, Bool, [], Err, Ok, Some, false, true, length, IfErr, IfOk, MatchResult, OnErr, OnOk};
 ghost use Rattle.std.specs.Io.KnownBytes.{Consumes};
-ghost use Rattle.caldate_run.specs.Calls.{Reads, Writes, has_read_failure, most_reads, write_failure};
-ghost use Rattle.caldate_run.specs.Ending.{ReportsOutcome};
-ghost use Rattle.caldate_run.specs.Header.{EndsNamed, HasHeader, HasLine, number_in, numbered, numbers_in, with_number};
-ghost use Rattle.caldate_run.specs.Room.{longest_text};
-ghost use Rattle.caldate_run.specs.Runs.{Gives, IsRunResult, WritesPage};
-ghost use Rattle.caldate_run.specs.RunStates.{NoEnd};
-ghost use Rattle.caldate_run.specs.declared.run.quoting.Quoting.TheVariants.{Ready};
-ghost use Rattle.caldate_run.specs.Targets.{target_name, with_target};
+ghost use Rattle.caldate_lines.specs.Calls.{Reads, Writes, has_read_failure, most_reads, write_failure};
+ghost use Rattle.caldate_lines.specs.Ending.{ReportsOutcome};
+ghost use Rattle.caldate_lines.specs.Header.{HasHeader, HasLine, number_in};
+ghost use Rattle.caldate_lines.specs.Room.{longest_text};
+ghost use Rattle.caldate_lines.specs.Outputs.{WritesPage};
+ghost use Rattle.caldate_lines.specs.RunStates.{NoEnd};
+ghost use Rattle.caldate_lines.specs.declared.quoting.Quoting.TheVariants.{Ready};
+ghost use Rattle.caldate_answers.specs.Targets.{target_name, with_target};
+ghost use Rattle.caldate_run.specs.Named.{EndsNamed, numbered, numbers_in, with_number};
+ghost use Rattle.caldate_run.specs.Runs.{Gives, IsRunResult};
 
-use crate::field_names::{FieldNames, MAX_FIELDS};
-use crate::header::{header_of, number_in, report_header_error, report_overlap};
-use crate::input::Input;
-use crate::request::{Field, FieldNumbers, Filter, Request, Target};
-use crate::run::ending::{Ending, end};
-use crate::run::lines::next_line;
-use crate::run::quoting::Quoting;
-use crate::run::run_error::RunError;
 use crate::run::{MAX_KEPT, answer_input};
-use crate::streams::{Sink, Source};
+use caldate_answers::request::{Filter, Request, Target};
+use caldate_lines::ending::{Ending, end};
+use caldate_lines::field::Field;
+use caldate_lines::field_names::{FieldNames, MAX_FIELDS};
+use caldate_lines::field_numbers::FieldNumbers;
+use caldate_lines::header::{header_of, number_in, report_header_error, report_overlap};
+use caldate_lines::input::Input;
+use caldate_lines::lines::next_line;
+use caldate_lines::quoting::Quoting;
+use caldate_lines::run_error::RunError;
+use caldate_lines::streams::{Sink, Source};
 
 /// The status after a header that lacks a name.
 const INVALID_HEADER: u8 = 2;

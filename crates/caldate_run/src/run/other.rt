@@ -1,20 +1,19 @@
 //! Answers by TEXT in other fields of the line.
 ghost use Rattle.std.specs.Prelude.{◌≡◌, ◌+◌, ◌≤◌, List, Some, ℕ, false, is_some, length, true};
-ghost use Rattle.caldate_run.specs.Answers.{IsAnswerTo, keeps};
-ghost use Rattle.caldate_run.specs.Fields.{field_text};
-ghost use Rattle.caldate_run.specs.Room.{HasRoom, longest_answer, longest_text};
-ghost use Rattle.caldate_run.specs.Runs.{AppendsAnswer, AppendsSome};
-ghost use Rattle.caldate_run.specs.Targets.{IsAnswerAt, IsOther, IsReadOther, other_field, target_fields, with_target};
-ghost use Rattle.caldate_run.specs.declared.request.Target.TheVariants.{Text};
+ghost use Rattle.caldate_lines.specs.Fields.{field_text};
+ghost use Rattle.caldate_lines.specs.Room.{HasRoom, longest_answer, longest_text};
+ghost use Rattle.caldate_answers.specs.Answers.{HasNone, IsAnswerBy, keeps};
+ghost use Rattle.caldate_answers.specs.Appends.{AppendsAnswer, AppendsSome};
+ghost use Rattle.caldate_answers.specs.Targets.{IsAnswerAt, IsOther, IsReadOther, other_field, target_fields, with_text};
 
-use crate::answer::{push_answer, push_between, read_with};
-use crate::input::field_text::{FieldText, plain_text};
-use crate::input::fields::cut_field;
-use crate::output::buffer::Buffer;
-use crate::request::{Field, Filter, Request};
-use crate::run::no_answer::NoAnswer;
-use cal_schedule::Workdays;
 use cal_text::DateOrMoment;
+use caldate_answers::answer::{push_answer, push_between_by, read_with};
+use caldate_answers::request::{Filter, Request};
+use caldate_lines::field::Field;
+use caldate_lines::input::field_text::{FieldText, plain_text};
+use caldate_lines::input::fields::cut_field;
+use caldate_lines::no_answer::NoAnswer;
+use caldate_lines::output::buffer::Buffer;
 
 /// Returns the other fields that have TEXT, if they do. Field 1 in `until field 1` has the
 /// separator of the field to answer.
@@ -103,8 +102,11 @@ fn push_beside(
     };
     match read_with(filter, asked) {
         Ok(found) => {
-            push_count(buffer, &filter.workdays, &filter.request, &found, &target);
-            Ok(true)
+            if push_count(buffer, filter, &found, &target) {
+                Ok(true)
+            } else {
+                Err(NoAnswer::None)
+            }
         }
         Err(why) => Err(why),
     }
@@ -113,20 +115,26 @@ fn push_beside(
 /// Appends the count between a date or moment and its TEXT.
 fn push_count(
     buffer: &mut Buffer,
-    workdays: &Workdays<'_>,
-    request: &Request<'_>,
+    filter: &Filter<'_>,
     found: &DateOrMoment,
     target: &DateOrMoment,
-)
+) -> bool
     requires room { HasRoom longest_answer buffer.old }
-    requires other { is_some (target_fields request.now) ≡ true }
-    ensures text { (asked : List ℕ) → AppendsSome
-        (IsAnswerTo workdays.now (with_target (Text target.now) request.now) asked found.now) buffer.old buffer.new }
+    requires other { is_some (target_fields filter.now.request) ≡ true }
+    ensures has { result ≡ true → (asked : List ℕ) → AppendsSome
+        (IsAnswerBy (with_text filter.now target.now) asked found.now) buffer.old buffer.new }
+    ensures none { result ≡ false → (buffer.new ≡ buffer.old) × ((asked : List ℕ)
+        → HasNone (with_text filter.now target.now) asked found.now) }
     ensures short { length buffer.new ≤ length buffer.old + longest_answer }
 {
-    match request {
-        Request::Until(_, unit) => push_between(buffer, workdays, *unit, found, target),
-        Request::Since(_, unit) => push_between(buffer, workdays, *unit, target, found),
+    let workdays = &filter.workdays;
+    match &filter.request {
+        Request::Until(_, unit) => {
+            push_between_by(buffer, &filter.clock, workdays, *unit, found, target)
+        }
+        Request::Since(_, unit) => {
+            push_between_by(buffer, &filter.clock, workdays, *unit, target, found)
+        }
         _ => unreachable!(),
     }
 }

@@ -1,13 +1,13 @@
 //! Pieces of a line.
 ghost use Rattle.std.specs.Prelude.{◌≡◌, ◌+◌, ◌≤◌, ◌++◌, IfSome, Some, length, option_map};
-ghost use Rattle.caldate_run.specs.Fields.{cut_of, field_text, selected_text};
+ghost use Rattle.caldate_lines.specs.Fields.{cut_of, field_text, selected_text};
+ghost use Rattle.caldate_lines.specs.Room.{HasRoom, longest_text};
 ghost use Rattle.caldate_run.specs.Pieces.{field_end, field_piece, later_cut, missing, new_field, whole};
-ghost use Rattle.caldate_run.specs.Room.{HasRoom, longest_text};
 
-use crate::input::field_text::{FieldText, plain_text};
-use crate::input::fields::cut_field;
-use crate::output::buffer::Buffer;
-use crate::request::Field;
+use caldate_lines::field::Field;
+use caldate_lines::input::field_text::{FieldText, plain_text};
+use caldate_lines::input::fields::cut_field;
+use caldate_lines::output::buffer::Buffer;
 use std::marker::Model;
 
 /// Bytes that stay, perhaps with a separator, and then the bytes that the answer to a text replaces.
@@ -23,9 +23,9 @@ pub struct Piece<'a> {
 
 impl<'a> Model for Piece<'a> {
     ghost use Rattle.std.specs.Prelude.{◌≤◌, ◌++◌, IfSome, length, option_map, option_to_list};
-    ghost use Rattle.caldate_run.specs.Fields.{field_text};
+    ghost use Rattle.caldate_lines.specs.Fields.{field_text};
     ghost use Rattle.caldate_run.specs.Pieces.{Piece as TextPiece};
-    ghost use Rattle.caldate_run.specs.Room.{longest_text};
+    ghost use Rattle.caldate_lines.specs.Room.{longest_text};
 
     ghost Value = { TextPiece };
 

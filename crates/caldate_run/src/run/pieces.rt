@@ -1,22 +1,23 @@
 //! What goes out for the pieces of a line.
 ghost use Rattle.std.specs.Prelude.{◌≡◌, ◌+◌, ◌*◌, ◌-◌, ◌<◌, ◌≤◌, ◌++◌, ◌∷◌, [], Ok, Err, Some, IfSome, option_map, IsTrue, true, is_some, length, take, drop, unwrap_or, if◌then◌else◌};
 ghost use Rattle.std.specs.Result.{result_err};
-ghost use Rattle.caldate_run.specs.Answers.{Answer};
+ghost use Rattle.caldate_lines.specs.Reasons.{reason};
+ghost use Rattle.caldate_lines.specs.Room.{HasRoom, longest_answer, longest_field, longest_out, longest_reply, longest_text};
+ghost use Rattle.caldate_answers.specs.Answers.{Answer};
 ghost use Rattle.caldate_run.specs.Pieces.{IsAnswered, IsAnswerToAsked, IsOutOf, IsPieceOut, closed_words, earlier, fields_from, has_place, is_quoted_in, own_field, pieces_of, placed, replaced};
-ghost use Rattle.caldate_run.specs.Reasons.{reason};
-ghost use Rattle.caldate_run.specs.Room.{HasRoom, longest_answer, longest_field, longest_out, longest_reply, longest_text};
 ghost use Rattle.caldate_run.specs.Runs.{AppendsOut};
 
-use crate::answer::push_reason;
-use crate::input::fields::is_quoted;
-use crate::on_invalid::OnInvalid;
-use crate::output::buffer::Buffer;
-use crate::request::{Field, FieldNumbers, Filter};
-use crate::run::no_answer::NoAnswer;
 use crate::run::other::push_answer_at;
 use crate::run::piece::{Piece, field_piece, new_field, whole};
-use crate::run::record::{end_field, push_quote};
-use crate::several_fields::RankedField;
+use caldate_answers::request::Filter;
+use caldate_lines::field::Field;
+use caldate_lines::field_numbers::FieldNumbers;
+use caldate_lines::input::fields::is_quoted;
+use caldate_lines::no_answer::{NoAnswer, push_reason};
+use caldate_lines::on_invalid::OnInvalid;
+use caldate_lines::output::buffer::Buffer;
+use caldate_lines::record::{end_field, push_quote};
+use caldate_lines::several_fields::RankedField;
 
 /// Appends what goes out for the text of a line, if anything does, and returns whether it does, and
 /// why the line has no answer.

@@ -1,30 +1,31 @@
 //! The reply to a line.
 ghost use Rattle.std.specs.Prelude.{◌≡◌, ◌+◌, ◌<◌, ◌≤◌, ◌++◌, ◌∷◌, [], ℕ, List, None, Some, false, true, is_some, length, max, unwrap_or, IfErr, IfOk, IfSome, MatchOption, MatchResult, OnErr, OnOk, if◌then◌else◌};
-ghost use Rattle.caldate_run.specs.Answers.{Answer};
-ghost use Rattle.caldate_run.specs.Fields.{text_without};
-ghost use Rattle.caldate_run.specs.Lines.{has_return, text_of};
+ghost use Rattle.caldate_lines.specs.Fields.{text_without};
+ghost use Rattle.caldate_lines.specs.Lines.{has_return, text_of};
+ghost use Rattle.caldate_lines.specs.Reasons.{reason};
+ghost use Rattle.caldate_lines.specs.RunStates.{more, counted};
+ghost use Rattle.caldate_lines.specs.Room.{HasRoom, longest_field, longest_out, longest_reply, longest_text};
+ghost use Rattle.caldate_answers.specs.Answers.{Answer};
+ghost use Rattle.caldate_answers.specs.Scans.{IsScanned};
+ghost use Rattle.caldate_answers.specs.Targets.{other_field};
 ghost use Rattle.caldate_run.specs.Pieces.{IsAnswered, instead, pieces_of};
-ghost use Rattle.caldate_run.specs.Reasons.{reason};
-ghost use Rattle.caldate_run.specs.Replies.{Describes, IsCounted, IsLine, IsReplyTo, more, own_field, skipped, stops, with_name};
-ghost use Rattle.caldate_run.specs.Room.{HasRoom, longest_field, longest_out, longest_reply, longest_text};
+ghost use Rattle.caldate_run.specs.Replies.{Describes, IsCounted, IsLine, IsReplyTo, own_field, skipped, stops, with_name};
 ghost use Rattle.caldate_run.specs.Runs.{AppendsOut, AppendsReply, EndsUnanswered, Leaves};
-ghost use Rattle.caldate_run.specs.RunStates.{counted};
-ghost use Rattle.caldate_run.specs.Scans.{IsScanned};
-ghost use Rattle.caldate_run.specs.Targets.{other_field};
 
-use crate::answer::{LONGEST_TEXT, push_answer, push_reason};
-use crate::input::fields::cut_field;
-use crate::on_invalid::OnInvalid;
-use crate::output::buffer::Buffer;
-use crate::request::{Field, Filter};
-use crate::run::lines::cut_return;
-use crate::run::no_answer::NoAnswer;
 use crate::run::other::other_field;
 use crate::run::pieces::push_pieces;
-use crate::run::progress::Progress;
-use crate::run::record::{LONGEST_ANSWER, end_field, push_separated};
-use crate::run::unanswered::UnansweredLine;
-use crate::scan::push::push_scanned;
+use caldate_answers::answer::push_answer;
+use caldate_answers::request::Filter;
+use caldate_answers::scan::push::push_scanned;
+use caldate_lines::field::Field;
+use caldate_lines::input::fields::cut_field;
+use caldate_lines::lines::{LONGEST_TEXT, cut_return};
+use caldate_lines::no_answer::{NoAnswer, push_reason};
+use caldate_lines::on_invalid::OnInvalid;
+use caldate_lines::output::buffer::Buffer;
+use caldate_lines::progress::Progress;
+use caldate_lines::record::{LONGEST_ANSWER, end_field, push_separated};
+use caldate_lines::unanswered::UnansweredLine;
 
 /// Appends the reply to a line, whose front may have been dropped because it is too long, and
 /// counts the line. Fails with the reason, and changes nothing, if the run ends at the line.

@@ -1,6 +1,6 @@
 //! Arguments that are joined, up to the size of the buffer.
 use crate::tests::{holds, repeated};
-use caldate_run::args::arguments::{Arguments, MAX_BYTES, join};
+use caldate_args::args::arguments::{Arguments, MAX_BYTES, join};
 use std::env::{Env, FillError};
 use std::process::Abort;
 use std::test::Fail;

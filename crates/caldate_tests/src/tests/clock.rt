@@ -3,7 +3,7 @@
 use crate::tests::holds;
 use crate::tests::memory_files::MemoryFiles;
 use cal_datetime::PlainDateTime;
-use caldate_run::args::asked_by;
+use caldate_args::args::asked_by;
 use caldate_run::clock::read_clock;
 use caldate_run::program::perform;
 use std::io::{self, ErrorKind};

@@ -1,10 +1,10 @@
 //! Several texts as one input.
 ghost use Rattle.std.specs.Prelude.{◌≡◌, ℕ, List, Some, map, ⊤};
-ghost use Rattle.caldate_run.specs.Files.{joined};
+ghost use Rattle.caldate_args.specs.Files.{joined};
 
 use crate::tests::holds_at;
-use caldate_run::files::{Joined, Texts};
-use caldate_run::streams::Source;
+use caldate_args::files::{Joined, Texts};
+use caldate_lines::streams::Source;
 use std::io::{self, Read};
 use std::process::Abort;
 use std::test::Fail;

@@ -3,10 +3,10 @@
 use cal_time::Date;
 use cal_tzif::parse;
 use cal_zone::Zone;
-use caldate_run::data_files::DataFiles;
-use caldate_run::data_files::data_error::DataError;
-use caldate_run::holidays::read_holidays_error::ReadHolidaysError;
-use caldate_run::zones::read_zone_error::FileError;
+use caldate_args::data_files::DataFiles;
+use caldate_args::data_files::data_error::DataError;
+use caldate_args::holidays::read_holidays_error::ReadHolidaysError;
+use caldate_args::zones::read_zone_error::FileError;
 
 /// The file of the zone `Etc/GMT-1`, which is an hour ahead of UTC.
 const GMT_1: &[u8] =

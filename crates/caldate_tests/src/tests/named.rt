@@ -4,7 +4,7 @@ use crate::tests::memory_files::MemoryFiles;
 use crate::tests::reads::first_lines;
 use crate::tests::streams::Dripping;
 use crate::tests::{holds_at, repeated};
-use caldate_run::args::asked_by;
+use caldate_args::args::asked_by;
 use caldate_run::program::perform;
 use std::io::ErrorKind;
 use std::process::Abort;

@@ -1,13 +1,13 @@
 //! Two complete lists leave the same output, in steps or by a rule.
 ghost use Rattle.std.specs.Prelude.{◌≡◌, List, ℕ, Some, IsOk};
-ghost use Rattle.caldate_run.specs.Lists.{IsStep};
+ghost use Rattle.caldate_args.specs.Lists.{IsStep};
 
+use caldate_args::command::{Listing, Occurrences};
+use caldate_lines::run_error::RunError;
+use caldate_lines::streams::Sink;
 use caldate_run::laws::one_list;
 use caldate_run::list::list;
 use caldate_run::list::recurring::list_occurrences;
-use caldate_run::request::{Listing, Occurrences};
-use caldate_run::run::run_error::RunError;
-use caldate_run::streams::Sink;
 
 fn lists<W: Sink>(
     listing: &Listing,

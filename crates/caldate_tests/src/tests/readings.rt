@@ -3,8 +3,8 @@ use crate::tests::holds;
 use cal_text::ParseError;
 use cal_text::ParseError::{UnexpectedByte, UnexpectedEnd};
 use cal_time::UtcOffset;
-use caldate_run::reading::{DateOrder, Reading, read_in};
-use caldate_run::request::UnixUnit;
+use caldate_answers::reading::{DateOrder, Reading, read_in};
+use caldate_answers::request::UnixUnit;
 use std::process::Abort;
 
 const UNIX: Reading = Reading::Unix(UnixUnit::Milliseconds);

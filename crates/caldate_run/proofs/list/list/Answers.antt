@@ -1,10 +1,10 @@
 use Rattle.std.proofs.Common.{◌≡◌, ◌+◌, ◌++◌, ◌∷◌, [], ◌∙◌, Err, ap, arith, refl, subst, sym}
 use Rattle.std.specs.Prelude.{is_ok}
-use Rattle.caldate_run.specs.Calls.{Writes, write_failure}
-use Rattle.caldate_run.specs.Lists.{AreListed, line_of}
-use Rattle.caldate_run.specs.Outputs.{HasTaken, WritesPage}
+use Rattle.caldate_lines.specs.Calls.{Writes, write_failure}
+use Rattle.caldate_lines.specs.Outputs.{HasTaken, WritesPage}
+use Rattle.caldate_lines.proofs.Outputs.{new_output, taken_all}
+use Rattle.caldate_args.specs.Lists.{AreListed, line_of}
 use Rattle.caldate_run.proofs.Listed.{lists, no_days, one_more}
-use Rattle.caldate_run.proofs.Outputs.{new_output, taken_all}
 use Rattle.caldate_run.proofs.list.list.Goals as goal
 
 pub loop-day-init : goal.loop-day-init

@@ -1,6 +1,6 @@
 use Rattle.std.proofs.Common.{ℕ, ◌-◌, ◌≤◌, List}
-use Rattle.caldate_run.specs.Lists.{AreListed, line_of}
-use Rattle.caldate_run.specs.Outputs.{Outputs}
+use Rattle.caldate_lines.specs.Outputs.{Outputs}
+use Rattle.caldate_args.specs.Lists.{AreListed, line_of}
 use Rattle.caldate_run.proofs.Listed.{Follows}
 use Rattle.caldate_run.proofs.list.list.Given as goal
 

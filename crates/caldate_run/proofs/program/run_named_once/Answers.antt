@@ -1,5 +1,5 @@
 use Rattle.std.proofs.Common.{◌<◌, Some, arith, length}
-use Rattle.caldate_run.specs.Calls.{most_reads}
+use Rattle.caldate_lines.specs.Calls.{most_reads}
 use Rattle.caldate_run.proofs.Named.{named_weaker}
 use Rattle.caldate_run.proofs.Takes.{never_fails}
 use Rattle.caldate_run.proofs.program.run_named_once.Goals as goal

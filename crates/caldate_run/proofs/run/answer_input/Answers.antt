@@ -1,7 +1,7 @@
 use Rattle.std.proofs.Common.{◌≡◌, ◌-◌, arith, refl, rules}
 use Rattle.std.specs.Prelude.{IsErrAnd}
+use Rattle.caldate_lines.specs.declared.run_error.RunError.TheVariants.{Read}
 use Rattle.caldate_run.specs.Runs.{HasEnded}
-use Rattle.caldate_run.specs.declared.run.run_error.RunError.TheVariants.{Read}
 use Rattle.caldate_run.proofs.Rounds.{after_bytes, after_end, after_lines, as_read, begun_with, ended_early, ended_last, ended_unfinished, ended_unread, ended_whole}
 use Rattle.caldate_run.proofs.run.answer_input.Goals as goal
 

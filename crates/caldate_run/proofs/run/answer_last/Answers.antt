@@ -1,6 +1,6 @@
 use Rattle.std.proofs.Common.{◌≡◌, ◌<◌, ◌∙◌, length, rules, sym}
+use Rattle.caldate_lines.proofs.Ends.{empty}
 use Rattle.caldate_run.proofs.Advances.{all_pass_on, completed, failed_last, if_err, last_replied, none_last, on_ok, stopped_last}
-use Rattle.caldate_run.proofs.Ends.{empty}
 use Rattle.caldate_run.proofs.Steps.{ends_at}
 use Rattle.caldate_run.proofs.run.answer_last.Goals as goal
 

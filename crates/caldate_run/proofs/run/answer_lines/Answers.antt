@@ -1,9 +1,9 @@
 use Rattle.std.proofs.Common.{◌≡◌, ◌-◌, ◌++◌, ◌∷◌, [], ◌∙◌, ℕ, List, Bool, ap, sym, subst, append_assoc, arith, drop, length, length-append}
 use Rattle.std.proofs.Math.Seq.{drop-append_seam}
 use Rattle.std.specs.Prelude.{if◌then◌else◌}
+use Rattle.caldate_lines.specs.RunStates.{FirstEnds}
+use Rattle.caldate_lines.specs.declared.quoting.Quoting.TheVariants.{Ready}
 use Rattle.caldate_run.specs.Runs.{Advances}
-use Rattle.caldate_run.specs.RunStates.{FirstEnds}
-use Rattle.caldate_run.specs.declared.run.quoting.Quoting.TheVariants.{Ready}
 use Rattle.caldate_run.proofs.Advances.{failed_early, line_answered, passes_on, same_run, stopped_early}
 use Rattle.caldate_run.proofs.Steps.{ends_at}
 use Rattle.caldate_run.proofs.run.answer_lines.Goals as goal

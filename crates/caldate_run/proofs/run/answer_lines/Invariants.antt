@@ -1,6 +1,6 @@
 use Rattle.std.proofs.Common.{◌≡◌, ◌++◌, ℕ, List, length}
+use Rattle.caldate_lines.specs.RunStates.{quoting_of}
 use Rattle.caldate_run.specs.Runs.{Advances}
-use Rattle.caldate_run.specs.RunStates.{quoting_of}
 use Rattle.caldate_run.proofs.run.answer_lines.Given as goal
 
 -- the rest is the end of the bytes, the lines before it are answered, and the quotes are those of

@@ -1,9 +1,9 @@
 use Rattle.std.proofs.Common.{◌≡◌, ◌-◌, ◌++◌, ◌∙◌, List, ℕ, [], length, drop, take, take-append-drop, ap, arith, refl, subst, sym, true}
 use Rattle.std.proofs.lemmas.List.{append-nil}
+use Rattle.caldate_lines.specs.RunStates.{NoEnd, RunState, passed, quoting_in, quoting_of}
+use Rattle.caldate_lines.specs.declared.progress.Progress.{Progress}
+use Rattle.caldate_lines.proofs.Splits.{passes_front}
 use Rattle.caldate_run.specs.Replies.{IsReplyTo}
-use Rattle.caldate_run.specs.RunStates.{NoEnd, RunState, passed, quoting_in, quoting_of}
-use Rattle.caldate_run.specs.declared.run.progress.Progress.{Progress}
-use Rattle.caldate_run.proofs.Splits.{passes_front}
 use Rattle.caldate_run.proofs.Steps.{discard_long_line}
 use Rattle.caldate_run.proofs.run.discard_long_line.Goals as goal
 

@@ -4,11 +4,11 @@ use Rattle.cal_datetime.specs.OffsetDateTime.{instant}
 use Rattle.cal_recurrence.specs.Occurrences.{nanoseconds_left}
 use Rattle.cal_recurrence.proofs.ZonedSearch.{fewer-left}
 use Rattle.cal_recurrence.specs.ZonedSet.{IsNextAfter, Occurs}
-use Rattle.caldate_run.specs.Calls.{Writes, write_failure}
-use Rattle.caldate_run.specs.Outputs.{HasTaken, WritesPage}
+use Rattle.caldate_lines.specs.Calls.{Writes, write_failure}
+use Rattle.caldate_lines.specs.Outputs.{HasTaken, WritesPage}
+use Rattle.caldate_lines.proofs.Outputs.{new_output, taken_all}
 use Rattle.caldate_run.specs.Recurring.{AreListedIn, moment_line}
 use Rattle.caldate_run.proofs.Listed.{end_in, lists, next_in, no_moments, one_more}
-use Rattle.caldate_run.proofs.Outputs.{new_output, taken_all}
 use Rattle.caldate_run.proofs.list.in_zone.write_moments.Goals as goal
 
 pub loop-moment-init : goal.loop-moment-init

@@ -3,7 +3,7 @@ use Rattle.std.specs.Prelude.{◌-ℤ◌}
 use Rattle.cal_datetime.specs.OffsetDateTime.{instant}
 use Rattle.cal_recurrence.specs.Occurrences.{nanoseconds_left}
 use Rattle.cal_recurrence.specs.ZonedSet.{IsNextAfter, Occurs}
-use Rattle.caldate_run.specs.Outputs.{Outputs}
+use Rattle.caldate_lines.specs.Outputs.{Outputs}
 use Rattle.caldate_run.specs.Recurring.{AreListedIn, moment_line}
 use Rattle.caldate_run.proofs.Listed.{Follows}
 use Rattle.caldate_run.proofs.list.in_zone.write_moments.Given as goal

@@ -1,7 +1,7 @@
 use Rattle.std.proofs.Common.{◌∙◌, ap, subst, sym}
 use Rattle.cal_recurrence.specs.RecurrenceReadings.{readings_of}
+use Rattle.caldate_lines.specs.Outputs.{WritesPage}
 use Rattle.caldate_run.specs.Recurring.{ListsSpan, lines_left}
-use Rattle.caldate_run.specs.Runs.{WritesPage}
 use Rattle.caldate_run.specs.declared.list.remaining.Remaining.TheVariants.{Moments}
 use Rattle.caldate_run.proofs.FrontDays.{all_days, all_readings}
 use Rattle.caldate_run.proofs.list.recurring.list_occurrences.Goals as goal

@@ -1,9 +1,9 @@
 use Rattle.std.proofs.Common.{◌≡◌, ◌++◌, ◌∷◌, [], ◌∙◌, ℕ, List, Err, ap, append_assoc, arith, length, length-append, refl, subst, sym}
 use Rattle.std.proofs.lemmas.List.{append-nil}
-use Rattle.caldate_run.specs.Calls.{Writes, write_failure}
-use Rattle.caldate_run.specs.Outputs.{HasTaken, WritesPage}
+use Rattle.caldate_lines.specs.Calls.{Writes, write_failure}
+use Rattle.caldate_lines.specs.Outputs.{HasTaken, WritesPage}
+use Rattle.caldate_lines.proofs.Outputs.{new_output, page_longer, taken_all}
 use Rattle.caldate_run.specs.Recurring.{lines_left}
-use Rattle.caldate_run.proofs.Outputs.{new_output, page_longer, taken_all}
 use Rattle.caldate_run.proofs.list.recurring.write_lines.Goals as goal
 
 -- one text more

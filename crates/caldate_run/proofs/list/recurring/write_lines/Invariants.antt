@@ -1,5 +1,5 @@
 use Rattle.std.proofs.Common.{◌≡◌, ℕ, List, ◌++◌, length}
-use Rattle.caldate_run.specs.Outputs.{Outputs}
+use Rattle.caldate_lines.specs.Outputs.{Outputs}
 use Rattle.caldate_run.specs.Recurring.{lines_left}
 use Rattle.caldate_run.proofs.list.recurring.write_lines.Given as goal
 

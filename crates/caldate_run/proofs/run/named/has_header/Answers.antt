@@ -1,5 +1,5 @@
 use Rattle.std.proofs.Common.{arith, inl, inr}
-use Rattle.caldate_run.proofs.HeaderNames.{has_line}
+use Rattle.caldate_lines.proofs.HeaderNames.{has_line}
 use Rattle.caldate_run.proofs.run.named.has_header.Goals as goal
 
 pub returns-in-Some-clause-whole : goal.returns-in-Some-clause-whole

@@ -1,13 +1,13 @@
 use Rattle.std.proofs.Common.{◌≡◌, ◌-◌, ℕ, List, ap, arith, inl, inr, length, subst, sym, true, Some}
 use Rattle.std.specs.Io.KnownBytes.{Consumes}
 use Rattle.std.proofs.KnownBytes.{Consumes-kept, Consumes-nil, Consumes-trans}
-use Rattle.caldate_run.specs.Calls.{Reads}
-use Rattle.caldate_run.specs.Calls.Reads.{too_many}
-use Rattle.caldate_run.specs.RunStates.{NoEnd}
-use Rattle.caldate_run.proofs.Calls.{reads_ended, reads_failed, reads_given}
-use Rattle.caldate_run.specs.declared.run.quoting.Quoting.TheVariants.{Ready}
+use Rattle.caldate_lines.specs.Calls.{Reads}
+use Rattle.caldate_lines.specs.Calls.Reads.{too_many}
+use Rattle.caldate_lines.specs.RunStates.{NoEnd}
+use Rattle.caldate_lines.proofs.Calls.{reads_ended, reads_failed, reads_given}
+use Rattle.caldate_lines.specs.declared.quoting.Quoting.TheVariants.{Ready}
+use Rattle.caldate_lines.proofs.Splits.{of_none}
 use Rattle.caldate_run.proofs.Named.{has_header}
-use Rattle.caldate_run.proofs.Splits.{of_none}
 use Rattle.caldate_run.proofs.run.named.read_header.Goals as goal
 
 pub loop-reads-init : goal.loop-reads-init

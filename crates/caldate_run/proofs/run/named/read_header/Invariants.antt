@@ -1,8 +1,8 @@
 use Rattle.std.proofs.Common.{◌≤◌, length, Bool, Some}
 use Rattle.std.specs.Io.KnownBytes.{Consumes}
-use Rattle.caldate_run.specs.Calls.{Reads, most_reads}
-use Rattle.caldate_run.specs.RunStates.{NoEnd}
-use Rattle.caldate_run.specs.declared.run.quoting.Quoting.TheVariants.{Ready}
+use Rattle.caldate_lines.specs.Calls.{Reads, most_reads}
+use Rattle.caldate_lines.specs.RunStates.{NoEnd}
+use Rattle.caldate_lines.specs.declared.quoting.Quoting.TheVariants.{Ready}
 use Rattle.caldate_run.proofs.run.named.read_header.Given as goal
 
 -- the reader gave the bytes, in which no line ends, and the remaining reads complete its reads

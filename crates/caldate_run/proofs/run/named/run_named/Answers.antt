@@ -1,11 +1,12 @@
 use Rattle.std.proofs.Common.{◌≡◌, ◌∙◌, ℕ, Bool, List, Err, Ok, true, false, inl, inr, ap, refl, subst, sym}
 use Rattle.std.specs.Prelude.{MatchBool}
-use Rattle.caldate_run.specs.Calls.Reads.{no_more}
-use Rattle.caldate_run.specs.Ending.{ReportsOutcome}
-use Rattle.caldate_run.specs.Fields.{overlap}
-use Rattle.caldate_run.specs.Header.{header_of, numbers_in}
+use Rattle.caldate_lines.specs.Calls.Reads.{no_more}
+use Rattle.caldate_lines.specs.Ending.{ReportsOutcome}
+use Rattle.caldate_lines.specs.Fields.{overlap}
+use Rattle.caldate_lines.specs.Header.{header_of}
+use Rattle.caldate_answers.specs.declared.request.Filter.{Filter}
+use Rattle.caldate_run.specs.Named.{numbers_in}
 use Rattle.caldate_run.specs.Runs.{IsRunResult}
-use Rattle.caldate_run.specs.declared.request.Filter.{Filter}
 use Rattle.caldate_run.proofs.Named.{says}
 use Rattle.caldate_run.proofs.run.named.run_named.Goals as goal
 

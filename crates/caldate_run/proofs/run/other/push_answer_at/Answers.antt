@@ -1,8 +1,8 @@
 use Rattle.std.proofs.Common.{sym}
-use Rattle.caldate_run.specs.Answers.{IsAnswer}
-use Rattle.caldate_run.specs.Targets.{IsAnswerAt}
+use Rattle.caldate_answers.specs.Answers.{IsAnswer}
+use Rattle.caldate_answers.specs.Targets.{IsAnswerAt}
+use Rattle.caldate_answers.proofs.Appends.{puts_other}
 use Rattle.caldate_run.proofs.Others.{by_itself}
-use Rattle.caldate_run.proofs.Replied.{puts_other}
 use Rattle.caldate_run.proofs.run.other.push_answer_at.Goals as goal
 
 pub returns-in-None-clause-answered : goal.returns-in-None-clause-answered

@@ -1,6 +1,6 @@
 use Rattle.std.proofs.Common.{Some, Ok, Err, refl}
-use Rattle.caldate_run.specs.Targets.{with_text}
-use Rattle.caldate_run.proofs.Lacks.{unread}
+use Rattle.caldate_answers.specs.Targets.{with_text}
+use Rattle.caldate_answers.proofs.Lacks.{unread}
 use Rattle.caldate_run.proofs.Others.{beside, has_fields}
 use Rattle.caldate_run.proofs.run.other.push_beside.Goals as goal
 

@@ -1,8 +1,8 @@
 use Rattle.std.proofs.Common.{◌≡◌, ◌∙◌, ℕ, Option, ap, refl, subst, sym}
 use Rattle.std.specs.Prelude.{◌&&◌}
+use Rattle.caldate_lines.specs.declared.no_answer.NoAnswer.{NoAnswer}
 use Rattle.caldate_run.specs.Pieces.{IsOutOf, fields_from}
 use Rattle.caldate_run.specs.Runs.{AppendsOut}
-use Rattle.caldate_run.specs.declared.run.no_answer.NoAnswer.{NoAnswer}
 use Rattle.caldate_run.proofs.PieceOuts.{fields_out, no_fields_out}
 use Rattle.caldate_run.proofs.run.pieces.+push_fields_from.Goals.{then-goes_out, else-goes_out}
 use Rattle.caldate_run.proofs.run.pieces.+push_fields_from.Goals as goal

@@ -1,9 +1,9 @@
 use Rattle.std.proofs.Common.{◌≡◌, ◌∙◌, ◌++◌, [], Some, None, Ok, Err, ap, cond, refl, subst, sym, true}
 use Rattle.std.specs.Prelude.{unwrap_or}
 use Rattle.std.proofs.lemmas.List.{append-nil}
+use Rattle.caldate_answers.specs.Appends.{AppendsAnswer, AppendsSome}
+use Rattle.caldate_answers.specs.Targets.{IsAnswerAt}
 use Rattle.caldate_run.specs.Pieces.{placed, replaced}
-use Rattle.caldate_run.specs.Runs.{AppendsAnswer, AppendsSome}
-use Rattle.caldate_run.specs.Targets.{IsAnswerAt}
 use Rattle.caldate_run.proofs.PieceOuts.{taken_off, words_placed}
 use Rattle.caldate_run.proofs.run.pieces.push_asked.Goals as goal
 

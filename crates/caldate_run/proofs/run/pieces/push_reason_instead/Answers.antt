@@ -1,6 +1,6 @@
 use Rattle.std.proofs.Common.{◌∙◌, ◌++◌, ap, cond, sym}
+use Rattle.caldate_lines.specs.Reasons.{reason}
 use Rattle.caldate_run.specs.Pieces.{placed}
-use Rattle.caldate_run.specs.Reasons.{reason}
 use Rattle.caldate_run.proofs.PieceOuts.{words_placed}
 use Rattle.caldate_run.proofs.run.pieces.push_reason_instead.Goals as goal
 

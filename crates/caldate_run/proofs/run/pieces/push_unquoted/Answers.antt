@@ -1,7 +1,7 @@
 use Rattle.std.proofs.Common.{◌≡◌, ◌∙◌, ◌++◌, [], Option, List, ℕ, None, Err, ap, false, refl, subst, sym}
 use Rattle.std.specs.Prelude.{is_some, unwrap_or}
+use Rattle.caldate_lines.specs.declared.no_answer.NoAnswer.TheVariants as why
 use Rattle.caldate_run.specs.Pieces.{IsAnswerToAsked, replaced}
-use Rattle.caldate_run.specs.declared.run.no_answer.NoAnswer.TheVariants as why
 use Rattle.caldate_run.proofs.run.pieces.push_unquoted.Goals as goal
 
 pub returns-in-None-clause-out : goal.returns-in-None-clause-out

@@ -1,9 +1,9 @@
 use Rattle.std.proofs.Common.{◌≡◌, ◌∙◌, ◌++◌, [], Some, None, Ok, ap, append_assoc, false, refl, subst, sym, true}
 use Rattle.std.proofs.lemmas.List.{append-nil}
-use Rattle.caldate_run.specs.Answers.{IsAnswer}
-use Rattle.caldate_run.specs.Runs.{AppendsAnswer, AppendsSome}
+use Rattle.caldate_answers.specs.Answers.{IsAnswer}
+use Rattle.caldate_answers.specs.Appends.{AppendsAnswer, AppendsSome}
+use Rattle.caldate_answers.proofs.Appends.{taken_back}
 use Rattle.caldate_run.proofs.PieceOuts.{field_answered, field_words}
-use Rattle.caldate_run.proofs.Replied.{taken_back}
 use Rattle.caldate_run.proofs.run.reply.push_field.Goals as goal
 
 pub returns-in-Ok-true-clause-out : goal.returns-in-Ok-true-clause-out

@@ -1,9 +1,10 @@
 use Rattle.std.proofs.Common.{◌≡◌, ◌∙◌, ◌++◌, false, Option, ap, arith, length, length-append, subst, sym}
 use Rattle.std.specs.Prelude.{◌&&◌, is_some}
-use Rattle.caldate_run.specs.Lines.{text_of}
+use Rattle.caldate_lines.specs.Lines.{text_of}
+use Rattle.caldate_lines.specs.declared.no_answer.NoAnswer.{NoAnswer}
+use Rattle.caldate_answers.proofs.Appends.{taken_back}
 use Rattle.caldate_run.specs.Replies.{IsOutcome, stops}
-use Rattle.caldate_run.specs.declared.run.no_answer.NoAnswer.{NoAnswer}
-use Rattle.caldate_run.proofs.Replied.{Left, replied, taken_back}
+use Rattle.caldate_run.proofs.Replied.{Left, replied}
 use Rattle.caldate_run.proofs.run.reply.push_otherwise.Goals as goal
 use Rattle.caldate_run.proofs.run.reply.push_otherwise.Goals.{in-Some+else-stops, in_default}
 

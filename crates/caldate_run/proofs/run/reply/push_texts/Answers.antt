@@ -1,4 +1,4 @@
-use Rattle.caldate_run.specs.Scans.{IsScanned}
+use Rattle.caldate_answers.specs.Scans.{IsScanned}
 use Rattle.caldate_run.proofs.Replied.{line_answered}
 use Rattle.caldate_run.proofs.run.reply.push_texts.Goals as goal
 

@@ -1,0 +1,29 @@
+use Rattle.std.proofs.Common.{subst, sym}
+use Rattle.cal_text.specs.declared.any.MomentForm.TheVariants.{Rfc3339}
+use Rattle.caldate_answers.specs.Answers.{IsAnswerTo, IsAt, IsMovedAt}
+use Rattle.caldate_answers.specs.declared.request.Form.TheVariants.{Moment}
+use Rattle.caldate_answers.proofs.answer.push_answer_to.Goals as goal
+
+pub returns-in-Move-clause-none : goal.returns-in-Move-clause-none
+returns-in-Move-clause-none c = λ no.
+    let none = c.push_moved_by.ensures.none no in
+    (none.0, λ words h. none.1 words (subst (λ q. IsAnswerTo c.args.clock.now c.args.workdays.now q c.args.text.now c.args.found.now words) c.in-Move.is h))
+
+pub returns-in-MoveAt-clause-none : goal.returns-in-MoveAt-clause-none
+returns-in-MoveAt-clause-none c = λ no.
+    let workdays = c.args.workdays.now in
+    let none = c.push_moved_at.ensures.none no in (
+      none.0,
+      λ words h.
+          let h = subst (λ q. IsAnswerTo c.args.clock.now workdays q c.args.text.now c.args.found.now words) c.in-MoveAt.is h in
+          none.1 words (subst (λ m. IsMovedAt c.in-MoveAt.clock workdays c.in-MoveAt.by (Moment Rfc3339) m words) (sym c.moment_of-in-MoveAt.ensures) h),
+    )
+
+pub returns-in-At-clause-none : goal.returns-in-At-clause-none
+returns-in-At-clause-none c = λ no.
+    let none = c.push_at.ensures.none no in (
+      none.0,
+      λ words h.
+          let h = subst (λ q. IsAnswerTo c.args.clock.now c.args.workdays.now q c.args.text.now c.args.found.now words) c.in-At.is h in
+          none.1 words (subst (λ m. IsAt c.in-At.place m words) (sym c.moment_of-in-At.ensures) h),
+    )

@@ -1,0 +1,39 @@
+use Rattle.std.proofs.Common.{◌++◌, subst, take}
+use Rattle.cal_format.specs.Form.{HasForm}
+use Rattle.caldate_answers.specs.Readers.{IsFormatText}
+use Rattle.caldate_answers.specs.Scans.{Bounds}
+use Rattle.caldate_answers.proofs.TextBounds.{date_form, date_time_form, front_within, moment_form}
+use Rattle.caldate_answers.proofs.scan.bound.bound_by_format.Goals as goal
+
+pub returns-in-Dates-clause-within : goal.returns-in-Dates-clause-within
+returns-in-Dates-clause-within c = c.bound_by_items.ensures.within
+
+pub returns-in-Dates-clause-front : goal.returns-in-Dates-clause-front
+returns-in-Dates-clause-front c = λ offset n more found fits h.
+    let items = c.in-Dates.format in
+    let text = take n c.args.bytes.now ++ more in
+    let is = subst (λ f. IsFormatText offset f text found) c.in-Dates.is h in
+    let bound = subst (λ l. Bounds (HasForm l) c.args.bytes.now c.bound_by_items.result) c.as_format.ensures.items c.bound_by_items.ensures in
+    front_within items c.args.bytes.now c.bound_by_items.result n more bound fits (date_form items text is.0 c.as_format.ensures.determines is.1)
+
+pub returns-in-Moments-clause-within : goal.returns-in-Moments-clause-within
+returns-in-Moments-clause-within c = c.bound_by_items-in-Moments.ensures.within
+
+pub returns-in-Moments-clause-front : goal.returns-in-Moments-clause-front
+returns-in-Moments-clause-front c = λ offset n more found fits h.
+    let items = c.in-Moments.format in
+    let text = take n c.args.bytes.now ++ more in
+    let is = subst (λ f. IsFormatText offset f text found) c.in-Moments.is h in
+    let bound = subst (λ l. Bounds (HasForm l) c.args.bytes.now c.bound_by_items-in-Moments.result) c.as_format-in-Moments.ensures.items c.bound_by_items-in-Moments.ensures in
+    front_within items c.args.bytes.now c.bound_by_items-in-Moments.result n more bound fits (moment_form items text is.0 c.as_format-in-Moments.ensures.determines is.1)
+
+pub returns-in-DateTimes-clause-within : goal.returns-in-DateTimes-clause-within
+returns-in-DateTimes-clause-within c = c.bound_by_items-in-DateTimes.ensures.within
+
+pub returns-in-DateTimes-clause-front : goal.returns-in-DateTimes-clause-front
+returns-in-DateTimes-clause-front c = λ offset n more found fits h.
+    let items = c.in-DateTimes.format in
+    let text = take n c.args.bytes.now ++ more in
+    let is = subst (λ f. IsFormatText offset f text found) c.in-DateTimes.is h in
+    let bound = subst (λ l. Bounds (HasForm l) c.args.bytes.now c.bound_by_items-in-DateTimes.result) c.as_format-in-DateTimes.ensures.items c.bound_by_items-in-DateTimes.ensures in
+    front_within items c.args.bytes.now c.bound_by_items-in-DateTimes.result n more bound fits (date_time_form items text is.0 c.as_format-in-DateTimes.ensures.determines is.1)

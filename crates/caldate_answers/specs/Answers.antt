@@ -1,0 +1,166 @@
+-- The answer to the text of a line.
+use Rattle.std.specs.Prelude.{◌≡◌, ◌⊎◌, ℕ, ◌&&◌, Bool, true, false, not, ℤ, pos, ◌+ℤ◌, ◌-ℤ◌, List, Option, Some, None, is_some, Result, Ok, Err, if◌then◌else◌}
+use Rattle.std.specs.Fmt.{signed_decimal}
+use Rattle.std.specs.Option.{option_map_or}
+use Rattle.cal_time.specs.Date.{IsDate, julian_day_at}
+use Rattle.cal_time.specs.SignedDuration.{whole_days}
+use Rattle.cal_time.specs.SignedDuration as duration
+use Rattle.cal_datetime.specs.DateTime.{IsDateTime, date_time}
+use Rattle.cal_datetime.specs.OffsetDateTime.{LocalAndOffset, instant, local_at, unix_seconds}
+use Rattle.cal_text.specs.declared.any.DateOrMoment.{DateOrMoment}
+use Rattle.cal_text.specs.declared.any.DateOrMoment.TheVariants as read
+use Rattle.cal_text.specs.declared.any.MomentForm.TheVariants.{Rfc3339}
+use Rattle.cal_schedule.specs.Workdays.{WorkWeek}
+use Rattle.cal_zone.specs.Timeline.{offset_at}
+use Rattle.caldate_lines.specs.declared.no_answer.NoAnswer.{NoAnswer}
+use Rattle.caldate_lines.specs.declared.no_answer.NoAnswer.TheVariants as why
+use Rattle.caldate_answers.specs.Clocks.{IsPlaced}
+use Rattle.caldate_answers.specs.Counts.{IsCount}
+use Rattle.caldate_answers.specs.ClockCounts.{IsCountOn}
+use Rattle.caldate_answers.specs.Bounds.{lies_in}
+use Rattle.caldate_answers.specs.Forms.{IsInForm, format_text}
+pub use Rattle.caldate_answers.specs.Found.{day_of, form_read, is_date, moment_of}
+use Rattle.caldate_answers.specs.ClockMoves.{IsMovedOn}
+pub use Rattle.caldate_answers.specs.Moves.{floored, on_day}
+use Rattle.caldate_answers.specs.Moves.{MovesTo}
+use Rattle.caldate_answers.specs.Readers.{IsFoundBy, IsUnread}
+use Rattle.caldate_answers.specs.declared.request.Clock.{Clock}
+use Rattle.caldate_answers.specs.declared.request.DayMove.{DayMove}
+use Rattle.caldate_answers.specs.declared.request.Filter.{Filter}
+use Rattle.caldate_answers.specs.declared.request.Form.{Form}
+use Rattle.caldate_answers.specs.declared.request.Form.TheVariants.{Moment}
+use Rattle.caldate_answers.specs.declared.request.Move.{Move as AnyMove}
+use Rattle.caldate_answers.specs.declared.request.Move.TheVariants as move
+use Rattle.caldate_answers.specs.declared.request.Place.{Place}
+use Rattle.caldate_answers.specs.declared.request.Place.TheVariants as place
+use Rattle.caldate_answers.specs.declared.request.Request.{Request}
+use Rattle.caldate_answers.specs.declared.request.Request.TheVariants.{To, Print, Move, MoveAt, Until, Since, At, Keep}
+use Rattle.caldate_answers.specs.declared.request.Target.TheVariants as target
+use Rattle.caldate_answers.specs.declared.request.TimeUnit.{TimeUnit}
+
+-- A date moves by only the whole days of a duration, a moment by all of it.
+pub record IsDayLater (n : ℕ) (d : ℤ) (m : LocalAndOffset) : Type 0 where
+  pub day : ℕ
+  pub date : IsDate day
+  pub moved : pos day ≡ pos n +ℤ whole_days d
+  pub midnight : m ≡ record { local = date_time day 0; offset = pos 0 }
+
+pub record IsMomentLater (from : LocalAndOffset) (d : ℤ) (m : LocalAndOffset) : Type 0 where
+  pub in_range : IsDateTime (from.local +ℤ d)
+  pub moved : m ≡ record { local = from.local +ℤ d; offset = from.offset }
+
+abbrev pub IsLater : DateOrMoment → ℤ → LocalAndOffset → Type 0
+IsLater (read.Date form n) d m = IsDayLater n d m
+IsLater (read.Moment form from) d m = IsMomentLater from d m
+
+-- The text is the number of days between two dates, or otherwise a duration.
+abbrev pub until_text : DateOrMoment → DateOrMoment → List ℕ
+until_text from to =
+    if is_date from && is_date to then signed_decimal (julian_day_at (day_of to) -ℤ julian_day_at (day_of from))
+    else duration.text (instant (moment_of to) -ℤ instant (moment_of from))
+
+-- With a unit, the text is the number of whole units, truncated toward zero.
+abbrev pub IsBetween : WorkWeek → Option TimeUnit → DateOrMoment → DateOrMoment → List ℕ → Type 0
+IsBetween workdays None from to words = words ≡ until_text from to
+IsBetween workdays (Some unit) from to words = (z : ℤ) × IsCount workdays unit (moment_of from) (moment_of to) z × (words ≡ signed_decimal z)
+
+-- Moment m is the moment `from` at the offset.
+pub record IsShownAt (offset : ℤ) (from m : LocalAndOffset) : Type 0 where
+  pub in_range : IsDateTime (local_at (instant from) offset)
+  pub value : m ≡ record { local = local_at (instant from) offset; offset = offset }
+
+-- The offset of a place at a moment.
+abbrev pub offset_in : Place → LocalAndOffset → ℤ
+offset_in (place.Offset offset) from = offset
+offset_in (place.Zone zone) from = offset_at zone (unix_seconds (instant from))
+
+-- The words are the moment in RFC 3339, at the offset of the place.
+abbrev pub IsAt : Place → LocalAndOffset → List ℕ → Type 0
+IsAt place from words = (m : LocalAndOffset) × IsShownAt (offset_in place from) from m × IsInForm (Moment Rfc3339) m words
+
+-- The words are the moved day in the form that was read, at the same time of day.
+abbrev pub IsOnMovedDay : WorkWeek → DayMove → DateOrMoment → List ℕ → Type 0
+IsOnMovedDay workdays by found words = (n : ℕ) × MovesTo workdays by (day_of found) n × IsInForm (form_read found) (on_day (moment_of found) n) words
+
+-- The words are the date or moment after adding a duration, in the form that was read.
+abbrev pub IsAnswerLater : ℤ → DateOrMoment → List ℕ → Type 0
+IsAnswerLater d found words = (m : LocalAndOffset) × IsLater found d m × IsInForm (form_read found) m words
+
+-- The words are the moved date or moment in the form that was read. A moment keeps its offset.
+abbrev pub IsMoved : WorkWeek → AnyMove → DateOrMoment → List ℕ → Type 0
+IsMoved workdays (move.Day by) found words = IsOnMovedDay workdays by found words
+IsMoved workdays (move.Days d) found words = IsAnswerLater d found words
+IsMoved workdays (move.Add d) found words = IsAnswerLater d found words
+IsMoved workdays (move.Floor n) found words = IsInForm (form_read found) (floored n (moment_of found)) words
+
+-- The words are the moment in a form, moved by the clocks of a zone.
+abbrev pub IsMovedAt : Clock → WorkWeek → AnyMove → Form → LocalAndOffset → List ℕ → Type 0
+IsMovedAt clock workdays by form from words = (m : LocalAndOffset) × IsMovedOn clock workdays by from m × IsInForm form m words
+
+-- With a clock, a moment goes by it. A date moves as without one.
+abbrev pub IsMovedBy : Option Clock → WorkWeek → AnyMove → DateOrMoment → List ℕ → Type 0
+IsMovedBy (Some clock) workdays by (read.Moment form m) words = IsMovedAt clock workdays by (Moment form) m words
+IsMovedBy clock workdays by found words = IsMoved workdays by found words
+
+-- With a clock, whole units go by it.
+abbrev pub IsBetweenBy : Option Clock → WorkWeek → Option TimeUnit → DateOrMoment → DateOrMoment → List ℕ → Type 0
+IsBetweenBy (Some clock) workdays (Some unit) from to words = (z : ℤ) × IsCountOn clock.zone workdays unit from to z × (words ≡ signed_decimal z)
+IsBetweenBy clock workdays unit from to words = IsBetween workdays unit from to words
+
+-- The words replace the text that was read. `keep` leaves it as it is. TEXT of `until` and `since`
+-- must be given: if other fields have it, it is put in at each line.
+abbrev pub IsAnswerTo : Option Clock → WorkWeek → Request → List ℕ → DateOrMoment → List ℕ → Type 0
+IsAnswerTo clock workdays (To form) text found words = IsInForm form (moment_of found) words
+IsAnswerTo clock workdays (Print items) text found words = words ≡ format_text items (moment_of found)
+IsAnswerTo clock workdays (Move by) text found words = IsMovedBy clock workdays by found words
+IsAnswerTo clock workdays (MoveAt other by) text found words = IsMovedAt other workdays by (Moment Rfc3339) (moment_of found) words
+IsAnswerTo clock workdays (Until (target.Text to) unit) text found words = IsBetweenBy clock workdays unit found to words
+IsAnswerTo clock workdays (Since (target.Text from) unit) text found words = IsBetweenBy clock workdays unit from found words
+IsAnswerTo clock workdays (At place) text found words = IsAt place (moment_of found) words
+IsAnswerTo clock workdays (Keep bounds) text found words = (lies_in bounds found ≡ Some true) × (words ≡ text)
+IsAnswerTo clock workdays other text found words = ⊥
+
+-- The answer to the date or moment of a text by a filter.
+abbrev pub IsAnswerBy : Filter → List ℕ → DateOrMoment → List ℕ → Type 0
+IsAnswerBy filter text found words = IsAnswerTo filter.clock filter.workdays filter.request text found words
+
+-- `keep` answers with the text itself.
+abbrev pub keeps : Request → Bool
+keeps (Keep bounds) = true
+keeps other = false
+
+-- `keep` leaves out a line whose date or moment lies outside of its bounds.
+abbrev pub leaves_out : Request → DateOrMoment → Bool
+leaves_out (Keep bounds) found = option_map_or not (lies_in bounds found) false
+leaves_out other found = false
+
+-- `keep` compares a date or moment with its bounds, except a date with a moment.
+abbrev pub compares : Request → DateOrMoment → Bool
+compares (Keep bounds) found = is_some (lies_in bounds found)
+compares other found = false
+
+-- ---- the answer to a text
+-- The words that replace it, or None if its line is left out, or why it has no answer.
+abbrev pub Answer : Type 0
+Answer = Result (Option (List ℕ)) NoAnswer
+
+-- The date or moment that was read has no answer, and its line is not left out.
+abbrev pub HasNone : Filter → List ℕ → DateOrMoment → Type 0
+HasNone filter text found = (leaves_out filter.request found ≡ false) × ((words : List ℕ) → ¬ IsAnswerBy filter text found words)
+
+-- The text is read, as this date or moment. With a clock, its local time is a reading of the clock.
+abbrev pub IsReadAs : Filter → List ℕ → DateOrMoment → Type 0
+IsReadAs filter text found =
+    (first : DateOrMoment) × IsFoundBy filter.assumptions filter.readers text first × IsPlaced filter.clock first (Ok found)
+
+-- The text is in none of the forms, or its local time is not that of one moment.
+abbrev pub IsNotRead : Filter → List ℕ → NoAnswer → Type 0
+IsNotRead filter text any = IsUnread filter.assumptions filter.readers text any
+    ⊎ ((first : DateOrMoment) × IsFoundBy filter.assumptions filter.readers text first × IsPlaced filter.clock first (Err any))
+
+-- The answer to a text.
+abbrev pub IsAnswer : Filter → List ℕ → Answer → Type 0
+IsAnswer filter text (Ok (Some words)) = (found : DateOrMoment) × IsReadAs filter text found × IsAnswerBy filter text found words
+IsAnswer filter text (Ok None) = (found : DateOrMoment) × IsReadAs filter text found × (leaves_out filter.request found ≡ true)
+IsAnswer filter text (Err why.None) = (found : DateOrMoment) × IsReadAs filter text found × HasNone filter text found
+IsAnswer filter text (Err other) = IsNotRead filter text other

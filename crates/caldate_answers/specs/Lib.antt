@@ -1,0 +1,16 @@
+pub mod Answers
+pub mod Appends
+pub mod Bounds
+pub mod ClockCounts
+pub mod ClockMoves
+pub mod Clocks
+pub mod Counts
+pub mod Forms
+pub mod Found
+pub mod Moves
+pub mod Offsets
+pub mod Readers
+pub mod Readings
+pub mod Scans
+pub mod Spellings
+pub mod Targets

@@ -1,0 +1,101 @@
+-- The forms that a line is read in. The first that fits wins.
+use Rattle.std.specs.Prelude.{◌≡◌, ◌≤◌, ◌⊎◌, ◌++◌, ℕ, ℤ, codes, length, List, [], ◌∷◌, Option, Some, None, MatchOption, IsSomeAnd, IsTrue}
+use Rattle.cal_time.specs.Date.{IsDate}
+use Rattle.cal_time.specs.UtcOffset.{IsOffset}
+use Rattle.cal_datetime.specs.DateTime.{IsDateTime, time_at}
+use Rattle.cal_datetime.specs.OffsetDateTime.{LocalAndOffset}
+use Rattle.cal_format.specs.declared.item.Item.{Item}
+use Rattle.cal_format.specs.Moment.{moment_of_date, moment_of_date_time, moment_of_offset_date_time}
+use Rattle.cal_format.specs.Reading.{holds_offset, holds_time}
+use Rattle.cal_format.specs.Scanning.{AreHeld}
+use Rattle.cal_format.specs.Text.{text_of}
+use Rattle.cal_text.specs.AnyForm.{IsTextOf}
+use Rattle.cal_text.specs.Position.{IsPosition}
+use Rattle.cal_text.specs.declared.any.DateForm.TheVariants.{Calendar}
+use Rattle.cal_text.specs.declared.any.DateOrMoment.{DateOrMoment}
+use Rattle.cal_text.specs.declared.any.DateOrMoment.TheVariants as dated
+use Rattle.cal_text.specs.declared.any.MomentForm.TheVariants.{Rfc3339}
+use Rattle.caldate_lines.specs.declared.no_answer.NoAnswer.{NoAnswer}
+use Rattle.caldate_lines.specs.declared.no_answer.NoAnswer.TheVariants as why
+use Rattle.caldate_answers.specs.Readings.{HasFormIn, IsErrorIn, IsTextIn}
+use Rattle.caldate_answers.specs.Spellings.{full_by}
+use Rattle.caldate_answers.specs.declared.reading.Reading.{Reading}
+use Rattle.caldate_answers.specs.declared.reading.Reading.TheVariants as reading
+use Rattle.caldate_answers.specs.declared.reading.reader.Assumptions.{Assumptions}
+use Rattle.caldate_answers.specs.declared.reading.reader.Reader.{Reader}
+use Rattle.caldate_answers.specs.declared.reading.reader.Reader.TheVariants.{Named, Local, Spelled, Format, Yearless}
+use Rattle.caldate_answers.specs.declared.reading.value_format.ValueFormat.{ValueFormat}
+use Rattle.caldate_answers.specs.declared.reading.value_format.ValueFormat.TheVariants.{Dates, Moments, DateTimes}
+
+-- ---- formats: the text is what the items print of a value that they hold
+pub record IsDateText (items : List Item) (text : List ℕ) (n : ℕ) : Type 0 where
+  pub in_range : IsDate n
+  pub held : AreHeld (moment_of_date n) items
+  pub text_is : text ≡ text_of items (moment_of_date n)
+
+pub record IsMomentText (items : List Item) (text : List ℕ) (m : LocalAndOffset) : Type 0 where
+  pub local : IsDateTime m.local
+  pub offset : IsOffset m.offset
+  pub held : AreHeld (moment_of_offset_date_time m) items
+  pub time : IsTrue (holds_time items (time_at m.local))
+  pub printed_offset : IsTrue (holds_offset items m.offset)
+  pub text_is : text ≡ text_of items (moment_of_offset_date_time m)
+
+pub record IsDateTimeText (items : List Item) (text : List ℕ) (z : ℤ) : Type 0 where
+  pub in_range : IsDateTime z
+  pub held : AreHeld (moment_of_date_time z) items
+  pub time : IsTrue (holds_time items (time_at z))
+  pub text_is : text ≡ text_of items (moment_of_date_time z)
+
+-- The text is one of this date or moment. A text without an offset is at `offset`.
+abbrev pub IsFormatText : ℤ → ValueFormat → List ℕ → DateOrMoment → Type 0
+IsFormatText offset (Dates items) text found = (n : ℕ) × IsDateText items text n × (found ≡ dated.Date Calendar n)
+IsFormatText offset (Moments items) text found = (m : LocalAndOffset) × IsMomentText items text m × (found ≡ dated.Moment Rfc3339 m)
+IsFormatText offset (DateTimes items) text found =
+    (z : ℤ) × IsDateTimeText items text z × (found ≡ dated.Moment Rfc3339 (record { local = z; offset = offset }))
+
+-- ---- formats without a year: the text followed by the assumed year is one in the format followed
+-- by ` %Y`
+abbrev pub with_year : List ℕ → List ℕ → List ℕ
+with_year year text = text ++ codes " " ++ year
+
+pub record IsYearlessText (assumptions : Assumptions) (format : ValueFormat) (text : List ℕ) (found : DateOrMoment) : Type 0 where
+  pub short : length text ≤ 60
+  pub text_is : IsFormatText assumptions.offset format (with_year assumptions.year text) found
+
+-- ---- forms
+-- The bytes are a text of this date or moment in the form. The parts that it leaves out are assumed.
+abbrev pub IsTextBy : Assumptions → Reader → List ℕ → DateOrMoment → Type 0
+IsTextBy assumptions (Named reading) text found = IsTextIn reading text found
+IsTextBy assumptions Local text found = IsTextIn (reading.Local assumptions.offset) text found
+IsTextBy assumptions (Spelled spelling) text found = IsSomeAnd (full_by spelling text) (λ full. IsTextOf full found)
+IsTextBy assumptions (Format format) text found = IsFormatText assumptions.offset format text found
+IsTextBy assumptions (Yearless format) text found = IsYearlessText assumptions format text found
+
+-- The first form that the text has gives its date or moment.
+abbrev pub IsFoundBy : Assumptions → List Reader → List ℕ → DateOrMoment → Type 0
+IsFoundBy assumptions [] text found = ⊥
+IsFoundBy assumptions (reader ∷ readers) text found =
+    IsTextBy assumptions reader text found ⊎ (((other : DateOrMoment) → ¬ IsTextBy assumptions reader text other) × IsFoundBy assumptions readers text found)
+
+-- ---- a text in none of the forms
+-- The text has the form, with a component out of range, or departs from the form at a position.
+abbrev pub IsUnreadIn : Reading → List ℕ → NoAnswer → Type 0
+IsUnreadIn reading text (why.Rejected component) = IsErrorIn reading text component
+IsUnreadIn reading text (why.Unreadable at) = (¬ HasFormIn reading text) × IsPosition (HasFormIn reading) text at
+IsUnreadIn reading text other = ⊥
+
+-- The form that says why, if it does.
+abbrev pub named : Assumptions → Reader → Option Reading
+named assumptions (Named reading) = Some reading
+named assumptions Local = Some (reading.Local assumptions.offset)
+named assumptions other = None
+
+abbrev pub first_named : Assumptions → List Reader → Option Reading
+first_named assumptions [] = None
+first_named assumptions (reader ∷ readers) = named assumptions reader
+
+-- Why the text is in none of the forms: the first form says it, or that there is none.
+pub record IsUnread (assumptions : Assumptions) (readers : List Reader) (text : List ℕ) (any : NoAnswer) : Type 0 where
+  pub none : (found : DateOrMoment) → ¬ IsFoundBy assumptions readers text found
+  pub why_is : MatchOption (first_named assumptions readers) (any ≡ why.NoForm) (λ reading. IsUnreadIn reading text any)

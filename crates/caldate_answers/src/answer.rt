@@ -1,0 +1,627 @@
+//! The answer to the text of a line.
+ghost use Rattle.std.specs.Prelude.{◌≡◌, ◌+◌, ◌≤◌, ◌++◌, ◌∷◌, ℕ, ℤ, List, None, Some, Ok, Err, IfOk, IfErr, false, true, length, MatchOption};
+ghost use Rattle.std.specs.Fmt.{signed_decimal};
+ghost use Rattle.cal_datetime.specs.OffsetDateTime.{LocalAndOffset};
+ghost use Rattle.cal_text.specs.declared.any.DateOrMoment.{DateOrMoment};
+ghost use Rattle.caldate_lines.specs.Room.{HasRoom, longest_answer};
+ghost use Rattle.caldate_lines.specs.declared.no_answer.NoAnswer.{NoAnswer};
+ghost use Rattle.caldate_answers.specs.Answers.{IsAnswer, IsAnswerLater, IsAnswerTo, IsAt, IsBetween, IsBetweenBy, IsDayLater, IsLater, IsMomentLater, IsMoved, IsMovedAt, IsMovedBy, IsNotRead, IsOnMovedDay, IsReadAs, compares, floored, form_read, is_date, keeps, moment_of, offset_in, on_day, until_text};
+ghost use Rattle.caldate_answers.specs.Bounds.{lies_in};
+ghost use Rattle.caldate_answers.specs.ClockCounts.{IsCountOn};
+ghost use Rattle.caldate_answers.specs.Forms.{IsInForm, format_text};
+ghost use Rattle.caldate_answers.specs.Readers.{IsUnreadIn};
+ghost use Rattle.caldate_answers.specs.Readings.{IsTextIn};
+ghost use Rattle.caldate_answers.specs.Appends.{AppendsSome, AppendsAnswer};
+ghost use Rattle.caldate_answers.specs.Scans.{IsReadWith};
+ghost use Rattle.caldate_answers.specs.declared.reading.Reading.TheVariants.{Any};
+ghost use Rattle.caldate_answers.specs.declared.reading.reader.Reader.{Reader};
+ghost use Rattle.caldate_answers.specs.declared.reading.reader.Reader.TheVariants.{Named};
+
+pub(crate) mod bounds;
+pub(crate) mod clock;
+pub(crate) mod clock_counts;
+pub(crate) mod clock_moves;
+pub(crate) mod counts;
+pub(crate) mod forms;
+pub mod moves;
+pub(crate) mod signed;
+pub(crate) mod texts;
+
+use crate::answer::bounds::{is_comparable, lies_in};
+use crate::answer::clock::placed;
+use crate::answer::clock_counts::count_on;
+use crate::answer::clock_moves::moved_on;
+use crate::answer::counts::count_between;
+use crate::answer::moves::moved_day;
+use crate::answer::texts::{
+    push_basic, push_date, push_month, push_quarter, push_rfc3339, push_signed, push_unix,
+    push_whole_unix,
+};
+use crate::reading::reader::Reader;
+use crate::reading::{Reading, read, read_in, reason_of};
+use crate::request::{
+    Bounds, Clock, DayMove, Filter, Form, Move, Place, Request, Target, TimeUnit,
+};
+use cal_datetime::OffsetDateTime;
+use cal_format::Format;
+use cal_schedule::Workdays;
+use cal_text::{DateOrMoment, MomentForm};
+use cal_time::{Date, ShortText, SignedDuration, Time, UtcOffset};
+use cal_zone::Zone;
+use cal_zone::laws::one_local;
+use caldate_lines::no_answer::NoAnswer;
+use caldate_lines::output::buffer::Buffer;
+
+/// The maximum length of a text that a format prints: 15 bytes for each of 64 items.
+const LONGEST_PRINTED: usize = 960;
+
+/// Appends the answer to `text`, and returns whether its line goes out.
+// The results of rare calls are matched, so that no line waits for one in memory.
+#[inline(always)]
+pub fn push_answer(buffer: &mut Buffer, filter: &Filter<'_>, text: &[u8]) -> Result<bool, NoAnswer>
+    requires { HasRoom (length text.now + longest_answer) buffer.old }
+    ensures answered { AppendsAnswer (IsAnswer filter.now text.now) result buffer.old buffer.new }
+    ensures short { length buffer.new ≤ length buffer.old + length text.now + longest_answer }
+    ensures few { keeps filter.now.request ≡ false
+        → length buffer.new ≤ length buffer.old + longest_answer }
+{
+    if reads_six_forms(filter) {
+        return match read_in(Reading::Any, text) {
+            Ok(found) => push_found(buffer, &None, filter, text, &found),
+            Err(error) => match push_by_others(buffer, filter, text, reason_of(error)) {
+                Ok(goes_out) => Ok(goes_out),
+                Err(why) => Err(why),
+            },
+        };
+    }
+    match push_by_forms(buffer, filter, text) {
+        Ok(goes_out) => Ok(goes_out),
+        Err(why) => Err(why),
+    }
+}
+
+/// Returns whether a text is first read in the six forms, and its moment is on no clock.
+fn reads_six_forms(filter: &Filter<'_>) -> bool
+    ensures forms { result ≡ true
+        → (others : List Reader) × (filter.now.readers ≡ Named Any ∷ others) }
+    ensures clock { result ≡ true → filter.now.clock ≡ None }
+{
+    match filter.readers.as_slice() {
+        [Reader::Named(Reading::Any), ..] => filter.clock.is_none(),
+        _ => false,
+    }
+}
+
+/// Appends the answer to `text`, whatever its forms are, and returns whether its line goes out.
+#[inline(never)]
+pub fn push_by_forms(
+    buffer: &mut Buffer,
+    filter: &Filter<'_>,
+    text: &[u8],
+) -> Result<bool, NoAnswer>
+    requires { HasRoom (length text.now + longest_answer) buffer.old }
+    ensures answered { AppendsAnswer (IsAnswer filter.now text.now) result buffer.old buffer.new }
+    ensures short { length buffer.new ≤ length buffer.old + length text.now + longest_answer }
+    ensures few { keeps filter.now.request ≡ false
+        → length buffer.new ≤ length buffer.old + longest_answer }
+{
+    push_read(buffer, filter, text, read_with(filter, text))
+}
+
+/// Appends the answer to `text`, which isn't in the six forms for this reason, by the other forms.
+/// Returns whether its line goes out.
+#[inline(never)]
+fn push_by_others(
+    buffer: &mut Buffer,
+    filter: &Filter<'_>,
+    text: &[u8],
+    why: NoAnswer,
+) -> Result<bool, NoAnswer>
+    requires room { HasRoom (length text.now + longest_answer) buffer.old }
+    requires forms { (others : List Reader) × (filter.now.readers ≡ Named Any ∷ others) }
+    requires clock { filter.now.clock ≡ None }
+    requires unread { (found : DateOrMoment) → ¬ IsTextIn Any text.now found }
+    requires why { IsUnreadIn Any text.now why }
+    ensures answered { AppendsAnswer (IsAnswer filter.now text.now) result buffer.old buffer.new }
+    ensures short { length buffer.new ≤ length buffer.old + length text.now + longest_answer }
+    ensures few { keeps filter.now.request ≡ false
+        → length buffer.new ≤ length buffer.old + longest_answer }
+{
+    let others = &filter.readers.as_slice()[1..];
+    match read(others, &filter.assumptions, text) {
+        Ok(found) => push_found(buffer, &None, filter, text, &found),
+        Err(_) => Err(why),
+    }
+}
+
+/// Appends the answer to `text`, which is read so, and returns whether its line goes out.
+#[inline(always)]
+pub fn push_read(
+    buffer: &mut Buffer,
+    filter: &Filter<'_>,
+    text: &[u8],
+    read: Result<DateOrMoment, NoAnswer>,
+) -> Result<bool, NoAnswer>
+    requires room { HasRoom (length text.now + longest_answer) buffer.old }
+    requires read { IsReadWith filter.now text.now read }
+    ensures answered { AppendsAnswer (IsAnswer filter.now text.now) result buffer.old buffer.new }
+    ensures short { length buffer.new ≤ length buffer.old + length text.now + longest_answer }
+    ensures few { keeps filter.now.request ≡ false
+        → length buffer.new ≤ length buffer.old + longest_answer }
+{
+    match read {
+        Ok(found) => push_found(buffer, &filter.clock, filter, text, &found),
+        Err(why) => Err(why),
+    }
+}
+
+/// Appends the answer to `text`, which is read as this date or moment, and returns whether its line
+/// goes out. The clock is that of the filter, so that most lines know that there is none.
+#[inline(always)]
+fn push_found(
+    buffer: &mut Buffer,
+    clock: &Option<Clock<'_>>,
+    filter: &Filter<'_>,
+    text: &[u8],
+    found: &DateOrMoment,
+) -> Result<bool, NoAnswer>
+    requires room { HasRoom (length text.now + longest_answer) buffer.old }
+    requires clock { filter.now.clock ≡ clock.now }
+    requires read { IsReadAs filter.now text.now found.now }
+    ensures answered { AppendsAnswer (IsAnswer filter.now text.now) result buffer.old buffer.new }
+    ensures short { length buffer.new ≤ length buffer.old + length text.now + longest_answer }
+    ensures few { keeps filter.now.request ≡ false
+        → length buffer.new ≤ length buffer.old + longest_answer }
+{
+    if push_answer_to(
+        buffer,
+        clock,
+        &filter.workdays,
+        &filter.request,
+        text,
+        found,
+    ) {
+        Ok(true)
+    } else if compares(&filter.request, found) {
+        Ok(false)
+    } else {
+        Err(NoAnswer::None)
+    }
+}
+
+/// Parses the text in the first form that it has, and a local time by the clocks of the zone.
+#[inline(always)]
+pub fn read_with(filter: &Filter<'_>, text: &[u8]) -> Result<DateOrMoment, NoAnswer>
+    ensures every { (found : DateOrMoment) → IsReadAs filter.now text.now found
+        → result ≡ Ok found }
+    ensures has { IfOk result (IsReadAs filter.now text.now) }
+    ensures every_error { (why : NoAnswer) → IsNotRead filter.now text.now why
+        → result ≡ Err why }
+    ensures error { IfErr result (IsNotRead filter.now text.now) }
+{
+    match read(filter.readers.as_slice(), &filter.assumptions, text) {
+        Ok(found) => placed(&filter.clock, found),
+        Err(why) => Err(why),
+    }
+}
+
+/// Appends the answer for the date or moment of `text`, or nothing. Returns whether it did.
+#[inline(always)]
+fn push_answer_to(
+    buffer: &mut Buffer,
+    clock: &Option<Clock<'_>>,
+    workdays: &Workdays<'_>,
+    request: &Request<'_>,
+    text: &[u8],
+    found: &DateOrMoment,
+) -> bool
+    requires { HasRoom (length text.now + longest_answer) buffer.old }
+    ensures has { result ≡ true → AppendsSome
+        (IsAnswerTo clock.now workdays.now request.now text.now found.now) buffer.old buffer.new }
+    ensures none { result ≡ false → (buffer.new ≡ buffer.old)
+        × ((words : List ℕ) → ¬ IsAnswerTo clock.now workdays.now request.now text.now found.now words) }
+    ensures short { length buffer.new ≤ length buffer.old + length text.now + longest_answer }
+    ensures few { keeps request.now ≡ false
+        → length buffer.new ≤ length buffer.old + longest_answer }
+{
+    match request {
+        Request::To(form) => push_in_form(buffer, *form, moment_of(found)),
+        Request::Print(format) => {
+            push_printed(buffer, format, moment_of(found));
+            true
+        }
+        Request::Move(by) => push_moved_by(buffer, clock, workdays, by, found),
+        Request::MoveAt(clock, by) => {
+            let form = Form::Moment(MomentForm::Rfc3339);
+            push_moved_at(buffer, clock, workdays, *by, form, moment_of(found))
+        }
+        Request::Until(Target::Text(to), unit) => {
+            push_between_by(buffer, clock, workdays, *unit, found, to)
+        }
+        Request::Since(Target::Text(from), unit) => {
+            push_between_by(buffer, clock, workdays, *unit, from, found)
+        }
+        Request::Until(Target::Fields(_), _) => false,
+        Request::Until(Target::Name(_), _) => false,
+        Request::Since(Target::Fields(_), _) => false,
+        Request::Since(Target::Name(_), _) => false,
+        Request::At(place) => push_at(buffer, place, moment_of(found)),
+        Request::Keep(bounds) => push_kept(buffer, bounds, text, found),
+    }
+}
+
+/// Appends the text if its date or moment lies within the bounds. Returns whether it does.
+#[inline(always)]
+fn push_kept(buffer: &mut Buffer, bounds: &Bounds, text: &[u8], found: &DateOrMoment) -> bool
+    requires { HasRoom (length text.now + longest_answer) buffer.old }
+    ensures has { result ≡ true → (lies_in bounds.now found.now ≡ Some true)
+        × (buffer.new ≡ buffer.old ++ text.now) }
+    ensures none { result ≡ false → (buffer.new ≡ buffer.old)
+        × ¬ (lies_in bounds.now found.now ≡ Some true) }
+    ensures short { length buffer.new ≤ length buffer.old + length text.now + longest_answer }
+{
+    match lies_in(bounds, found) {
+        Some(true) => {
+            buffer.push(text);
+            true
+        }
+        _ => false,
+    }
+}
+
+/// Returns whether a `keep` request compares the date or moment with its bounds.
+fn compares(request: &Request<'_>, found: &DateOrMoment) -> bool
+    ensures { result ≡ compares request.now found.now }
+{
+    match request {
+        Request::Keep(bounds) => is_comparable(bounds, found),
+        _ => false,
+    }
+}
+
+/// Returns the moment. A date becomes midnight UTC.
+pub fn moment_of(found: &DateOrMoment) -> OffsetDateTime
+    ensures { result ≡ moment_of found.now }
+{
+    match found {
+        DateOrMoment::Date(_, date) => OffsetDateTime::new_utc(*date, Time::MIDNIGHT),
+        DateOrMoment::Moment(_, moment) => *moment,
+    }
+}
+
+/// Returns the form in which a date or moment was read.
+fn form_read(found: &DateOrMoment) -> Form
+    ensures { result ≡ form_read found.now }
+{
+    match found {
+        DateOrMoment::Date(form, _) => Form::Date(*form),
+        DateOrMoment::Moment(form, _) => Form::Moment(*form),
+    }
+}
+
+/// Replaces the date of a moment and keeps its time of day and offset.
+fn on_day(moment: OffsetDateTime, date: Date) -> OffsetDateTime
+    ensures { result ≡ on_day moment date }
+{
+    OffsetDateTime::new_in_offset(date, moment.time(), moment.offset())
+}
+
+/// Rounds the time of day down to a multiple of `minutes` minutes, or of 1 for 0.
+pub(crate) fn floored(minutes: u16, moment: OffsetDateTime) -> OffsetDateTime
+    ensures { result ≡ floored minutes moment }
+{
+    let time = moment.time();
+    let past = u16::from(time.hour()) * 60 + u16::from(time.minute());
+    let floor = past - past % minutes.max(1);
+    match Time::from_hms((floor / 60) as u8, (floor % 60) as u8, 0) {
+        Ok(time) => OffsetDateTime::new_in_offset(moment.date(), time, moment.offset()),
+        Err(_) => unreachable!(),
+    }
+}
+
+/// Appends a moment in a form, or nothing if the form can't express it. Returns whether it can.
+#[inline(always)]
+fn push_in_form(buffer: &mut Buffer, form: Form, moment: OffsetDateTime) -> bool
+    requires { HasRoom longest_answer buffer.old }
+    ensures has { result ≡ true → AppendsSome (IsInForm form moment) buffer.old buffer.new }
+    ensures none { result ≡ false → (buffer.new ≡ buffer.old)
+        × ((words : List ℕ) → ¬ IsInForm form moment words) }
+    ensures short { length buffer.new ≤ length buffer.old + longest_answer }
+{
+    match form {
+        Form::Date(form) => push_date(buffer, form, moment.date()),
+        Form::Weekday => buffer.push(moment.date().weekday().name().as_bytes()),
+        Form::Moment(MomentForm::Rfc3339) => return push_rfc3339(buffer, moment),
+        Form::Moment(MomentForm::Unix) => push_unix(buffer, moment),
+        Form::ShortWeekday => buffer.push(&moment.date().weekday().name().as_bytes()[..3]),
+        Form::Month => push_month(buffer, moment.date()),
+        Form::Quarter => push_quarter(buffer, moment.date()),
+        Form::Basic => return push_basic(buffer, moment),
+        Form::Unix(unit) => push_whole_unix(buffer, unit, moment),
+    }
+    true
+}
+
+/// Appends a moment in a format.
+#[inline(never)]
+#[tactic(auto, using(crate::proofs::Printed::printable))]
+fn push_printed(buffer: &mut Buffer, format: &Format, moment: OffsetDateTime)
+    requires { HasRoom longest_answer buffer.old }
+    ensures text { buffer.new ≡ buffer.old ++ format_text format.now moment }
+    ensures short { length buffer.new ≤ length buffer.old + longest_answer }
+{
+    let _items = format.items();
+    let _parts = (moment.date(), moment.time(), moment.offset());
+    let mut text = [0u8; LONGEST_PRINTED];
+    // The arguments have no format with `%Z`, which would print nothing here.
+    match format.print_in_zone(moment, b"", &mut text) {
+        Some(end) => buffer.push(&text[..end]),
+        None => unreachable!(),
+    }
+}
+
+/// Adds a duration, or returns `None` if the result is out of range.
+fn later(found: &DateOrMoment, duration: SignedDuration) -> Option<OffsetDateTime>
+    ensures { MatchOption result ((m : LocalAndOffset) → ¬ IsLater found.now duration m)
+        (IsLater found.now duration) }
+{
+    match found {
+        DateOrMoment::Date(_, date) => day_later(*date, duration),
+        DateOrMoment::Moment(_, moment) => moment_later(*moment, duration),
+    }
+}
+
+/// Returns midnight UTC on the day after adding the whole days of the duration.
+fn day_later(date: Date, duration: SignedDuration) -> Option<OffsetDateTime>
+    ensures { MatchOption result ((m : LocalAndOffset) → ¬ IsDayLater date duration m)
+        (IsDayLater date duration) }
+{
+    match date.checked_add(duration) {
+        Some(day) => Some(OffsetDateTime::new_utc(day, Time::MIDNIGHT)),
+        None => None,
+    }
+}
+
+fn moment_later(moment: OffsetDateTime, duration: SignedDuration) -> Option<OffsetDateTime>
+    ensures { MatchOption result ((m : LocalAndOffset) → ¬ IsMomentLater moment duration m)
+        (IsMomentLater moment duration) }
+{
+    moment.checked_add(duration)
+}
+
+/// Appends the moved date or moment, or nothing. Returns whether there is one.
+#[inline(always)]
+fn push_moved_by(
+    buffer: &mut Buffer,
+    clock: &Option<Clock<'_>>,
+    workdays: &Workdays<'_>,
+    by: &Move,
+    found: &DateOrMoment,
+) -> bool
+    requires { HasRoom longest_answer buffer.old }
+    ensures has { result ≡ true → AppendsSome (IsMovedBy clock.now workdays.now by.now found.now)
+        buffer.old buffer.new }
+    ensures none { result ≡ false → (buffer.new ≡ buffer.old)
+        × ((words : List ℕ) → ¬ IsMovedBy clock.now workdays.now by.now found.now words) }
+    ensures short { length buffer.new ≤ length buffer.old + longest_answer }
+{
+    match (clock, found) {
+        (Some(clock), DateOrMoment::Moment(form, moment)) => {
+            push_moved_at(buffer, clock, workdays, *by, Form::Moment(*form), *moment)
+        }
+        _ => push_moved(buffer, workdays, by, found),
+    }
+}
+
+/// Appends a moment moved by the clocks of a zone, or nothing. Returns whether it did.
+#[inline(never)]
+fn push_moved_at(
+    buffer: &mut Buffer,
+    clock: &Clock<'_>,
+    workdays: &Workdays<'_>,
+    by: Move,
+    form: Form,
+    moment: OffsetDateTime,
+) -> bool
+    requires { HasRoom longest_answer buffer.old }
+    ensures has { result ≡ true → AppendsSome (IsMovedAt clock.now workdays.now by form moment)
+        buffer.old buffer.new }
+    ensures none { result ≡ false → (buffer.new ≡ buffer.old)
+        × ((words : List ℕ) → ¬ IsMovedAt clock.now workdays.now by form moment words) }
+    ensures short { length buffer.new ≤ length buffer.old + longest_answer }
+{
+    one_local(&clock.zone);
+    match moved_on(clock, workdays, by, moment) {
+        Some(moved) => push_in_form(buffer, form, moved),
+        None => false,
+    }
+}
+
+/// Appends the moved date or moment by no clock, or nothing. Returns whether there is one.
+#[inline(always)]
+fn push_moved(buffer: &mut Buffer, workdays: &Workdays<'_>, by: &Move, found: &DateOrMoment) -> bool
+    requires { HasRoom longest_answer buffer.old }
+    ensures has { result ≡ true → AppendsSome (IsMoved workdays.now by.now found.now)
+        buffer.old buffer.new }
+    ensures none { result ≡ false → (buffer.new ≡ buffer.old)
+        × ((words : List ℕ) → ¬ IsMoved workdays.now by.now found.now words) }
+    ensures short { length buffer.new ≤ length buffer.old + longest_answer }
+{
+    match by {
+        Move::Day(by) => push_on_moved_day(buffer, workdays, *by, found),
+        Move::Days(duration) => push_later(buffer, *duration, found),
+        Move::Add(duration) => push_later(buffer, *duration, found),
+        Move::Floor(minutes) => {
+            let floor = floored(*minutes, moment_of(found));
+            push_in_form(buffer, form_read(found), floor)
+        }
+    }
+}
+
+/// Appends the date or moment after adding a duration, or nothing. Returns whether there is one.
+#[inline(always)]
+fn push_later(buffer: &mut Buffer, duration: SignedDuration, found: &DateOrMoment) -> bool
+    requires { HasRoom longest_answer buffer.old }
+    ensures has { result ≡ true → AppendsSome (IsAnswerLater duration found.now)
+        buffer.old buffer.new }
+    ensures none { result ≡ false → (buffer.new ≡ buffer.old)
+        × ((words : List ℕ) → ¬ IsAnswerLater duration found.now words) }
+    ensures short { length buffer.new ≤ length buffer.old + longest_answer }
+{
+    match later(found, duration) {
+        Some(later) => push_in_form(buffer, form_read(found), later),
+        None => false,
+    }
+}
+
+/// Appends the moved day at the same time of day, or nothing. Returns whether there is one.
+fn push_on_moved_day(
+    buffer: &mut Buffer,
+    workdays: &Workdays<'_>,
+    by: DayMove,
+    found: &DateOrMoment,
+) -> bool
+    requires { HasRoom longest_answer buffer.old }
+    ensures has { result ≡ true → AppendsSome (IsOnMovedDay workdays.now by found.now)
+        buffer.old buffer.new }
+    ensures none { result ≡ false → (buffer.new ≡ buffer.old)
+        × ((words : List ℕ) → ¬ IsOnMovedDay workdays.now by found.now words) }
+    ensures short { length buffer.new ≤ length buffer.old + longest_answer }
+{
+    let moment = moment_of(found);
+    let form = form_read(found);
+    match moved_day(workdays, moment.date(), by) {
+        Some(day) => push_in_form(buffer, form, on_day(moment, day)),
+        None => false,
+    }
+}
+
+/// Appends the moment in the place, or nothing. Returns whether it has a text.
+fn push_at(buffer: &mut Buffer, place: &Place<'_>, moment: OffsetDateTime) -> bool
+    requires { HasRoom longest_answer buffer.old }
+    ensures has { result ≡ true → AppendsSome (IsAt place.now moment) buffer.old buffer.new }
+    ensures none { result ≡ false → (buffer.new ≡ buffer.old)
+        × ((words : List ℕ) → ¬ IsAt place.now moment words) }
+    ensures short { length buffer.new ≤ length buffer.old + longest_answer }
+{
+    match moment.checked_to_offset(offset_in(place, moment)) {
+        Some(there) => push_in_form(buffer, Form::Moment(MomentForm::Rfc3339), there),
+        None => false,
+    }
+}
+
+/// Returns the offset of the place at the moment.
+fn offset_in(place: &Place<'_>, moment: OffsetDateTime) -> UtcOffset
+    ensures { result ≡ offset_in place.now moment }
+{
+    match place {
+        Place::Offset(offset) => *offset,
+        Place::Zone(zone) => zone.utc_offset_at(moment.unix_timestamp()),
+    }
+}
+
+/// Appends the number of units, or without a unit the days or the duration. Returns whether there
+/// is one: `false` only with a clock, if what it shows is out of range.
+#[inline(always)]
+pub fn push_between_by(
+    buffer: &mut Buffer,
+    clock: &Option<Clock<'_>>,
+    workdays: &Workdays<'_>,
+    unit: Option<TimeUnit>,
+    from: &DateOrMoment,
+    to: &DateOrMoment,
+) -> bool
+    requires { HasRoom longest_answer buffer.old }
+    ensures has { result ≡ true → AppendsSome
+        (IsBetweenBy clock.now workdays.now unit from.now to.now) buffer.old buffer.new }
+    ensures none { result ≡ false → (buffer.new ≡ buffer.old)
+        × ((words : List ℕ) → ¬ IsBetweenBy clock.now workdays.now unit from.now to.now words) }
+    ensures short { length buffer.new ≤ length buffer.old + longest_answer }
+{
+    match (clock, unit) {
+        (Some(clock), Some(unit)) => {
+            push_count_on(buffer, &clock.zone, workdays, unit, from, to)
+        }
+        _ => {
+            push_between(buffer, workdays, unit, from, to);
+            true
+        }
+    }
+}
+
+/// Appends the number of units by the clocks of a zone, or nothing. Returns whether there is one.
+#[inline(never)]
+fn push_count_on(
+    buffer: &mut Buffer,
+    zone: &Zone<'_>,
+    workdays: &Workdays<'_>,
+    unit: TimeUnit,
+    from: &DateOrMoment,
+    to: &DateOrMoment,
+) -> bool
+    requires { HasRoom longest_answer buffer.old }
+    ensures has { result ≡ true → AppendsSome (λ words. (z : ℤ)
+        × IsCountOn zone.now workdays.now unit from.now to.now z × (words ≡ signed_decimal z))
+        buffer.old buffer.new }
+    ensures none { result ≡ false → (buffer.new ≡ buffer.old)
+        × ((z : ℤ) → ¬ IsCountOn zone.now workdays.now unit from.now to.now z) }
+    ensures short { length buffer.new ≤ length buffer.old + longest_answer }
+{
+    match count_on(zone, workdays, unit, from, to) {
+        Some(count) => {
+            push_signed(buffer, count);
+            true
+        }
+        None => false,
+    }
+}
+
+/// Appends the number of units, or without a unit the days or the duration, by no clock.
+pub fn push_between(
+    buffer: &mut Buffer,
+    workdays: &Workdays<'_>,
+    unit: Option<TimeUnit>,
+    from: &DateOrMoment,
+    to: &DateOrMoment,
+)
+    requires { HasRoom longest_answer buffer.old }
+    ensures text { AppendsSome (IsBetween workdays.now unit from.now to.now)
+        buffer.old buffer.new }
+    ensures short { length buffer.new ≤ length buffer.old + longest_answer }
+{
+    match unit {
+        Some(unit) => {
+            let count = count_between(workdays, unit, moment_of(from), moment_of(to));
+            push_signed(buffer, count);
+        }
+        None => push_until(buffer, from, to),
+    }
+}
+
+/// Appends the days between two dates, or otherwise the duration between two moments.
+#[tactic(auto, using(cal_time::proofs::TextLengths::text_lengths))]
+fn push_until(buffer: &mut Buffer, from: &DateOrMoment, to: &DateOrMoment)
+    requires { HasRoom longest_answer buffer.old }
+    ensures text { buffer.new ≡ buffer.old ++ until_text from.now to.now }
+    ensures short { length buffer.new ≤ length buffer.old + longest_answer }
+{
+    let start = moment_of(from);
+    let end = moment_of(to);
+    if is_date(from) && is_date(to) {
+        let mut days = ShortText::new();
+        days.push_i32(end.date().to_julian_day() - start.date().to_julian_day());
+        buffer.push(days.as_bytes());
+    } else {
+        buffer.push((end - start).text().as_bytes());
+    }
+}
+
+/// Returns whether `found` is a date.
+pub fn is_date(found: &DateOrMoment) -> bool
+    ensures { result ≡ is_date found.now }
+{
+    match found {
+        DateOrMoment::Date(_, _) => true,
+        DateOrMoment::Moment(_, _) => false,
+    }
+}

@@ -1,0 +1,7 @@
+//! The answers of `caldate`: requests, the texts that they read, and what they answer.
+#![tactic(auto)]
+
+pub mod answer;
+pub mod reading;
+pub mod request;
+pub mod scan;

@@ -1,0 +1,268 @@
+//! Requests, and how they apply to the lines.
+ghost use Rattle.std.specs.Prelude.{◌≡◌, MatchOption, None, Some};
+ghost use Rattle.caldate_answers.specs.Answers.{keeps};
+ghost use Rattle.caldate_answers.specs.Targets.{target_fields, target_name};
+
+use crate::reading::Readers;
+use crate::reading::reader::Assumptions;
+use cal_format::Format;
+use cal_schedule::Workdays;
+use cal_text::{DateForm, DateOrMoment, MomentForm};
+use cal_time::{SignedDuration, UtcOffset, Weekday};
+use cal_zone::{Policy, Zone};
+use caldate_lines::field::Field;
+use caldate_lines::field_name::FieldName;
+use caldate_lines::field_names::FieldNames;
+use caldate_lines::field_numbers::FieldNumbers;
+use caldate_lines::on_invalid::OnInvalid;
+use caldate_lines::several_fields::SeveralFields;
+
+/// A form in which a date or a moment is written.
+#[derive(Clone, Copy)]
+pub enum Form {
+    /// `2024-02-29`, `2024-060`, `2024-W09-4` or `J2460370`.
+    Date(DateForm),
+    /// `Thursday`.
+    Weekday,
+    /// `2024-02-29T00:00:00Z` or `@1709164800`.
+    Moment(MomentForm),
+    /// `Thu`.
+    ShortWeekday,
+    /// `2024-02`.
+    Month,
+    /// `2024-Q1`.
+    Quarter,
+    /// `20240229`.
+    Basic,
+    /// `1709164800000`, here in milliseconds.
+    Unix(UnixUnit),
+}
+
+/// A unit of whole Unix times.
+#[derive(Clone, Copy)]
+pub enum UnixUnit {
+    Milliseconds,
+    Microseconds,
+    Nanoseconds,
+}
+
+/// A unit of time.
+#[derive(Clone, Copy)]
+pub enum TimeUnit {
+    Years,
+    Months,
+    Weeks,
+    Days,
+    /// Monday to Friday, except the holidays.
+    Workdays,
+    Hours,
+    Minutes,
+    Seconds,
+}
+
+/// A period with a first and a last day.
+#[derive(Clone, Copy)]
+pub enum Period {
+    /// Monday to Sunday.
+    Week,
+    Month,
+    Quarter,
+    Year,
+}
+
+/// A move from one day to another.
+#[derive(Clone, Copy)]
+pub enum DayMove {
+    /// `next WEEKDAY N`: the N-th such weekday after the day.
+    Next(Weekday, u8),
+    /// `last WEEKDAY N`: the N-th such weekday before the day.
+    Last(Weekday, u8),
+    /// `on-or-after WEEKDAY`: the first such weekday on or after the day.
+    OnOrAfter(Weekday),
+    /// `on-or-before WEEKDAY`: the last such weekday on or before the day.
+    OnOrBefore(Weekday),
+    /// `add N months`: the same day N months later, or the last day of that month.
+    Months(i64),
+    /// `add N years`: the same day N years later, or 28 February.
+    Years(i64),
+    /// `add N workdays`: the N-th working day after the day.
+    Workdays(i64),
+    /// `start PERIOD`: the first day of the period.
+    Start(Period),
+    /// `end PERIOD`: the last day of the period.
+    End(Period),
+}
+
+/// A move of a date or a moment.
+#[derive(Clone, Copy)]
+pub enum Move {
+    /// To another day, at the same time of day.
+    Day(DayMove),
+    /// `add N days`, `add N weeks`: by the whole days of a duration, at the same time of day.
+    Days(SignedDuration),
+    /// `add N hours`, `add N minutes`, `add N seconds`: by a duration.
+    Add(SignedDuration),
+    /// `start day`, `start hour`, `start minute` or `start N minutes`: the time of day rounded down
+    /// to a multiple of a number of minutes, from 1 to 1440.
+    Floor(u16),
+}
+
+/// A range for dates and moments. A date bound compares local dates, a moment bound instants.
+#[derive(Clone, Copy)]
+pub enum Bounds {
+    /// `from A to B`, including both.
+    FromTo(DateOrMoment, DateOrMoment),
+    /// `after A`, excluding it.
+    After(DateOrMoment),
+    /// `before B`, excluding it.
+    Before(DateOrMoment),
+}
+
+/// A place whose clocks show a moment.
+#[derive(Drop)]
+pub enum Place<'a> {
+    /// One with this offset from UTC.
+    Offset(UtcOffset),
+    /// One in this time zone.
+    Zone(Zone<'a>),
+}
+
+/// The clocks of a zone, which give a local time its moment.
+#[derive(Drop)]
+pub struct Clock<'a> {
+    /// The zone of the clocks.
+    pub zone: Zone<'a>,
+    /// The policy for a local time that the clocks skip or show twice.
+    pub policy: Policy,
+}
+
+/// The date or moment TEXT of `until` and `since`, or where each line has it.
+#[derive(Drop)]
+pub enum Target<'a> {
+    /// `TEXT`.
+    Text(DateOrMoment),
+    /// `field N` or `field N-M`: in these fields of the line.
+    Fields(FieldNumbers),
+    /// `field NAME`: in the field of this name, whose number isn't known yet.
+    Name(FieldName<'a>),
+}
+
+/// A request for each line.
+#[derive(Drop)]
+pub enum Request<'a> {
+    /// `to FORM`: the same date or moment in this form.
+    To(Form),
+    /// `to FORMAT`: the same date or moment in this format.
+    Print(Format),
+    /// The moved date or moment, such as `add N UNIT`.
+    Move(Move),
+    /// `at ZONE` and a move: the moment moved by the clocks of the zone, at the offset of the zone.
+    MoveAt(Clock<'a>, Move),
+    /// `until TEXT [in UNIT]`: the days or the duration to TEXT, or the whole units.
+    Until(Target<'a>, Option<TimeUnit>),
+    /// `since TEXT [in UNIT]`: the days or the duration from TEXT, or the whole units.
+    Since(Target<'a>, Option<TimeUnit>),
+    /// `at OFFSET` or `at ZONE`: the moment at this offset, or at the offset of the zone.
+    At(Place<'a>),
+    /// `keep BOUNDS`: the line itself if it lies within the bounds, otherwise nothing.
+    Keep(Bounds),
+}
+
+impl<'a> Request<'a> {
+    /// Returns whether this is `keep`, which answers with the text itself.
+    pub fn keeps(&self) -> bool
+        ensures { result ≡ keeps self.now }
+    {
+        match self {
+            Request::Keep(_) => true,
+            _ => false,
+        }
+    }
+
+    /// Returns the fields of the line that have TEXT, if their numbers are known.
+    pub fn target_fields(&self) -> Option<FieldNumbers>
+        ensures { result ≡ target_fields self.now }
+    {
+        match self {
+            Request::Until(Target::Fields(numbers), _) => Some(*numbers),
+            Request::Since(Target::Fields(numbers), _) => Some(*numbers),
+            _ => None,
+        }
+    }
+
+    /// Returns the name of the field of the line that has TEXT, if its number isn't known yet.
+    pub fn target_name(&self) -> Option<&[u8]>
+        ensures { MatchOption result (target_name self.now ≡ None)
+            (λ name. target_name self.now ≡ Some name.now) }
+    {
+        match self {
+            Request::Until(Target::Name(name), _) => Some(name.as_bytes()),
+            Request::Since(Target::Name(name), _) => Some(name.as_bytes()),
+            _ => None,
+        }
+    }
+
+    /// Returns whether the field that has TEXT has a name.
+    pub fn names_other(&self) -> bool {
+        match self.target_name() {
+            Some(_) => true,
+            None => false,
+        }
+    }
+
+    /// Returns whether other fields of the line have TEXT.
+    pub fn reads_other(&self) -> bool {
+        match self.target_fields() {
+            Some(_) => true,
+            None => self.names_other(),
+        }
+    }
+
+    /// Returns whether this is `at ZONE` and a move.
+    pub fn moves_at(&self) -> bool {
+        match self {
+            Request::MoveAt(_, _) => true,
+            _ => false,
+        }
+    }
+
+    /// Returns whether this counts working days.
+    pub fn counts_workdays(&self) -> bool {
+        match self {
+            Request::Move(Move::Day(DayMove::Workdays(_))) => true,
+            Request::MoveAt(_, Move::Day(DayMove::Workdays(_))) => true,
+            Request::Until(_, Some(TimeUnit::Workdays)) => true,
+            Request::Since(_, Some(TimeUnit::Workdays)) => true,
+            _ => false,
+        }
+    }
+}
+
+/// A request with its options.
+#[derive(Drop)]
+pub struct Filter<'a> {
+    /// The request for each line.
+    pub request: Request<'a>,
+    /// The working days.
+    pub workdays: Workdays<'a>,
+    /// The forms that a line is read in.
+    pub readers: Readers,
+    /// The parts that a text may leave out.
+    pub assumptions: Assumptions,
+    /// The clocks that a text without an offset is read on instead, if a zone is given.
+    pub clock: Option<Clock<'a>>,
+    /// The mode for a line without an answer.
+    pub on_invalid: OnInvalid,
+    /// The field to answer, or `None` for the whole line.
+    pub field: Option<Field>,
+    /// All fields to answer, which have its separator, if there are several.
+    pub several: SeveralFields,
+    /// `true` if each text in the line that has a form is answered, and not the whole line.
+    pub scans: bool,
+    /// The names of the fields to answer whose numbers aren't known yet.
+    pub names: FieldNames<'a>,
+    /// The name that the header, the first line, gets for a new last field.
+    pub column: Option<FieldName<'a>>,
+    /// How many lines to pass on unchanged at the start.
+    pub skip: u64,
+}

@@ -1,0 +1,3 @@
+pub mod DayLists
+pub mod HolidayLines
+pub mod Joins

@@ -1,0 +1,6 @@
+pub mod ClockWords
+pub mod Files
+pub mod Holidays
+pub mod Lists
+pub mod Words
+pub mod Zones

@@ -1,0 +1,490 @@
+//! The command that the arguments give.
+ghost use Rattle.std.specs.Prelude.{◌+◌, ◌<◌, ◌^◌, ◌≤◌, IfOk};
+ghost use Rattle.caldate_args.specs.Lists.{HasValidStep};
+
+pub mod arguments;
+pub(crate) mod bounds;
+pub mod clock_words;
+pub(crate) mod formats;
+pub(crate) mod listing;
+pub(crate) mod messages;
+pub(crate) mod names;
+pub(crate) mod offset;
+pub(crate) mod options;
+pub(crate) mod spelling;
+pub(crate) mod target;
+pub mod usage_error;
+pub mod usage_message;
+pub mod words;
+
+use crate::args::bounds::bounds_at;
+use crate::args::clock_words::now_in;
+use crate::args::formats::to_of;
+use crate::args::listing::list_of;
+use crate::args::names::{CommandName, MoveVerb, Verb};
+use crate::args::offset::offset_of;
+use crate::args::options::{
+    Options, assumptions_in, conflict_in, field_of, options_of, readers_in, zone_of,
+};
+use crate::args::spelling::{
+    command_of, minutes_of, minutes_word, parse_i64, parse_u8, period_of, start_of, unit_of,
+    verb_of, weekday_of,
+};
+use crate::args::target::target_at;
+use crate::args::usage_error::{Expected, UsageError, usage_error_at};
+use crate::args::words::{cut, ended, ends_at, only_at, word_as, word_at};
+use crate::command::Command;
+use crate::data_files::DataFiles;
+use crate::zones::is_zone_like;
+use cal_datetime::{OffsetDateTime, PlainDateTime};
+use cal_schedule::Workdays;
+use cal_time::{SignedDuration, Weekday};
+use cal_zone::{Policy, Zone};
+use caldate_answers::answer::moves;
+use caldate_answers::request::{Clock, DayMove, Filter, Move, Place, Request, TimeUnit};
+use caldate_lines::field::Field;
+use caldate_lines::field_name::FieldName;
+use caldate_lines::field_names::MAX_FIELDS;
+use caldate_lines::field_numbers::FieldNumbers;
+use caldate_lines::lines::next_line;
+use caldate_lines::on_invalid::OnInvalid;
+use caldate_lines::quoting::Quoting;
+use caldate_lines::several_fields::{RankedField, SeveralFields};
+
+/// Parses arguments with zero bytes between them, or `None` if they are too long.
+pub fn asked_by<'a, D: DataFiles<'a>>(
+    arguments: Option<&'a [u8]>,
+    now: Option<PlainDateTime>,
+    files: &mut D,
+) -> Result<Command<'a>, UsageError<'a>>
+    ensures steps { IfOk result HasValidStep }
+{
+    match arguments {
+        Some(words) => parse_args(words, now, files),
+        None => Err(usage_error_at(0, Expected::Short)),
+    }
+}
+
+/// Parses arguments with zero bytes between them, or returns the first invalid or missing word. In
+/// `add 1 fortnight` the word at index 2 is not a unit. The words `today` and `now` mean the
+/// date-time `now`, which is at UTC.
+pub fn parse_args<'a, D: DataFiles<'a>>(
+    words: &'a [u8],
+    now: Option<PlainDateTime>,
+    files: &mut D,
+) -> Result<Command<'a>, UsageError<'a>>
+    ensures steps { IfOk result HasValidStep }
+{
+    let nothing = usage_error_at(0, Expected::Something);
+    let first = word_at(words, 0).ok_or(nothing)?;
+    if first == b"".as_slice() && ends_at(words, 1) {
+        return Err(nothing);
+    }
+    match command_of(first) {
+        Some(CommandName::List) => list_of(words, &now_in(&None, now), files),
+        Some(CommandName::Date) => once_of(words, now, files),
+        Some(CommandName::Help) => {
+            ended(words, 1, ())?;
+            Ok(Command::Help)
+        }
+        Some(CommandName::Version) => {
+            ended(words, 1, ())?;
+            Ok(Command::Version)
+        }
+        None => Ok(lines_command(filter_at(words, Some(words), 0, now, files)?)),
+    }
+}
+
+/// Parses the text after `--date`, options and a request.
+fn once_of<'a, D: DataFiles<'a>>(
+    words: &'a [u8],
+    now: Option<PlainDateTime>,
+    files: &mut D,
+) -> Result<Command<'a>, UsageError<'a>>
+    ensures steps { IfOk result HasValidStep }
+{
+    let Some(rest) = cut(words).1 else {
+        return Err(usage_error_at(1, Expected::Target));
+    };
+    let (text, rest) = cut(rest);
+    if text == b"".as_slice() {
+        return Err(usage_error_at(1, Expected::Target));
+    }
+    let filter = filter_at(words, rest, 2, now, files)?;
+    if has_more_lines(filter.field, text) {
+        return Err(usage_error_at(1, Expected::Target));
+    }
+    Ok(once_command(filter))
+}
+
+/// Returns whether the text has more than one line, or with `--csv` more than one record.
+fn has_more_lines(field: Option<Field>, text: &[u8]) -> bool {
+    match next_line(field, Quoting::Ready, text) {
+        Some((_line, rest)) => !rest.is_empty(),
+        None => false,
+    }
+}
+
+/// Returns the command for the lines of the input.
+fn lines_command<'a>(filter: Filter<'a>) -> Command<'a>
+    ensures steps { HasValidStep result }
+{
+    match named_field(&filter) {
+        Some(field) => Command::Named(filter, field),
+        None => Command::Lines(filter),
+    }
+}
+
+/// Returns the command for the text after `--date`.
+fn once_command<'a>(filter: Filter<'a>) -> Command<'a>
+    ensures steps { HasValidStep result }
+{
+    match named_field(&filter) {
+        Some(field) => Command::NamedOnce(filter, field),
+        None => Command::Once(filter),
+    }
+}
+
+/// Returns the first field to answer, if any field has a name.
+fn named_field(filter: &Filter<'_>) -> Option<Field> {
+    if filter.names.any() || filter.request.names_other() {
+        filter.field
+    } else {
+        None
+    }
+}
+
+/// Parses options and a request from the word at an index on, where `rest` is.
+fn filter_at<'a, D: DataFiles<'a>>(
+    words: &'a [u8],
+    rest: Option<&'a [u8]>,
+    at: usize,
+    now: Option<PlainDateTime>,
+    files: &mut D,
+) -> Result<Filter<'a>, UsageError<'a>>
+    requires few { at ≤ 2 }
+{
+    let (options, at) = options_of(rest, at, files)?;
+    if let Some(expected) = conflict_in(&options) {
+        return Err(usage_error_at(at, expected));
+    }
+    let now = now_in(&options.zone, now);
+    let request = request_at(words, at, policy_of(options.policy), now, files)?;
+    filter_with(at, options, request)
+}
+
+/// Returns the filter, unless the request and the options conflict.
+fn filter_with<'a>(
+    at: usize,
+    options: Options<'a>,
+    request: Request<'a>,
+) -> Result<Filter<'a>, UsageError<'static>> {
+    if let Some(expected) = conflict_with_request(&options, &request) {
+        return Err(usage_error_at(at, expected));
+    }
+    let filter = filter_of(options, request);
+    if !filter.names.any() && filter.several.overlap() {
+        return Err(usage_error_at(at, Expected::Overlap));
+    }
+    Ok(filter)
+}
+
+/// Returns the requirement of the request that the options don't meet, if there is one.
+fn conflict_with_request(options: &Options<'_>, request: &Request<'_>) -> Option<Expected> {
+    if options.append.is_some() && request.keeps() {
+        Some(Expected::AppendKeep)
+    } else if request.reads_other() && options.fields.is_none() {
+        Some(Expected::OtherField)
+    } else if request.names_other() && !options.header {
+        Some(Expected::Header)
+    } else if options.workdays.is_some() && !request.counts_workdays() {
+        Some(Expected::WorkdaysOnly)
+    } else if options.policy.is_some() && options.zone.is_none() && !request.moves_at() {
+        Some(Expected::ZoneOption)
+    } else {
+        None
+    }
+}
+
+fn filter_of<'a>(options: Options<'a>, request: Request<'a>) -> Filter<'a> {
+    Filter {
+        on_invalid: match options.on_invalid {
+            Some(mode) => mode,
+            None => default_mode(&request, options.fields.is_some() || options.scan),
+        },
+        request,
+        field: field_of(&options),
+        scans: options.scan,
+        skip: skip_in(&options),
+        assumptions: assumptions_in(&options),
+        workdays: options.workdays.unwrap_or(moves::workdays()),
+        names: options.names,
+        several: several_of(options.fields, options.more),
+        column: column_of(options.header, options.append),
+        readers: readers_in(options.readers),
+        clock: clock_of(options.zone, policy_of(options.policy)),
+    }
+}
+
+/// Returns all fields from the left, if there are several.
+fn several_of(first: Option<FieldNumbers>, more: SeveralFields) -> SeveralFields {
+    let mut several = more;
+    let count = several.as_slice().len();
+    if let Some(numbers) = first {
+        if count > 0 && count < MAX_FIELDS {
+            several.insert(RankedField { numbers, rank: 0 });
+        }
+    }
+    several
+}
+
+/// Returns the name of a new field in the header, if there is one.
+fn column_of<'a>(header: bool, name: Option<FieldName<'a>>) -> Option<FieldName<'a>> {
+    if !header {
+        return None;
+    }
+    name
+}
+
+/// Returns the policy of `--ambiguous`. The default is `compatible`.
+fn policy_of(given: Option<Policy>) -> Policy {
+    given.unwrap_or(Policy::Compatible)
+}
+
+/// Returns the clocks of the zone.
+fn clock_of<'a>(zone: Option<Zone<'a>>, policy: Policy) -> Option<Clock<'a>> {
+    Some(Clock {
+        zone: zone?,
+        policy,
+    })
+}
+
+/// Returns how many lines are passed on at the start. A header is the first of them.
+fn skip_in(options: &Options<'_>) -> u64 {
+    let skip = options.skip.unwrap_or(0);
+    if options.header && skip == 0 { 1 } else { skip }
+}
+
+/// Returns what is written for a line without an answer if no option says it. `part` is `true` if
+/// only a part of a line is answered.
+fn default_mode(request: &Request<'_>, part: bool) -> OnInvalid {
+    match (request, part) {
+        (Request::Keep(_), _) => OnInvalid::Drop,
+        (_, true) => OnInvalid::Keep,
+        (_, false) => OnInvalid::Answer,
+    }
+}
+
+/// Parses the request whose verb has this index.
+fn request_at<'a, D: DataFiles<'a>>(
+    words: &'a [u8],
+    at: usize,
+    policy: Policy,
+    now: Option<OffsetDateTime>,
+    files: &mut D,
+) -> Result<Request<'a>, UsageError<'a>>
+    requires { at + 5 < 2 ^ 64 }
+{
+    let verb = word_as(words, at, verb_of, expected_verb(at))?;
+    let at = at + 1;
+    match verb {
+        Verb::To => to_at(words, at),
+        Verb::Move(verb) => Ok(Request::Move(move_of(verb, words, at)?)),
+        Verb::Until => {
+            let (target, unit) = target_at(words, at, now)?;
+            Ok(Request::Until(target, unit))
+        }
+        Verb::Since => {
+            let (target, unit) = target_at(words, at, now)?;
+            Ok(Request::Since(target, unit))
+        }
+        Verb::At => at_place(words, at, policy, files),
+        Verb::Keep => Ok(Request::Keep(bounds_at(words, at, now)?)),
+    }
+}
+
+/// Parses the arguments of a move.
+fn move_of(verb: MoveVerb, words: &[u8], at: usize) -> Result<Move, UsageError<'static>>
+    requires { at + 2 < 2 ^ 64 }
+{
+    match verb {
+        MoveVerb::Add => amount_at(words, at),
+        MoveVerb::Next => {
+            let (weekday, count) = occurrence_at(words, at)?;
+            Ok(Move::Day(DayMove::Next(weekday, count)))
+        }
+        MoveVerb::Last => {
+            let (weekday, count) = occurrence_at(words, at)?;
+            Ok(Move::Day(DayMove::Last(weekday, count)))
+        }
+        MoveVerb::Start => start_at(words, at),
+        MoveVerb::End => end_at(words, at),
+        MoveVerb::OnOrAfter => Ok(Move::Day(DayMove::OnOrAfter(weekday_at(words, at)?))),
+        MoveVerb::OnOrBefore => Ok(Move::Day(DayMove::OnOrBefore(weekday_at(words, at)?))),
+    }
+}
+
+/// Parses `WEEKDAY`.
+fn weekday_at(words: &[u8], at: usize) -> Result<Weekday, UsageError<'static>>
+    requires { at + 1 < 2 ^ 64 }
+{
+    only_at(words, at, weekday_of, Expected::Weekday)
+}
+
+/// Parses `FORM` or `FORMAT`.
+fn to_at(words: &[u8], at: usize) -> Result<Request<'static>, UsageError<'static>>
+    requires { at + 1 < 2 ^ 64 }
+{
+    let usage_error = usage_error_at(at, Expected::Form);
+    let word = word_at(words, at).ok_or(usage_error)?;
+    let request = to_of(word).ok_or(usage_error)?;
+    ended(words, at + 1, request)
+}
+
+/// Parses `PERIOD`, `day`, `hour`, `minute` or `N minutes`.
+fn start_at(words: &[u8], at: usize) -> Result<Move, UsageError<'static>>
+    requires { at + 2 < 2 ^ 64 }
+{
+    match word_at(words, at).and_then(minutes_of) {
+        Some(minutes) => floor_at(words, at + 1, minutes),
+        None => only_at(words, at, start_of, Expected::StartPeriod),
+    }
+}
+
+fn floor_at(words: &[u8], at: usize, minutes: u16) -> Result<Move, UsageError<'static>>
+    requires { at + 1 < 2 ^ 64 }
+{
+    only_at(words, at, minutes_word, Expected::Minutes)?;
+    Ok(Move::Floor(minutes))
+}
+
+/// Parses `PERIOD`.
+fn end_at(words: &[u8], at: usize) -> Result<Move, UsageError<'static>>
+    requires { at + 1 < 2 ^ 64 }
+{
+    let period = only_at(words, at, period_of, Expected::Period)?;
+    Ok(Move::Day(DayMove::End(period)))
+}
+
+/// Parses `OFFSET`, `ZONE`, or `ZONE` and a move.
+fn at_place<'a, D: DataFiles<'a>>(
+    words: &'a [u8],
+    at: usize,
+    policy: Policy,
+    files: &mut D,
+) -> Result<Request<'a>, UsageError<'a>>
+    requires { at + 4 < 2 ^ 64 }
+{
+    if !names_zone(words, at) {
+        let offset = only_at(words, at, offset_of, Expected::Place)?;
+        return Ok(Request::At(Place::Offset(offset)));
+    }
+    let zone = first_zone_at(words, at, files)?;
+    match word_at(words, at + 1).and_then(verb_of) {
+        Some(Verb::Move(verb)) => {
+            let by = move_of(verb, words, at + 2)?;
+            Ok(Request::MoveAt(Clock { zone, policy }, by))
+        }
+        _ => ended(words, at + 1, Request::At(Place::Zone(zone))),
+    }
+}
+
+/// Returns whether the word is read as the name of a zone.
+fn names_zone(words: &[u8], at: usize) -> bool {
+    match word_at(words, at) {
+        Some(word) => is_zone_like(word),
+        None => false,
+    }
+}
+
+/// Parses `ZONE`, the last word.
+pub(crate) fn zone_at<'a, D: DataFiles<'a>>(
+    words: &'a [u8],
+    at: usize,
+    files: &mut D,
+) -> Result<Zone<'a>, UsageError<'a>>
+    requires { at + 1 < 2 ^ 64 }
+{
+    let zone = first_zone_at(words, at, files)?;
+    ended(words, at + 1, zone)
+}
+
+/// Parses `ZONE`, after which words may follow.
+fn first_zone_at<'a, D: DataFiles<'a>>(
+    words: &'a [u8],
+    at: usize,
+    files: &mut D,
+) -> Result<Zone<'a>, UsageError<'a>> {
+    let usage_error = usage_error_at(at, Expected::Zone);
+    let name = word_at(words, at).ok_or(usage_error)?;
+    zone_of(name, usage_error, files)
+}
+
+/// Returns the word expected for the verb. At index 0, options such as `--help` are allowed too.
+fn expected_verb(at: usize) -> Expected {
+    if at == 0 {
+        Expected::Start
+    } else {
+        Expected::Verb
+    }
+}
+
+/// Parses `N` or `N UNIT`. The default unit is days.
+fn amount_at(words: &[u8], at: usize) -> Result<Move, UsageError<'static>>
+    requires { at + 2 < 2 ^ 64 }
+{
+    let number = word_as(words, at, parse_i64, Expected::Number)?;
+    let unit = unit_at(words, at + 1)?;
+    match amount_of(number, unit) {
+        Some(by) => Ok(by),
+        None => Err(usage_error_at(at, Expected::Amount)),
+    }
+}
+
+/// Parses the last word as a unit. The default is days.
+fn unit_at(words: &[u8], at: usize) -> Result<TimeUnit, UsageError<'static>>
+    requires { at + 1 < 2 ^ 64 }
+{
+    if ends_at(words, at) {
+        return Ok(TimeUnit::Days);
+    }
+    only_at(words, at, unit_of, Expected::UnitOfTime)
+}
+
+/// Returns the move by `number` units, or `None` if a duration can't hold them.
+fn amount_of(number: i64, unit: TimeUnit) -> Option<Move> {
+    match unit {
+        TimeUnit::Years => Some(Move::Day(DayMove::Years(number))),
+        TimeUnit::Months => Some(Move::Day(DayMove::Months(number))),
+        TimeUnit::Workdays => Some(Move::Day(DayMove::Workdays(number))),
+        TimeUnit::Weeks => Some(Move::Days(duration_of(number, 604_800)?)),
+        TimeUnit::Days => Some(Move::Days(duration_of(number, 86_400)?)),
+        TimeUnit::Hours => Some(Move::Add(duration_of(number, 3_600)?)),
+        TimeUnit::Minutes => Some(Move::Add(duration_of(number, 60)?)),
+        TimeUnit::Seconds => Some(Move::Add(duration_of(number, 1)?)),
+    }
+}
+
+/// Returns the duration of `number` units of `unit` seconds each.
+fn duration_of(number: i64, unit: u32) -> Option<SignedDuration> {
+    let seconds = number.checked_mul(i64::from(unit))?;
+    Some(SignedDuration::seconds(seconds))
+}
+
+/// Parses `WEEKDAY` or `WEEKDAY N`.
+fn occurrence_at(words: &[u8], at: usize) -> Result<(Weekday, u8), UsageError<'static>>
+    requires { at + 2 < 2 ^ 64 }
+{
+    let weekday = word_as(words, at, weekday_of, Expected::Weekday)?;
+    Ok((weekday, count_at(words, at + 1)?))
+}
+
+/// Parses the last word as a count. The default is 1.
+fn count_at(words: &[u8], at: usize) -> Result<u8, UsageError<'static>>
+    requires { at + 1 < 2 ^ 64 }
+{
+    if ends_at(words, at) {
+        return Ok(1);
+    }
+    only_at(words, at, parse_u8, Expected::Count)
+}

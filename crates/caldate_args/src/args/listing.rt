@@ -1,0 +1,175 @@
+//! The arguments of `list`.
+ghost use Rattle.std.specs.Prelude.{◌≤◌, IfOk, IfSome};
+ghost use Rattle.caldate_args.specs.Lists.{HasValidStep, IsStep};
+
+use crate::args::spelling::{parse_u32, unit_of};
+use crate::args::usage_error::{Expected, UsageError, usage_error_at};
+use crate::args::words::{ends_at, found_at, keyword_at, word_as, word_at};
+use crate::args::zone_at;
+use crate::command::{Command, Listing, Occurrences, Span, Step, StepUnit};
+use crate::data_files::DataFiles;
+use cal_datetime::OffsetDateTime;
+use cal_recurrence::{Recurrence, parse};
+use cal_text::DateOrMoment;
+use cal_time::Date;
+use caldate_answers::request::TimeUnit;
+use caldate_lines::lines::index_of;
+
+/// Parses `list from A to B`, `list from A to B by N UNIT` or `list from A to B by RULE`, perhaps
+/// with `at ZONE`.
+pub fn list_of<'a, D: DataFiles<'a>>(
+    words: &'a [u8],
+    now: &Option<OffsetDateTime>,
+    files: &mut D,
+) -> Result<Command<'a>, UsageError<'a>>
+    ensures steps { IfOk result HasValidStep }
+{
+    keyword_at(words, 1, b"from", Expected::From)?;
+    if is_rule_like(words) {
+        return Ok(Command::Recurring(occurrences_of(words, now, files)?));
+    }
+    let first = date_at(words, 2, now)?;
+    keyword_at(words, 3, b"to", Expected::UpTo)?;
+    let last = date_at(words, 4, now)?;
+    let step = step_of(words)?;
+    Ok(Command::Dates(Listing { first, last, step }))
+}
+
+/// Parses `A to B by RULE`, where A and B are two dates or two moments, perhaps with `at ZONE`.
+fn occurrences_of<'a, D: DataFiles<'a>>(
+    words: &'a [u8],
+    now: &Option<OffsetDateTime>,
+    files: &mut D,
+) -> Result<Occurrences<'a>, UsageError<'a>> {
+    let first = found_at(words, 2, Expected::Target, *now)?;
+    keyword_at(words, 3, b"to", Expected::UpTo)?;
+    let span = span_from(words, &first, now)?;
+    keyword_at(words, 5, b"by", Expected::By)?;
+    let recurrence = word_as(words, 6, rule_of, Expected::Rule)?;
+    let span = span_at(words, span, files)?;
+    Ok(Occurrences { span, recurrence })
+}
+
+/// Parses `at ZONE` after two moments and RULE, or the end of the words.
+fn span_at<'a, D: DataFiles<'a>>(
+    words: &'a [u8],
+    span: Span<'a>,
+    files: &mut D,
+) -> Result<Span<'a>, UsageError<'a>> {
+    if ends_at(words, 7) {
+        return Ok(span);
+    }
+    keyword_at(words, 7, b"at", Expected::End)?;
+    let Span::Moments(first, last) = span else {
+        return Err(usage_error_at(7, Expected::TwoMoments));
+    };
+    let zone = zone_at(words, 8, files)?;
+    Ok(Span::InZone(zone, first, last))
+}
+
+/// Parses B, a date if A is one, else a moment.
+fn span_from(
+    words: &[u8],
+    first: &DateOrMoment,
+    now: &Option<OffsetDateTime>,
+) -> Result<Span<'static>, UsageError<'static>> {
+    match first {
+        DateOrMoment::Date(_, date) => Ok(Span::Dates(*date, date_at(words, 4, now)?)),
+        DateOrMoment::Moment(_, moment) => Ok(Span::Moments(*moment, moment_at(words, 4, now)?)),
+    }
+}
+
+/// Parses the word at an index as a date.
+fn date_at(
+    words: &[u8],
+    at: usize,
+    now: &Option<OffsetDateTime>,
+) -> Result<Date, UsageError<'static>> {
+    let found = found_at(words, at, Expected::Date, *now)?;
+    date_in(&found).ok_or(usage_error_at(at, Expected::Date))
+}
+
+fn date_in(found: &DateOrMoment) -> Option<Date> {
+    match found {
+        DateOrMoment::Date(_, date) => Some(*date),
+        DateOrMoment::Moment(_, _) => None,
+    }
+}
+
+/// Parses the word at an index as a moment.
+fn moment_at(
+    words: &[u8],
+    at: usize,
+    now: &Option<OffsetDateTime>,
+) -> Result<OffsetDateTime, UsageError<'static>> {
+    let found = found_at(words, at, Expected::Moment, *now)?;
+    moment_in(&found).ok_or(usage_error_at(at, Expected::Moment))
+}
+
+fn moment_in(found: &DateOrMoment) -> Option<OffsetDateTime> {
+    match found {
+        DateOrMoment::Date(_, _) => None,
+        DateOrMoment::Moment(_, moment) => Some(*moment),
+    }
+}
+
+const EVERY_DAY: Step = Step {
+    every: 1,
+    unit: StepUnit::Days,
+};
+
+/// Parses `by N UNIT` after the two dates. The default is every day.
+fn step_of(words: &[u8]) -> Result<Step, UsageError<'static>>
+    ensures steps { IfOk result IsStep }
+{
+    if ends_at(words, 5) {
+        return Ok(EVERY_DAY);
+    }
+    keyword_at(words, 5, b"by", Expected::By)?;
+    let number = number_at(words, 6)?;
+    let unit = word_as(words, 7, unit_of, Expected::UnitOfDays)?;
+    let Some(step) = step_in(number, unit) else {
+        return Err(usage_error_at(7, Expected::UnitOfDays));
+    };
+    if !ends_at(words, 8) {
+        return Err(usage_error_at(8, Expected::End));
+    }
+    Ok(step)
+}
+
+/// Parses the word at an index as a number from 1 to 4294967295.
+fn number_at(words: &[u8], at: usize) -> Result<u32, UsageError<'static>>
+    ensures { IfOk result (λ number. 1 ≤ number) }
+{
+    match word_at(words, at) {
+        Some(word) => parse_u32(word).ok_or(usage_error_at(at, Expected::Many)),
+        None => Err(usage_error_at(at, Expected::Many)),
+    }
+}
+
+/// Returns whether word 6 contains a `=`, as every recurrence does and no number does.
+fn is_rule_like(words: &[u8]) -> bool {
+    match word_at(words, 6) {
+        Some(word) => index_of(b'=', word).is_some(),
+        None => false,
+    }
+}
+
+fn rule_of(text: &[u8]) -> Option<Recurrence> {
+    parse(text).ok()
+}
+
+/// Returns a step of `number` days, weeks, months or years, or `None` for any other unit.
+fn step_in(number: u32, unit: TimeUnit) -> Option<Step>
+    ensures steps { 1 ≤ number → IfSome result IsStep }
+{
+    let number = u64::from(number);
+    let (every, unit) = match unit {
+        TimeUnit::Days => (number, StepUnit::Days),
+        TimeUnit::Weeks => (number * 7, StepUnit::Days),
+        TimeUnit::Months => (number, StepUnit::Months),
+        TimeUnit::Years => (number * 12, StepUnit::Months),
+        _ => return None,
+    };
+    Some(Step { every, unit })
+}

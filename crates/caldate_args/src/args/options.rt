@@ -1,0 +1,553 @@
+//! The options before a request.
+ghost use Rattle.std.specs.Prelude.{◌+◌, ◌≤◌, ◌^◌, IfOk};
+
+use crate::args::formats::reader_of;
+use crate::args::names::{MODES, OPTIONS, OptionName, POLICIES, value_named};
+use crate::args::offset::offset_of;
+use crate::args::spelling::parse_i64;
+use crate::args::usage_error::{Expected, UsageError, usage_error_at};
+use crate::args::words::cut;
+use crate::data_files::DataFiles;
+use cal_schedule::Workdays;
+use cal_time::UtcOffset;
+use cal_zone::{Policy, Zone};
+use caldate_answers::answer::moves::workdays_except;
+use caldate_answers::reading::reader::{Assumptions, Reader};
+use caldate_answers::reading::spelling::Spelling;
+use caldate_answers::reading::value_format::ValueFormat;
+use caldate_answers::reading::{Readers, Reading};
+use caldate_lines::field::Field;
+use caldate_lines::field_name::FieldName;
+use caldate_lines::field_names::{FieldNames, MAX_FIELDS};
+use caldate_lines::field_numbers::FieldNumbers;
+use caldate_lines::lines::index_of;
+use caldate_lines::on_invalid::OnInvalid;
+use caldate_lines::several_fields::{RankedField, SeveralFields};
+
+/// A set of options before a request.
+#[derive(Drop)]
+pub struct Options<'a> {
+    /// The mode of `--invalid MODE`.
+    pub on_invalid: Option<OnInvalid>,
+    /// The numbers of the first `--field N` or `--field N-M`, or the number 1 for `--field NAME`.
+    pub fields: Option<FieldNumbers>,
+    /// The same for each other `--field`.
+    pub more: SeveralFields,
+    /// The names of `--field NAME`.
+    pub names: FieldNames<'a>,
+    /// The name of `--append NAME`.
+    pub append: Option<FieldName<'a>>,
+    /// `true` if `--header` is given.
+    pub header: bool,
+    /// `true` if `--csv` is given.
+    pub csv: bool,
+    /// `true` if `--scan` is given.
+    pub scan: bool,
+    /// The byte C of `--separator C`.
+    pub separator: Option<u8>,
+    /// The number K of `--skip K`.
+    pub skip: Option<u64>,
+    /// The forms of `--read FORM`.
+    pub readers: Readers,
+    /// The offset of `--assume OFFSET`.
+    pub offset: Option<UtcOffset>,
+    /// The four digits of `--assume-year YEAR`.
+    pub year: Option<[u8; 4]>,
+    /// The zone of `--zone NAME`.
+    pub zone: Option<Zone<'a>>,
+    /// The policy of `--ambiguous POLICY`.
+    pub policy: Option<Policy>,
+    /// The working days of `--holidays FILE`.
+    pub workdays: Option<Workdays<'a>>,
+}
+
+/// Returns the options if the arguments have none.
+fn no_options() -> Options<'static> {
+    Options {
+        on_invalid: None,
+        fields: None,
+        more: SeveralFields::new(),
+        names: FieldNames::new(),
+        append: None,
+        header: false,
+        csv: false,
+        scan: false,
+        separator: None,
+        skip: None,
+        readers: Readers::new(),
+        offset: None,
+        year: None,
+        zone: None,
+        policy: None,
+        workdays: None,
+    }
+}
+
+/// A result of parsing one more word: the options so far.
+#[derive(Drop)]
+pub enum OptionsAfter<'a> {
+    /// The word is part of the options. The next word is the value of an option, if one is given.
+    Continued(Options<'a>, Option<OptionName>),
+    /// The word is not an option.
+    Ended(Options<'a>),
+}
+
+/// Parses the options from the word at an index on, and returns them with the index of the word
+/// after them.
+pub fn options_of<'a, D: DataFiles<'a>>(
+    words: Option<&'a [u8]>,
+    at: usize,
+    files: &mut D,
+) -> Result<(Options<'a>, usize), UsageError<'a>>
+    requires { at ≤ 2 }
+    ensures within { IfOk result (λ front. front.1 ≤ 2 ^ 63 + 2) }
+{
+    let mut options = no_options();
+    let mut given = None;
+    let mut index = at;
+    let mut left = words;
+    while let Some(some) = left {
+        let (word, rest) = cut(some);
+        match parse_word(options, given, word, index, files)? {
+            OptionsAfter::Continued(more, option) => {
+                options = more;
+                given = option;
+            }
+            OptionsAfter::Ended(all) => return Ok((all, index)),
+        }
+        left = rest;
+        index += 1;
+    }
+    match given {
+        Some(option) => Err(usage_error_at(index, expected_value(option))),
+        None => Ok((options, index)),
+    }
+}
+
+/// Parses one more word, which has this index: an option, or if `given` is an option, its value.
+fn parse_word<'a, D: DataFiles<'a>>(
+    options: Options<'a>,
+    given: Option<OptionName>,
+    word: &'a [u8],
+    index: usize,
+    files: &mut D,
+) -> Result<OptionsAfter<'a>, UsageError<'a>> {
+    if let Some(option) = given {
+        return after_value(options, option, word, index, files);
+    }
+    let (name, value) = cut_value(word);
+    let Some(option) = option_in(&options, name) else {
+        return Ok(OptionsAfter::Ended(options));
+    };
+    match (takes_value(option), is_joined(word)) {
+        (true, false) => Ok(OptionsAfter::Continued(options, Some(option))),
+        (false, true) => Ok(OptionsAfter::Ended(options)),
+        _ => after_value(options, option, value, index, files),
+    }
+}
+
+/// Returns the options after the value of one more option.
+fn after_value<'a, D: DataFiles<'a>>(
+    options: Options<'a>,
+    option: OptionName,
+    value: &'a [u8],
+    index: usize,
+    files: &mut D,
+) -> Result<OptionsAfter<'a>, UsageError<'a>> {
+    let invalid = usage_error_at(index, expected_value(option));
+    let more = with_value(options, option, value, invalid, files)?;
+    Ok(OptionsAfter::Continued(more, None))
+}
+
+/// Returns whether the word contains a `=`.
+fn is_joined(word: &[u8]) -> bool {
+    index_of(b'=', word).is_some()
+}
+
+/// Splits `NAME=VALUE` into the name of an option and its value, which is empty without a `=`.
+pub fn cut_value(word: &[u8]) -> (&[u8], &[u8]) {
+    match index_of(b'=', word) {
+        Some(at) => (&word[..at], &word[at + 1..]),
+        None => (word, b""),
+    }
+}
+
+/// Returns the option that the word names, unless it can't be given again.
+fn option_in(options: &Options<'_>, word: &[u8]) -> Option<OptionName> {
+    let option = option_of(word)?;
+    if has_room_for(options, option) {
+        Some(option)
+    } else {
+        None
+    }
+}
+
+fn option_of(word: &[u8]) -> Option<OptionName> {
+    value_named(word, &OPTIONS)
+}
+
+/// Returns whether the option can be given: `--field` and `--read` up to four times, and any other
+/// once.
+fn has_room_for(options: &Options<'_>, option: OptionName) -> bool {
+    match option {
+        OptionName::Invalid => options.on_invalid.is_none(),
+        OptionName::Field => options.fields.is_none()
+            || options.more.as_slice().len() + 1 < MAX_FIELDS,
+        OptionName::Append => options.append.is_none(),
+        OptionName::Csv => !options.csv,
+        OptionName::Header => !options.header,
+        OptionName::Scan => !options.scan,
+        OptionName::Separator => options.separator.is_none(),
+        OptionName::Skip => options.skip.is_none(),
+        OptionName::Read => options.readers.as_slice().len() < 4,
+        OptionName::Assume => options.offset.is_none(),
+        OptionName::AssumeYear => options.year.is_none(),
+        OptionName::Zone => options.zone.is_none(),
+        OptionName::Ambiguous => options.policy.is_none(),
+        OptionName::Holidays => options.workdays.is_none(),
+    }
+}
+
+/// Returns whether the option takes a value.
+fn takes_value(option: OptionName) -> bool {
+    match option {
+        OptionName::Csv | OptionName::Header | OptionName::Scan => false,
+        _ => true,
+    }
+}
+
+/// Returns the value that the option takes.
+fn expected_value(option: OptionName) -> Expected {
+    match option {
+        OptionName::Invalid => Expected::Invalid,
+        OptionName::Field => Expected::FieldNumber,
+        OptionName::Append => Expected::Column,
+        OptionName::Csv | OptionName::Header | OptionName::Scan => Expected::End,
+        OptionName::Separator => Expected::Separator,
+        OptionName::Skip => Expected::Skip,
+        OptionName::Read => Expected::Reading,
+        OptionName::Assume => Expected::Offset,
+        OptionName::AssumeYear => Expected::Year,
+        OptionName::Zone => Expected::Zone,
+        OptionName::Ambiguous => Expected::Policy,
+        OptionName::Holidays => Expected::Holidays,
+    }
+}
+
+/// Returns whether the word is an option that other options may precede, such as `--field`, and
+/// not `--help`.
+pub fn is_option(word: &[u8]) -> bool {
+    match option_of(cut_value(word).0) {
+        Some(option) => takes_value(option) || !is_joined(word),
+        None => false,
+    }
+}
+
+/// Sets the option, or returns the error if the value is invalid. An option without a value ignores
+/// it.
+fn with_value<'a, D: DataFiles<'a>>(
+    options: Options<'a>,
+    option: OptionName,
+    value: &'a [u8],
+    invalid: UsageError<'a>,
+    files: &mut D,
+) -> Result<Options<'a>, UsageError<'a>> {
+    let mut more = options;
+    match option {
+        OptionName::Invalid => more.on_invalid = Some(value_named(value, &MODES).ok_or(invalid)?),
+        OptionName::Field => return with_named(more, value).ok_or(invalid),
+        OptionName::Append => more.append = Some(FieldName::new(value)),
+        OptionName::Csv => more.csv = true,
+        OptionName::Header => more.header = true,
+        OptionName::Scan => more.scan = true,
+        OptionName::Separator => more.separator = Some(byte_of(value).ok_or(invalid)?),
+        OptionName::Skip => more.skip = Some(skip_of(value).ok_or(invalid)?),
+        OptionName::Read => return with_reader(more, value).ok_or(invalid),
+        OptionName::Assume => more.offset = Some(offset_of(value).ok_or(invalid)?),
+        OptionName::AssumeYear => more.year = Some(year_of(value).ok_or(invalid)?),
+        OptionName::Zone => more.zone = Some(zone_of(value, invalid, files)?),
+        OptionName::Ambiguous => more.policy = Some(value_named(value, &POLICIES).ok_or(invalid)?),
+        OptionName::Holidays => more.workdays = Some(workdays_of(value, invalid, files)?),
+    }
+    Ok(more)
+}
+
+/// Returns the zone with this name, or the error with the reason why it has none.
+pub fn zone_of<'a, D: DataFiles<'a>>(
+    name: &'a [u8],
+    invalid: UsageError<'a>,
+    files: &mut D,
+) -> Result<Zone<'a>, UsageError<'a>> {
+    match files.zone(name) {
+        Ok(zone) => Ok(zone),
+        Err(error) => Err(invalid.because(error)),
+    }
+}
+
+/// Returns Monday to Friday without the holidays in the file with this name, or the error with the
+/// reason why it has none.
+fn workdays_of<'a, D: DataFiles<'a>>(
+    name: &[u8],
+    invalid: UsageError<'a>,
+    files: &mut D,
+) -> Result<Workdays<'a>, UsageError<'a>> {
+    match files.holidays(name) {
+        Ok(days) => Ok(workdays_except(days)),
+        Err(error) => Err(invalid.because(error)),
+    }
+}
+
+/// Adds a field and its name, or returns `None` if the value is invalid or four fields are given.
+fn with_named<'a>(options: Options<'a>, value: &'a [u8]) -> Option<Options<'a>> {
+    let field = field_in(value)?;
+    let name = name_in(value);
+    let mut more = options;
+    if more.fields.is_none() {
+        more.fields = Some(field);
+        more.names.set(0, name);
+        return Some(more);
+    }
+    let index = more.more.as_slice().len() + 1;
+    if index >= MAX_FIELDS {
+        return None;
+    }
+    more.more.insert(RankedField {
+        numbers: field,
+        rank: index as u8,
+    });
+    more.names.set(index, name);
+    Some(more)
+}
+
+/// Returns the name of a field, if the value is one.
+fn name_in(value: &[u8]) -> Option<FieldName<'_>> {
+    if is_name(value) {
+        Some(FieldName::new(value))
+    } else {
+        None
+    }
+}
+
+/// Parses the numbers of fields. A name has the number 1 until the header gives its own.
+fn field_in(value: &[u8]) -> Option<FieldNumbers> {
+    if is_name(value) {
+        Some(FieldNumbers {
+            first: 1,
+            joined: 0,
+        })
+    } else {
+        field_numbers_of(value)
+    }
+}
+
+/// Returns whether the word is read as a name of a field, and not as numbers.
+pub fn is_name(word: &[u8]) -> bool {
+    match word {
+        [first, ..] => !first.is_ascii_digit() && *first != b'+' && *first != b'-',
+        [] => false,
+    }
+}
+
+/// Parses `N` or `N-M`, of which M is not less than N.
+pub fn field_numbers_of(word: &[u8]) -> Option<FieldNumbers> {
+    match index_of(b'-', word) {
+        Some(at) => {
+            let first = field_number_of(&word[..at])?;
+            fields_from(first, field_number_of(&word[at + 1..])?)
+        }
+        None => Some(FieldNumbers {
+            first: field_number_of(word)?,
+            joined: 0,
+        }),
+    }
+}
+
+/// Returns the numbers from one to the other, if there are any.
+fn fields_from(first: u16, last: u16) -> Option<FieldNumbers> {
+    if last < first {
+        return None;
+    }
+    Some(FieldNumbers {
+        first,
+        joined: last - first,
+    })
+}
+
+/// Parses a number from 1 to 65535.
+fn field_number_of(word: &[u8]) -> Option<u16> {
+    let number = parse_i64(word)?;
+    if number < 1 || number > 65_535 {
+        return None;
+    }
+    Some(number as u16)
+}
+
+fn byte_of(word: &[u8]) -> Option<u8> {
+    match word {
+        [byte] => Some(*byte),
+        _ => None,
+    }
+}
+
+/// Parses a number from 0 to 9223372036854775807.
+fn skip_of(word: &[u8]) -> Option<u64> {
+    let number = parse_i64(word)?;
+    if number < 0 {
+        return None;
+    }
+    Some(number as u64)
+}
+
+/// Parses a year of four digits.
+fn year_of(word: &[u8]) -> Option<[u8; 4]> {
+    if word.len() != 4 || !word[0].is_ascii_digit() || !word[1].is_ascii_digit() {
+        return None;
+    }
+    if !word[2].is_ascii_digit() || !word[3].is_ascii_digit() {
+        return None;
+    }
+    Some([word[0], word[1], word[2], word[3]])
+}
+
+/// Returns the fields that the options select. The default separator is a tab, or a comma in CSV.
+pub fn field_of(options: &Options<'_>) -> Option<Field> {
+    let numbers = options.fields?;
+    Some(Field {
+        first: numbers.first,
+        joined: numbers.joined,
+        separator: match options.separator {
+            Some(separator) => separator,
+            None if options.csv => b',',
+            None => b'\t',
+        },
+        csv: options.csv,
+        appends: options.append.is_some(),
+    })
+}
+
+/// Adds a form of `--read`, or returns `None` if the value is invalid or four are given.
+fn with_reader<'a>(options: Options<'a>, value: &[u8]) -> Option<Options<'a>> {
+    let reader = reader_of(value)?;
+    let mut more = options;
+    if more.readers.try_push(reader) {
+        Some(more)
+    } else {
+        None
+    }
+}
+
+/// Returns the forms that lines are read in. The default is the six forms, and then ISO 8601.
+pub fn readers_in(readers: Readers) -> Readers {
+    if readers.as_slice().len() > 0 {
+        return readers;
+    }
+    let mut default = Readers::new();
+    default.try_push(Reader::Named(Reading::Any));
+    default.try_push(Reader::Spelled(Spelling::Iso));
+    default
+}
+
+/// Returns the parts that a text may leave out. The default is UTC, and a year that no form needs.
+pub fn assumptions_in(options: &Options<'_>) -> Assumptions {
+    Assumptions {
+        offset: options.offset.unwrap_or(UtcOffset::UTC),
+        year: options.year.unwrap_or(*b"0000"),
+    }
+}
+
+/// Returns whether a form has no year.
+fn any_yearless(readers: &[Reader]) -> bool {
+    readers.iter().any(|reader| is_yearless(reader))
+}
+
+fn is_yearless(reader: &Reader) -> bool {
+    match reader {
+        Reader::Yearless(_) => true,
+        _ => false,
+    }
+}
+
+/// Returns whether a form has no offset.
+fn any_local(readers: &[Reader]) -> bool {
+    readers.iter().any(|reader| is_local(reader))
+}
+
+fn is_local(reader: &Reader) -> bool {
+    match reader {
+        Reader::Local => true,
+        Reader::Format(ValueFormat::DateTimes(_)) => true,
+        Reader::Yearless(ValueFormat::DateTimes(_)) => true,
+        _ => false,
+    }
+}
+
+/// Returns whether a form has an offset of its own.
+fn any_own(readers: &[Reader]) -> bool {
+    readers.iter().any(|reader| has_own(reader))
+}
+
+fn has_own(reader: &Reader) -> bool {
+    match reader {
+        Reader::Named(Reading::Any | Reading::Unix(_)) => true,
+        Reader::Spelled(_) => true,
+        Reader::Format(ValueFormat::Moments(_)) => true,
+        Reader::Yearless(ValueFormat::Moments(_)) => true,
+        _ => false,
+    }
+}
+
+/// Returns the option that is missing or excluded, if the others need or exclude it.
+pub fn conflict_in(options: &Options<'_>) -> Option<Expected> {
+    if options.scan && options.fields.is_some() {
+        Some(Expected::ScanField)
+    } else if options.scan && options.csv {
+        Some(Expected::ScanCsv)
+    } else if options.scan && options.append.is_some() {
+        Some(Expected::ScanAppend)
+    } else if options.scan && options.separator.is_some() {
+        Some(Expected::ScanSeparator)
+    } else if options.separator.is_some() && options.fields.is_none() {
+        Some(Expected::Field)
+    } else if options.csv && options.fields.is_none() {
+        Some(Expected::CsvField)
+    } else if options.append.is_some() && options.fields.is_none() {
+        Some(Expected::AppendField)
+    } else if options.append.is_some() && options.more.as_slice().len() > 0 {
+        Some(Expected::AppendFields)
+    } else if options.csv && options.separator == Some(b'"') {
+        Some(Expected::CsvSeparator)
+    } else if options.names.any() && !options.header {
+        Some(Expected::Header)
+    } else {
+        conflict_with_readers(options)
+    }
+}
+
+/// Returns the option that is missing or excluded for the forms of `--read`, if there is one.
+fn conflict_with_readers(options: &Options<'_>) -> Option<Expected> {
+    if any_yearless(options.readers.as_slice()) && options.year.is_none() {
+        Some(Expected::AssumeYear)
+    } else if options.year.is_some() && !any_yearless(options.readers.as_slice()) {
+        Some(Expected::Yearless)
+    } else if options.zone.is_some() {
+        conflict_with_zone(options)
+    } else if any_local(options.readers.as_slice()) && options.offset.is_none() {
+        Some(Expected::Assume)
+    } else if options.offset.is_some() && !any_local(options.readers.as_slice()) {
+        Some(Expected::Local)
+    } else {
+        None
+    }
+}
+
+/// Returns the requirement of `--zone` that the options don't meet, if there is one: no `--assume`,
+/// and only forms without an offset.
+fn conflict_with_zone(options: &Options<'_>) -> Option<Expected> {
+    if options.offset.is_some() {
+        Some(Expected::OffsetOrZone)
+    } else if !any_local(options.readers.as_slice()) || any_own(options.readers.as_slice()) {
+        Some(Expected::LocalOnly)
+    } else {
+        None
+    }
+}

@@ -1,0 +1,60 @@
+//! TEXT of `until` and `since`, and the unit after it.
+ghost use Rattle.std.specs.Prelude.{◌+◌, ◌<◌, ◌^◌};
+
+use crate::args::options::{field_numbers_of, is_name};
+use crate::args::spelling::unit_of;
+use crate::args::usage_error::{Expected, UsageError, usage_error_at};
+use crate::args::words::{ends_at, found_at, keyword_at, only_at, word_at};
+use cal_datetime::OffsetDateTime;
+use caldate_answers::request::{Target, TimeUnit};
+use caldate_lines::field_name::FieldName;
+
+/// Parses `TEXT` or `TEXT in UNIT`. TEXT may be `field N`, `field N-M` or `field NAME`.
+pub fn target_at<'a>(
+    words: &'a [u8],
+    at: usize,
+    now: Option<OffsetDateTime>,
+) -> Result<(Target<'a>, Option<TimeUnit>), UsageError<'static>>
+    requires { at + 4 < 2 ^ 64 }
+{
+    if names_field(words, at) {
+        let other = other_at(words, at + 1)?;
+        return Ok((other, in_unit_at(words, at + 2)?));
+    }
+    let target = found_at(words, at, Expected::Target, now)?;
+    Ok((Target::Text(target), in_unit_at(words, at + 1)?))
+}
+
+/// Returns whether the word is `field`.
+fn names_field(words: &[u8], at: usize) -> bool {
+    match word_at(words, at) {
+        Some(word) => word == b"field".as_slice(),
+        None => false,
+    }
+}
+
+/// Parses `N`, `N-M` or `NAME`.
+fn other_at<'a>(words: &'a [u8], at: usize) -> Result<Target<'a>, UsageError<'static>> {
+    let usage_error = usage_error_at(at, Expected::FieldNumber);
+    let word = word_at(words, at).ok_or(usage_error)?;
+    other_of(word).ok_or(usage_error)
+}
+
+fn other_of<'a>(word: &'a [u8]) -> Option<Target<'a>> {
+    if is_name(word) {
+        return Some(Target::Name(FieldName::new(word)));
+    }
+    Some(Target::Fields(field_numbers_of(word)?))
+}
+
+/// Parses `in UNIT`, or returns `None` if the words end here.
+fn in_unit_at(words: &[u8], at: usize) -> Result<Option<TimeUnit>, UsageError<'static>>
+    requires { at + 2 < 2 ^ 64 }
+{
+    if ends_at(words, at) {
+        return Ok(None);
+    }
+    keyword_at(words, at, b"in", Expected::In)?;
+    let unit = only_at(words, at + 1, unit_of, Expected::UnitOfTime)?;
+    Ok(Some(unit))
+}

@@ -1,0 +1,168 @@
+//! The message for invalid arguments.
+ghost use Rattle.std.specs.Prelude.{ℕ, List, ◌≡◌, ◌+◌, ◌<◌, ◌≤◌, [], length};
+ghost use Rattle.caldate_lines.specs.Calls.{Writes, write_failure};
+ghost use Rattle.caldate_lines.specs.Outputs.{WritesPage};
+
+use crate::args::messages::{Message, message_for};
+use crate::args::options::is_option;
+use crate::args::usage_error::{Expected, UsageError};
+use crate::args::words::word_at;
+use crate::data_files::data_error::push_data_error;
+use cal_recurrence::parse;
+use caldate_lines::excerpt::{Excerpt, push_quoted};
+use caldate_lines::lines::index_of;
+use caldate_lines::output::buffer::Buffer;
+use caldate_lines::output::write_all;
+use caldate_lines::run_error::RunError;
+use caldate_lines::streams::Sink;
+
+/// Writes the message for invalid arguments, in one line. Fails with `RunError::Write` if the write
+/// does.
+///
+/// For example, `caldate: unknown unit 'fortnights'; expected days, weeks, months, years, workdays,
+/// hours, minutes or seconds`.
+#[tactic(auto, using(caldate_lines::proofs::Calls::sent_all))]
+pub fn report_usage_error<W: Sink>(
+    arguments: &[u8],
+    usage_error: UsageError<'_>,
+    writer: &mut W,
+) -> Result<(), RunError>
+    ensures words { (words : List ℕ) × (0 < length words)
+        × WritesPage words result (W.contents writer.old) (W.contents writer.new) }
+    ensures writes { Writes W.write_gives writer.old (write_failure result) writer.new }
+{
+    let mut line = Buffer::new();
+    push_usage_message(&mut line, arguments, usage_error);
+    write_all(writer, line.as_bytes())
+}
+
+/// Appends the message, with the program's name and a line feed.
+fn push_usage_message(line: &mut Buffer, arguments: &[u8], usage_error: UsageError<'_>)
+    requires { line.old ≡ [] }
+    ensures short { length line.new ≤ 9_501 }
+    ensures some { 0 < length line.new }
+{
+    line.push(b"caldate: ");
+    push_problem(line, arguments, usage_error);
+    line.push(b"\n");
+}
+
+/// Appends the error and the expected words.
+fn push_problem(line: &mut Buffer, arguments: &[u8], usage_error: UsageError<'_>)
+    requires { length line.old ≤ 9 }
+    ensures short { length line.new ≤ 9_500 }
+{
+    let message = message_for(usage_error.expected);
+    if message.noun.is_empty() {
+        line.push(message.error.as_bytes());
+        return;
+    }
+    match word_at(arguments, usage_error.index) {
+        Some(word) => push_on_word(line, message, usage_error, word),
+        None => push_on_missing(line, message, arguments, usage_error.index),
+    }
+}
+
+/// Appends the message on a word: `unknown unit 'fortnights'; expected ..`, `duplicate --field`.
+fn push_on_word(line: &mut Buffer, message: Message, usage_error: UsageError<'_>, word: &[u8])
+    requires old { length line.old ≤ 9 }
+    requires error { length message.error.now ≤ 60 }
+    requires words { length message.words.now ≤ 300 }
+    ensures short { length line.new ≤ 9_500 }
+{
+    if is_duplicate(usage_error.expected, word) {
+        line.push(b"duplicate ");
+        line.push(Excerpt::new(word).as_bytes());
+        return;
+    }
+    line.push(message.error.as_bytes());
+    line.push(b" ");
+    push_quoted(line, word);
+    line.push(message.words.as_bytes());
+    push_rule_error(line, usage_error.expected, word);
+    if let Some(error) = usage_error.reason {
+        push_data_error(line, error);
+    }
+    push_file_hint(line, usage_error.expected, word);
+}
+
+/// Appends the message on a missing word: `missing number after 'add'; expected ..`.
+fn push_on_missing(line: &mut Buffer, message: Message, arguments: &[u8], index: usize)
+    requires old { length line.old ≤ 9 }
+    requires noun { length message.noun.now ≤ 20 }
+    requires words { length message.words.now ≤ 300 }
+    ensures short { length line.new ≤ 9_500 }
+{
+    line.push(b"missing ");
+    line.push(message.noun.as_bytes());
+    push_after_word(line, arguments, index);
+    line.push(message.words.as_bytes());
+}
+
+/// Appends the word before an index: ` after 'add'`. Appends nothing for the index 0.
+fn push_after_word(line: &mut Buffer, arguments: &[u8], index: usize)
+    requires { length line.old ≤ 100 }
+    ensures short { length line.new ≤ length line.old + 89 }
+{
+    if index == 0 {
+        return;
+    }
+    let Some(word) = word_at(arguments, index - 1) else {
+        return;
+    };
+    line.push(b" after ");
+    push_quoted(line, word);
+}
+
+/// Appends the error in a word that ought to be a rule.
+fn push_rule_error(line: &mut Buffer, expected: Expected, word: &[u8])
+    requires { length line.old ≤ 500 }
+    ensures short { length line.new ≤ length line.old + 68 }
+{
+    if let Expected::Rule = expected {
+        push_error_in_rule(line, word);
+    }
+}
+
+/// Appends the error in a rule and its position: `: invalid value of FREQ at 0`.
+fn push_error_in_rule(line: &mut Buffer, word: &[u8])
+    requires { length line.old ≤ 500 }
+    ensures short { length line.new ≤ length line.old + 68 }
+{
+    if let Err(error) = parse(word) {
+        line.push(b": ");
+        line.push(error.reason.text().as_bytes());
+        line.push(b" at ");
+        line.push_number(error.position as u64);
+    }
+}
+
+/// Appends a hint if a word too many looks like a file.
+fn push_file_hint(line: &mut Buffer, expected: Expected, word: &[u8])
+    requires { length line.old ≤ 9_400 }
+    ensures short { length line.new ≤ length line.old + 50 }
+{
+    if is_word_too_many(expected) && is_file_like(word) {
+        line.push(b"; to read a file, write '--' before its name");
+    }
+}
+
+fn is_word_too_many(expected: Expected) -> bool {
+    expected == Expected::End || expected == Expected::In
+}
+
+/// Returns whether the word has a dot or a slash, and doesn't begin like a date.
+fn is_file_like(word: &[u8]) -> bool {
+    match word {
+        [first, ..] => {
+            !first.is_ascii_digit()
+                && (index_of(b'.', word).is_some() || index_of(b'/', word).is_some())
+        }
+        [] => false,
+    }
+}
+
+/// Returns whether the word is a duplicate option.
+fn is_duplicate(expected: Expected, word: &[u8]) -> bool {
+    expected == Expected::Verb && is_option(word)
+}

@@ -1,0 +1,101 @@
+//! The files of zones and holidays, as the system has them.
+ghost use Rattle.std.specs.Prelude.{◌≡◌, IfOk, true};
+ghost use Rattle.cal_time.specs.Counted.{IsRising};
+ghost use Rattle.cal_time.specs.Date.{julian_day_at};
+ghost use Rattle.caldate_args.specs.Zones.{is_zone_name};
+
+use crate::data_files::DataFiles;
+use crate::data_files::data_error::DataError;
+use crate::holidays::read_holidays_error::ReadHolidaysError;
+use crate::holidays::{MAX_HOLIDAYS, read_holidays};
+use crate::zones::read_zone_error::{FileError, ReadZoneError};
+use crate::zones::zone_source::{MAX_FILE_BYTES, open_file, open_zone};
+use crate::zones::{is_zone_name, read_zone};
+use cal_time::Date;
+use cal_zone::Zone;
+use std::fs::Files;
+
+/// The files of the system, with room for two zones and the holidays of one file. No clause says
+/// what is read, since contracts know nothing about the files of the system.
+#[derive(Drop)]
+pub struct SystemFiles<'s, 'a, S: Files> {
+    system: &'s S,
+    folder: Option<&'a [u8]>,
+    first: Option<&'a mut [u8; MAX_FILE_BYTES]>,
+    second: Option<&'a mut [u8; MAX_FILE_BYTES]>,
+    days: Option<&'a mut [Date; MAX_HOLIDAYS]>,
+}
+
+impl<'s, 'a, S: Files> SystemFiles<'s, 'a, S> {
+    /// Creates a value without files. The zones are in `folder`, or `None` if its path is too long.
+    pub fn new(
+        system: &'s S,
+        folder: Option<&'a [u8]>,
+        first: &'a mut [u8; MAX_FILE_BYTES],
+        second: &'a mut [u8; MAX_FILE_BYTES],
+        days: &'a mut [Date; MAX_HOLIDAYS],
+    ) -> Self {
+        SystemFiles {
+            system,
+            folder,
+            first: Some(first),
+            second: Some(second),
+            days: Some(days),
+        }
+    }
+
+    /// Returns the room for one more zone, if there is any.
+    fn take_room(&mut self) -> Option<&'a mut [u8; MAX_FILE_BYTES]> {
+        match self.first.take() {
+            Some(room) => Some(room),
+            None => self.second.take(),
+        }
+    }
+
+    /// Reads the file of a zone in a folder.
+    fn zone_in(&mut self, folder: &[u8], name: &[u8]) -> Result<Zone<'a>, ReadZoneError>
+        requires { is_zone_name name.now ≡ true }
+    {
+        let Some(room) = self.take_room() else {
+            return Err(ReadZoneError::File(FileError::TooLong));
+        };
+        match open_zone(self.system, folder, name) {
+            Ok(mut file) => read_zone(&mut file, room),
+            Err(error) => Err(ReadZoneError::File(error)),
+        }
+    }
+
+    fn holidays_in(&mut self, name: &[u8]) -> Result<&'a [Date], ReadHolidaysError>
+        ensures { IfOk result (λ days. IsRising julian_day_at days.now) }
+    {
+        let Some(days) = self.days.take() else {
+            return Err(ReadHolidaysError::File(FileError::TooLong));
+        };
+        match open_file(self.system, name) {
+            Ok(mut file) => read_holidays(&mut file, days),
+            Err(error) => Err(ReadHolidaysError::File(error)),
+        }
+    }
+}
+
+impl<'a, S: Files> DataFiles<'a> for SystemFiles<'_, 'a, S> {
+    fn zone(&mut self, name: &'a [u8]) -> Result<Zone<'a>, DataError<'a>> {
+        if !is_zone_name(name) {
+            return Err(DataError::Name);
+        }
+        let Some(folder) = self.folder else {
+            return Err(DataError::Variable);
+        };
+        match self.zone_in(folder, name) {
+            Ok(zone) => Ok(zone),
+            Err(error) => Err(DataError::Zone(folder, name, error)),
+        }
+    }
+
+    fn holidays(&mut self, name: &[u8]) -> Result<&'a [Date], DataError<'a>> {
+        match self.holidays_in(name) {
+            Ok(days) => Ok(days),
+            Err(error) => Err(DataError::Holidays(error)),
+        }
+    }
+}

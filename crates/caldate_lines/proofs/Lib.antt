@@ -1,0 +1,12 @@
+pub mod Calls
+pub mod Cuts
+pub mod Ends
+pub mod FieldTexts
+pub mod HeaderNames
+pub mod Known
+pub mod NewFields
+pub mod Outputs
+pub mod Parts
+pub mod Quotes
+pub mod RecordFields
+pub mod Splits

@@ -1,0 +1,10 @@
+pub mod Calls
+pub mod Ending
+pub mod Fields
+pub mod Header
+pub mod Lines
+pub mod Outputs
+pub mod Reasons
+pub mod Records
+pub mod Room
+pub mod RunStates

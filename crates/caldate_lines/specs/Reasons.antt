@@ -1,0 +1,31 @@
+-- The reasons why a text has no answer.
+use Rattle.std.specs.Prelude.{ℕ, List, ◌++◌, [], codes, decimal, if◌then◌else◌}
+use Rattle.cal_time.specs.ComponentError.{component_name}
+use Rattle.cal_time.specs.declared.error.ComponentRange.{ComponentRange}
+use Rattle.cal_text.specs.declared.error.ParseError.{ParseError}
+use Rattle.cal_text.specs.declared.error.ParseError.TheVariants.{UnexpectedByte, UnexpectedEnd, OutOfRange}
+use Rattle.caldate_lines.specs.declared.no_answer.NoAnswer.{NoAnswer}
+use Rattle.caldate_lines.specs.declared.no_answer.NoAnswer.TheVariants as why
+
+-- The words for a component that is out of range.
+abbrev pub refused_text : ComponentRange → List ℕ
+refused_text error = codes "refused " ++ component_name error.component ++ (if error.is_conditional then codes " conditional" else [])
+
+-- The words for a reason.
+abbrev pub reason : NoAnswer → List ℕ
+reason why.TooLong = codes "line too long"
+reason why.NoField = codes "no such field"
+reason why.NoOtherField = codes "no other field"
+reason why.UnreadOtherField = codes "other field unreadable"
+reason why.NoForm = codes "in no form of --read"
+reason why.None = codes "none"
+reason why.Skipped = codes "skipped time"
+reason why.Repeated = codes "repeated time"
+reason (why.Rejected component) = refused_text component
+reason (why.Unreadable at) = codes "unreadable at " ++ decimal at
+
+-- The reason why a text can't be read.
+abbrev pub reason_of : ParseError → NoAnswer
+reason_of (UnexpectedByte at) = why.Unreadable at
+reason_of (UnexpectedEnd at) = why.Unreadable at
+reason_of (OutOfRange component) = why.Rejected component

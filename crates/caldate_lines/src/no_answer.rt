@@ -1,0 +1,68 @@
+//! The reasons why a line has no answer.
+ghost use Rattle.std.specs.Prelude.{◌≡◌, ◌+◌, ◌≤◌, ◌++◌, length};
+ghost use Rattle.caldate_lines.specs.Reasons.{reason, refused_text};
+ghost use Rattle.caldate_lines.specs.Room.{HasRoom};
+
+use crate::output::buffer::Buffer;
+use cal_time::error::ComponentRange;
+
+/// A reason why a line has no answer.
+#[derive(Clone, Copy, Debug, PartialEq, Eq)]
+pub enum NoAnswer {
+    /// The text of the line has more than 4096 bytes.
+    TooLong,
+    /// The line has no such field.
+    NoField,
+    /// The line lacks the other field, which has TEXT of `until` or `since`.
+    NoOtherField,
+    /// The other field is not read as a date or moment.
+    UnreadOtherField,
+    /// The text was read, and the request has no answer for it.
+    None,
+    /// The text has a form, and this component is out of its range.
+    Rejected(ComponentRange),
+    /// The text is in none of the forms of `--read`.
+    NoForm,
+    /// The clocks of the zone skip the text's time.
+    Skipped,
+    /// The clocks of the zone show the text's time twice.
+    Repeated,
+    /// The text has no form, and this byte is the first that none has there, counted from 0.
+    Unreadable(usize),
+}
+
+/// Appends a reason, such as `unreadable at 4`.
+pub fn push_reason(buffer: &mut Buffer, why: NoAnswer)
+    requires { HasRoom 80 buffer.old }
+    ensures text { buffer.new ≡ buffer.old ++ reason why }
+    ensures short { length buffer.new ≤ length buffer.old + 80 }
+{
+    match why {
+        NoAnswer::TooLong => buffer.push(b"line too long"),
+        NoAnswer::NoField => buffer.push(b"no such field"),
+        NoAnswer::NoOtherField => buffer.push(b"no other field"),
+        NoAnswer::UnreadOtherField => buffer.push(b"other field unreadable"),
+        NoAnswer::NoForm => buffer.push(b"in no form of --read"),
+        NoAnswer::None => buffer.push(b"none"),
+        NoAnswer::Skipped => buffer.push(b"skipped time"),
+        NoAnswer::Repeated => buffer.push(b"repeated time"),
+        NoAnswer::Rejected(component) => push_refusal(buffer, component),
+        NoAnswer::Unreadable(position) => {
+            buffer.push(b"unreadable at ");
+            buffer.push_number(position as u64);
+        }
+    }
+}
+
+/// Appends `refused` and the name of the component, and `conditional` if the error is conditional.
+fn push_refusal(buffer: &mut Buffer, error: ComponentRange)
+    requires { HasRoom 64 buffer.old }
+    ensures text { buffer.new ≡ buffer.old ++ refused_text error }
+    ensures short { length buffer.new ≤ length buffer.old + 64 }
+{
+    buffer.push(b"refused ");
+    buffer.push(error.name().as_bytes());
+    if error.is_conditional() {
+        buffer.push(b" conditional");
+    }
+}

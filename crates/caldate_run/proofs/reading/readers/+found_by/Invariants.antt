@@ -1,5 +1,0 @@
-use Rattle.std.proofs.Common.{length}
-use Rattle.caldate_run.proofs.reading.readers.+found_by.Given as goal
-
-abbrev pub decreases-found_by : goal.decreases-found_by
-decreases-found_by p = length p.readers.now

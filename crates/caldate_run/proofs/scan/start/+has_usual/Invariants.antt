@@ -1,5 +1,0 @@
-use Rattle.std.proofs.Common.{length}
-use Rattle.caldate_run.proofs.scan.start.+has_usual.Given as goal
-
-abbrev pub decreases-has_usual : goal.decreases-has_usual
-decreases-has_usual p = length p.readers.now
