@@ -1,8 +1,13 @@
 -- Periods by their parts, and the results of the calls that add them.
-use Rattle.std.proofs.Common.{◌≡◌, subst}
+use Rattle.std.proofs.Common.{◌≡◌, ◌∙◌, sym, ap, subst, ℕ}
 use Rattle.std.specs.Prelude.{Option, Some, None, SomeIff, ℤ}
+use Rattle.cal_datetime.specs.DateTime.{IsDateTime, date_at, time_at}
 use Rattle.cal_schedule.specs.Period.{parts, Parts, IsOneSign}
-use Rattle.cal_c.specs.Periods.{parts_in, IsPeriod}
+use Rattle.cal_zoned.specs.Period.{IsLater}
+use Rattle.cal_c.specs.Periods.{parts_in, IsPairAfter, IsPeriod}
+use Rattle.cal_c.specs.Results.{pair_at_local, pair_error, pair_ok}
+use Rattle.cal_c.specs.declared.results.PairResult.{PairResult}
+use Rattle.cal_c.specs.declared.status.TheConstants.{RESULT_OUT_OF_RANGE}
 use Rattle.cal_c.specs.Values.{nanoseconds_in, IsDurationPair}
 use Rattle.cal_c.specs.declared.schedule.periods.PeriodParts.{PeriodParts}
 
@@ -14,3 +19,24 @@ period_is p d r valid e h = by_sign r (subst (λ (x : ℤ). SomeIff r (IsOneSign
     by_sign : (r : Option Parts) → SomeIff r (IsOneSign (parts_in p)) (parts_in p) → SomeIff r (IsPeriod p) (parts_in p)
     by_sign None h = λ is. h is.sign
     by_sign (Some q) h = (record { duration = valid; sign = h.0 }, h.1)
+
+-- the local date-time that the code finds, or none
+IsNone : Option ℤ → Type 0
+IsNone None = Unit {0}
+IsNone (Some l) = ⊥
+
+value_or : ℤ → Option ℤ → ℤ
+value_or z None = z
+value_or z (Some l) = l
+
+pub no_pair : (z : ℤ) (p : Parts) (r : PairResult) → ((l : ℤ) → IsDateTime l → IsLater z p l → None ≡ Some l) → r ≡ pair_error RESULT_OUT_OF_RANGE → IsPairAfter z p r
+unfolding IsNone
+no_pair z p r every e = record { every = λ l inside later. absurd (subst IsNone (every l inside later) tt); none = λ _. e }
+
+pub pair_is : (z later : ℤ) (d t : ℕ) (p : Parts) (r : PairResult) → d ≡ date_at later → t ≡ time_at later → r ≡ pair_ok d t → IsDateTime later → IsLater z p later
+    → ((l : ℤ) → IsDateTime l → IsLater z p l → Some later ≡ Some l) → IsPairAfter z p r
+unfolding value_or
+pair_is z later d t p r day time e within moved every = record {
+  every = λ l inside h. e ∙ ap (λ (n : ℕ). pair_ok n t) day ∙ ap (λ (n : ℕ). pair_ok (date_at later) n) time ∙ ap pair_at_local (ap (value_or z) (every l inside h));
+  none = λ no. absurd (no later within moved);
+}

@@ -4,4 +4,5 @@ use Rattle.cal_c.proofs.columns.zoned.row_after.Goals as goal
 pub returns-in-Some-policy : goal.returns-in-Some-policy
 returns-in-Some-policy c =
     let g = c.ranges.seconds in
-    simp to_z-of_z at c.later_seconds.ensures
+    let found = simp to_z-of_z at c.later_seconds.ensures in
+    rw (c.in-Some.is, c.in-Some-policy.is) found

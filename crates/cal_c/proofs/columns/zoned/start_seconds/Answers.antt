@@ -1,11 +1,12 @@
 use Rattle.std.proofs.Math.Facts.{to_z-of_z}
-use Rattle.std.proofs.Common.{refl, ap, subst, ◌∙◌}
+use Rattle.std.proofs.Common.{FitsSigned, w64, rules, refl, ap, subst, ◌∙◌}
 use Rattle.std.specs.Prelude.{Some, None, Option, ℤ, ℕ}
 use Rattle.cal_datetime.specs.DateTime.{date_at, date_time}
 use Rattle.cal_datetime.specs.OffsetDateTime.{LocalAndOffset}
 use Rattle.cal_zoned.specs.Day.{IsStart}
 use Rattle.cal_zoned.specs.Unchecked.{in_zone}
 use Rattle.cal_zoned.specs.Zoned.{InZone}
+use Rattle.cal_c.specs.Results.{int64_ok}
 use Rattle.cal_c.proofs.Needs.{met, unmet}
 use Rattle.cal_c.proofs.columns.zoned.start_seconds.Goals as goal
 
@@ -27,5 +28,6 @@ returns c = λ order.
     let g = c.ranges.seconds in
     let found = (simp to_z-of_z at c.in-Some.ensures) order in
     let day = c.date.ensures.value ∙ ap (λ (m : LocalAndOffset). date_at m.local) found.1 in
+    let fits : FitsSigned w64 c.unix_timestamp.result = search rules in
     let start = in_zone c.args.zone.now c.in-Some-day_start.value in
-    met found.0 (Some start, subst (λ (n : ℕ). IsStart c.args.zone.now (date_time n 0) (Some start)) day (c.in-Some-day_start.ensures order), ?)
+    met found.0 (Some start, subst (λ (n : ℕ). IsStart c.args.zone.now (date_time n 0) (Some start)) day (c.in-Some-day_start.ensures order), ap int64_ok (to_z-of_z fits ∙ c.unix_timestamp.ensures.value))

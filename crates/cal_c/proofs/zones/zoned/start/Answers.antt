@@ -1,6 +1,5 @@
 use Rattle.std.proofs.Math.Facts.{to_z-of_z}
-use Rattle.std.proofs.Common.{ap}
-use Rattle.std.specs.Prelude.{Some}
+use Rattle.std.specs.Prelude.{Some, None}
 use Rattle.cal_zoned.specs.Unchecked.{in_zone}
 use Rattle.cal_c.proofs.Needs.{met}
 use Rattle.cal_c.proofs.zones.zoned.start.Goals as goal
@@ -11,3 +10,10 @@ returns c = λ order.
     let date = simp to_z-of_z at c.in-Some.ensures in
     let start = c.in-Some-day_start.ensures order in
     met date.0 (Some (in_zone c.args.zone.now c.in-Some-day_start.value), rw date.1 at start, c.ok.ensures)
+
+pub returns-in-None-day_start : goal.returns-in-None-day_start
+returns-in-None-day_start c = λ order.
+    let g = c.ranges.date in
+    let date = simp to_z-of_z at c.in-Some.ensures in
+    let none = c.in-None-day_start.ensures order in
+    met date.0 (None, rw date.1 at none, c.error-in-None-day_start.ensures)
