@@ -4,9 +4,7 @@ zoneinfo, for all files of the system."""
 import calendar
 import copy
 import datetime
-import doctest
 import itertools
-import pathlib
 import pickle
 import random
 import unittest
@@ -284,11 +282,6 @@ class AgainstZoneinfo(unittest.TestCase):
             self.check_days(key, info, zone, near)
             self.check_columns(zone, drawn, draw)
         self.assertGreater(len(seen), 200)
-
-
-def load_tests(loader, tests, _pattern):
-    tests.addTests(doctest.DocTestSuite(zones))
-    return tests
 
 
 if __name__ == "__main__":
