@@ -14,6 +14,7 @@ mod days;
 mod errors;
 mod generic;
 mod order;
+mod periods;
 mod printing;
 mod recurrences;
 mod sets;
@@ -44,5 +45,6 @@ fn main(rt: HostRuntime) -> io::Result<()> {
     counts::show(&rt)?;
     sets::show(&rt)?;
     zones::show(&rt)?;
+    periods::show(&rt)?;
     arrival::main(rt)
 }
