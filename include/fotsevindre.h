@@ -58,6 +58,16 @@ typedef struct fots_duration {
     int32_t nanoseconds;
 } fots_duration;
 
+/* How much later something is by the calendar and by the clock: no part is negative if another one
+ * is positive. 12 months move a date like a year, and 7 days like a week. */
+typedef struct fots_period {
+    int32_t years;
+    int32_t months;
+    int32_t weeks;
+    int32_t days;
+    fots_duration duration;
+} fots_period;
+
 /* In this order the fields take 16 bytes. */
 typedef struct fots_moment {
     fots_date date;
@@ -210,7 +220,11 @@ enum fots_status {
     FOTS_DAY_OUT_OF_RANGE = 64,
     FOTS_ORDINAL_OUT_OF_RANGE = 65,
     FOTS_WEEK_OUT_OF_RANGE = 66,
-    FOTS_WEEKDAY_OUT_OF_RANGE = 67
+    FOTS_WEEKDAY_OUT_OF_RANGE = 67,
+    FOTS_INVALID_PERIOD = 68, /* expected parts of one sign and a valid duration */
+    FOTS_PERIOD_HAS_DURATION = 69, /* a date has no time of day, so a period of it has no duration */
+    FOTS_WRONG_OFFSET = 70, /* the offset of the moment isn't that of the zone at its instant */
+    FOTS_INVALID_UNIT = 71 /* expected 1 (day) to 5 (year) */
 };
 
 /* Returns the name of a status: the component, such as "day", or words such as "result out of
@@ -286,6 +300,10 @@ static inline const char *fots_status_name(int32_t status)
     case FOTS_ORDINAL_OUT_OF_RANGE: return "ordinal";
     case FOTS_WEEK_OUT_OF_RANGE: return "week";
     case FOTS_WEEKDAY_OUT_OF_RANGE: return "weekday";
+    case FOTS_INVALID_PERIOD: return "invalid period";
+    case FOTS_PERIOD_HAS_DURATION: return "period has a duration";
+    case FOTS_WRONG_OFFSET: return "wrong offset";
+    case FOTS_INVALID_UNIT: return "invalid unit";
     default: return "unknown";
     }
 }
@@ -434,11 +452,12 @@ typedef struct fots_length_result {
     size_t length; /* in bytes; also for FOTS_BUFFER_TOO_SHORT, else 0 after an error */
 } fots_length_result;
 
-/* Years, months and days, all positive or 0, or all negative or 0. */
+/* Years, months, weeks and days, all positive or 0, or all negative or 0. */
 typedef struct fots_period_result {
     int32_t status;
     int32_t years; /* or FOTS_NO_VALUE, as for the next fields */
-    int32_t months; /* from -11 to 11 */
+    int32_t months;
+    int32_t weeks;
     int32_t days;
 } fots_period_result;
 
@@ -586,8 +605,35 @@ fots_number_result fots_date_months_until(fots_date date, fots_date other);
 fots_number_result fots_date_years_until(fots_date date, fots_date other);
 
 /* Returns years and months, as many as fots_date_months_until, and then days. From 2000-01-31 to
- * 2001-03-02: 1, 1, 2. */
+ * 2001-03-02: 1 year, 1 month and 2 days. */
 fots_period_result fots_date_period_until(fots_date date, fots_date other);
+
+enum fots_calendar_unit {
+    FOTS_DAY = 1,
+    FOTS_WEEK = 2, /* from Monday */
+    FOTS_MONTH = 3,
+    FOTS_QUARTER = 4,
+    FOTS_YEAR = 5
+};
+
+/* Returns a period with the unit as its largest part: for FOTS_DAY days, for FOTS_WEEK weeks and
+ * days, for FOTS_MONTH and FOTS_QUARTER months and days, and for FOTS_YEAR the same as
+ * fots_date_period_until. FOTS_INVALID_UNIT. From 2000-01-31 to 2001-03-02: 13 months and 2 days by
+ * FOTS_MONTH, and 56 weeks and 4 days by FOTS_WEEK. */
+fots_period_result fots_date_period_until_by(fots_date date, fots_date other, uint32_t unit);
+
+/* Return the date a period later, or `n` periods later at once, without a drift: the years and the
+ * months are added first, and then the weeks and the days. FOTS_INVALID_PERIOD,
+ * FOTS_PERIOD_HAS_DURATION, FOTS_RESULT_OUT_OF_RANGE. 2 months after 2000-01-31, in one step or by
+ * n = 2, is 2000-03-31. */
+fots_date_result fots_date_add_period(fots_date date, fots_period period);
+fots_date_result fots_date_nth_period(fots_date date, fots_period period, int32_t n);
+
+/* Returns the step that a date is in: the greatest `n` for which fots_date_nth_period of `start`
+ * isn't after it. FOTS_INVALID_PERIOD, and FOTS_RESULT_OUT_OF_RANGE if the date is before the start,
+ * or if the period has a duration or isn't positive. By months from 2000-01-31, 2000-02-28 is in
+ * step 0, and 2000-02-29 in step 1. */
+fots_number_result fots_date_step_of(fots_date start, fots_period period, fots_date date);
 
 /* Return the first or last day of the month, quarter, year or ISO week, and the quarter (1 to 4).
  * Only the Sunday of the last ISO week is FOTS_RESULT_OUT_OF_RANGE. For 2000-02-29: 2000-02-01,
@@ -1042,6 +1088,11 @@ uint32_t fots_weeks_in_year(int32_t year);
 fots_pair_result fots_add_to_pair(fots_date date, fots_time time, fots_duration duration);
 fots_pair_result fots_sub_from_pair(fots_date date, fots_time time, fots_duration duration);
 
+/* Returns the date and time a period later: the date as fots_date_add_period moves it, and then the
+ * duration is added. FOTS_INVALID_PERIOD, FOTS_RESULT_OUT_OF_RANGE. A month and 2 h after
+ * 2000-01-31 23:00 is 2000-03-01 1:00. */
+fots_pair_result fots_pair_add_period(fots_date date, fots_time time, fots_period period);
+
 /* ---- Unix times: durations from 1970-01-01 0:00 UTC, without leap seconds */
 
 /* Returns the Unix time of a date and time at an offset. 2024-02-29 0:00:00.5 UTC is
@@ -1443,6 +1494,54 @@ size_t fots_zone_offsets(const fots_zone *zone, const int64_t *seconds, size_t s
  * -2^60 to 2^60, FOTS_SKIPPED_TIME and FOTS_REPEATED_TIME for FOTS_REJECT. */
 size_t fots_zone_instants(const fots_zone *zone, const int64_t *readings, size_t readings_length, uint32_t policy, int64_t *seconds,
     size_t seconds_length, uint8_t *statuses, size_t length);
+
+/* ---- date-times in a zone: moments with the offset of the zone
+ *
+ * Each call takes a zone, and first a moment if it moves one; it fails with FOTS_WRONG_OFFSET if
+ * the offset of the moment isn't the zone's at its instant. Compare them, and count the duration
+ * between two, as moments. fots_moment_in_zone converts to a zone. A result is out of range,
+ * FOTS_RESULT_OUT_OF_RANGE, if what the clocks show is. The examples are in Europe/Berlin. */
+
+/* Returns the moment at a Unix time. {1711846800, 0} is 2024-03-31 3:00 +02:00. */
+fots_moment_result fots_zoned_at(const fots_zone *zone, fots_duration unix_time);
+
+/* Returns the moment that a date and a time of day mean by a fots_policy, as fots_zone_moment, but
+ * in a gap by its instant: the date and time at the offset before the gap, or after it for
+ * FOTS_EARLIER, as the clocks show it then. This differs only if another change comes within the
+ * length of the gap. The errors are the same. */
+fots_moment_result fots_zoned_from_local(const fots_zone *zone, fots_date date, fots_time time, uint32_t policy);
+
+/* Moves a moment to another date and time of day. Keeps its offset if the clocks show them at it,
+ * and otherwise goes by the policy, as fots_zoned_from_local does. 2024-10-27 2:30 +01:00 at 2:45
+ * is 2:45 +01:00. Pass the date or the time of the moment to replace only the other one. */
+fots_moment_result fots_zoned_with_local(const fots_zone *zone, fots_moment moment, fots_date date, fots_time time, uint32_t policy);
+
+/* Return the moment a duration later or earlier. 1 h after 2024-03-31 1:30 +01:00 is 3:30 +02:00. */
+fots_moment_result fots_zoned_checked_add(const fots_zone *zone, fots_moment moment, fots_duration duration);
+fots_moment_result fots_zoned_checked_sub(const fots_zone *zone, fots_moment moment, fots_duration duration);
+
+/* Returns the moment a period later: the date as fots_date_add_period moves it, with the same time
+ * of day, by the policy as in fots_zoned_from_local, and then the duration later. A period with
+ * only a duration ignores the policy. FOTS_INVALID_PERIOD. A day after 2024-03-30 2:30 +01:00 is
+ * 2024-03-31 3:30 +02:00. */
+fots_moment_result fots_zoned_add_period(const fots_zone *zone, fots_moment moment, fots_period period, uint32_t policy);
+
+/* Return the first instant at which the clocks have reached a date, and the length of the day from
+ * there to the start of the next. 2024-03-31 has 23 h. In Toronto 1919-03-31 starts at 0:30. */
+fots_moment_result fots_zoned_start_of_day(const fots_zone *zone, fots_date date);
+fots_duration_result fots_zoned_day_length(const fots_zone *zone, fots_date date);
+
+/* Write the Unix times some days or months after Unix times, by the clocks of the zone, as
+ * fots_zoned_add_period does and other calls for columns do. Errors: FOTS_INVALID_POLICY,
+ * FOTS_RESULT_OUT_OF_RANGE, FOTS_SKIPPED_TIME and FOTS_REPEATED_TIME for FOTS_REJECT. */
+size_t fots_zoned_add_days(const fots_zone *zone, const int64_t *seconds, size_t seconds_length, const int32_t *days, size_t days_length,
+    uint32_t policy, int64_t *moved, size_t moved_length, uint8_t *statuses, size_t length);
+size_t fots_zoned_add_months(const fots_zone *zone, const int64_t *seconds, size_t seconds_length, const int32_t *months, size_t months_length,
+    uint32_t policy, int64_t *moved, size_t moved_length, uint8_t *statuses, size_t length);
+
+/* Writes the Unix times of the starts of the days that the clocks show at Unix times. */
+size_t fots_zoned_starts_of_day(const fots_zone *zone, const int64_t *seconds, size_t seconds_length, int64_t *starts, size_t starts_length,
+    uint8_t *statuses, size_t length);
 
 #ifdef __cplusplus
 }

@@ -9,12 +9,18 @@
 #include <array>
 #include <cstddef>
 #include <cstdint>
+#include <cstdlib>
+#include <filesystem>
+#include <fstream>
 #include <functional>
+#include <map>
+#include <mutex>
 #include <optional>
 #include <ostream>
 #include <stdexcept>
 #include <string>
 #include <string_view>
+#include <system_error>
 #include <tuple>
 #include <utility>
 #include <vector>
@@ -150,6 +156,39 @@ template <class Call> std::string written(Call call)
 
 // Returns the first byte of a text, which is never null.
 inline const char *data(std::string_view text) noexcept { return text.empty() ? "" : text.data(); }
+
+// Returns the bytes of a regular file. Nothing else is opened, since a pipe would wait.
+inline std::string bytes_of_file(const std::filesystem::path &path)
+{
+    constexpr std::uintmax_t max_bytes = 65536;
+    if (!std::filesystem::is_regular_file(path)) {
+        const bool is_there = std::filesystem::exists(path);
+        throw std::filesystem::filesystem_error("not a regular file", path,
+            std::make_error_code(is_there ? std::errc::invalid_argument : std::errc::no_such_file_or_directory));
+    }
+    if (std::filesystem::file_size(path) > max_bytes) {
+        throw std::filesystem::filesystem_error("file too long", path, std::make_error_code(std::errc::file_too_large));
+    }
+    std::ifstream file(path, std::ios::binary);
+    std::string bytes(max_bytes, '\0');
+    file.read(&bytes[0], static_cast<std::streamsize>(max_bytes));
+    if (!file.is_open() || file.bad()) {
+        throw std::filesystem::filesystem_error("can't read a file", path, std::make_error_code(std::errc::io_error));
+    }
+    bytes.resize(static_cast<std::size_t>(file.gcount()));
+    return bytes;
+}
+
+// Returns the file of a zone by its name.
+inline std::filesystem::path file_of_zone(const std::string &name)
+{
+    constexpr const char *letters = "ABCDEFGHIJKLMNOPQRSTUVWXYZabcdefghijklmnopqrstuvwxyz";
+    if (name.find_first_of(letters) != 0 || name.find_first_not_of(letters + std::string("0123456789_-+/")) != std::string::npos) {
+        throw std::invalid_argument("invalid name of a zone");
+    }
+    const char *const folder = std::getenv("TZDIR");
+    return std::filesystem::path(folder && *folder ? folder : "/usr/share/zoneinfo") / name;
+}
 
 // Compares by a key.
 template <class Value> struct Ordered {
@@ -333,14 +372,38 @@ private:
     fots_offset value_;
 };
 
-// Years, months and days, all positive or 0, or all negative or 0.
-struct Period {
-    std::int32_t years, months, days;
-
-    friend bool operator==(Period one, Period other)
+// Years, months, weeks, days and a duration, all positive or 0, or all negative or 0.
+class Period {
+public:
+    // Creates a period from its parts, or throws FOTS_INVALID_PERIOD.
+    Period(std::int32_t years, std::int32_t months, std::int32_t weeks, std::int32_t days, Duration duration = Duration::seconds(0))
+        : value_{years, months, weeks, days, duration.c()}
     {
-        return one.years == other.years && one.months == other.months && one.days == other.days;
+        if (fots_pair_add_period(fots_date{0}, 0, value_).status == FOTS_INVALID_PERIOD) {
+            throw error(FOTS_INVALID_PERIOD);
+        }
     }
+    static Period from_years(std::int32_t years) { return {years, 0, 0, 0}; }
+    static Period from_months(std::int32_t months) { return {0, months, 0, 0}; }
+    static Period from_weeks(std::int32_t weeks) { return {0, 0, weeks, 0}; }
+    static Period from_days(std::int32_t days) { return {0, 0, 0, days}; }
+    static Period from_duration(Duration duration) { return {0, 0, 0, 0, duration}; }
+
+    std::int32_t years() const noexcept { return value_.years; }
+    std::int32_t months() const noexcept { return value_.months; }
+    std::int32_t weeks() const noexcept { return value_.weeks; }
+    std::int32_t days() const noexcept { return value_.days; }
+    Duration duration() const noexcept { return Duration(value_.duration, {}); }
+
+    fots_period c() const noexcept { return value_; }
+
+    friend bool operator==(const Period &one, const Period &other) { return one.key() == other.key(); }
+    friend bool operator!=(const Period &one, const Period &other) { return one.key() != other.key(); }
+
+private:
+    std::tuple<std::int32_t, std::int32_t, std::int32_t, std::int32_t, Duration> key() const { return {years(), months(), weeks(), days(), duration()}; }
+
+    fots_period value_;
 };
 
 // A fraction of a year.
@@ -435,12 +498,16 @@ public:
     std::optional<Date> checked_add_months(std::int32_t months) const { return if_any(fots_date_add_months(value_, months)); }
     std::optional<Date> checked_add_years(std::int32_t years) const { return if_any(fots_date_add_years(value_, years)); }
     Date saturating_add_months(std::int32_t months) const { return from(fots_date_saturating_add_months(value_, months)); }
+    // Return the date a period later, or some periods later at once, without a drift. A period with a
+    // duration throws FOTS_PERIOD_HAS_DURATION.
+    std::optional<Date> checked_add_period(const Period &period) const { return if_any(fots_date_add_period(value_, period.c())); }
+    std::optional<Date> nth_period(const Period &period, std::int32_t n) const { return if_any(fots_date_nth_period(value_, period.c(), n)); }
     std::int32_t months_until(Date other) const { return detail::value_or_throw(fots_date_months_until(value_, other.value_)).number; }
     std::int32_t years_until(Date other) const { return detail::value_or_throw(fots_date_years_until(value_, other.value_)).number; }
     Period period_until(Date other) const
     {
         const fots_period_result found = detail::value_or_throw(fots_date_period_until(value_, other.value_));
-        return {found.years, found.months, found.days};
+        return {found.years, found.months, 0, found.days};
     }
     YearFraction day_count(Date other, DayCount convention) const
     {
@@ -842,6 +909,7 @@ inline std::optional<std::pair<Date, Time>> unix_pair(Duration duration, UtcOffs
 
 class OffsetDateTime;
 class Zone;
+class ZonedDateTime;
 
 // A date and a time of day without an offset.
 class PlainDateTime : public detail::Ordered<PlainDateTime> {
@@ -862,6 +930,11 @@ public:
 
     std::optional<PlainDateTime> checked_add(Duration duration) const { return if_any(fots_moment_checked_add(value_, duration.c())); }
     std::optional<PlainDateTime> checked_sub(Duration duration) const { return if_any(fots_moment_checked_sub(value_, duration.c())); }
+    std::optional<PlainDateTime> checked_add_period(const Period &period) const
+    {
+        const fots_pair_result found = fots_pair_add_period(value_.date, value_.time, period.c());
+        return detail::is_in_range(found) ? std::optional(PlainDateTime(Date(found.date, {}), Time(found.time, {}))) : std::nullopt;
+    }
     PlainDateTime saturating_add(Duration duration) const { return from(fots_moment_saturating_add(value_, duration.c())); }
     PlainDateTime saturating_sub(Duration duration) const { return from(fots_moment_saturating_sub(value_, duration.c())); }
 
@@ -1017,8 +1090,23 @@ struct InstantColumn {
 // A time zone.
 class Zone {
 public:
-    // Creates the zone of the bytes of a TZif file, such as /usr/share/zoneinfo/Europe/Berlin.
-    static Zone from_file(std::string bytes)
+    // Creates the zone of a TZif file, such as /usr/share/zoneinfo/Europe/Berlin. Throws a
+    // std::system_error if that isn't a regular file of at most 65536 bytes that can be read.
+    static Zone from_file(const std::filesystem::path &path) { return from_bytes(detail::bytes_of_file(path)); }
+    // Returns the zone with a name, such as "Europe/Berlin": of its file in the folder that the
+    // variable TZDIR names, or else in /usr/share/zoneinfo. It is read once and kept. Throws a
+    // std::invalid_argument for another name than of letters, digits and _-+/, from a letter on.
+    static const Zone &named(const std::string &name)
+    {
+        static std::mutex mutex;
+        // Never destroyed, so that references stay valid when the program ends.
+        static std::map<std::string, Zone> &zones = *new std::map<std::string, Zone>;
+        const std::lock_guard<std::mutex> lock(mutex);
+        const auto found = zones.find(name);
+        return found != zones.end() ? found->second : zones.emplace(name, from_file(detail::file_of_zone(name))).first->second;
+    }
+    // Creates the zone of the bytes of a TZif file.
+    static Zone from_bytes(std::string bytes)
     {
         const fots_zone_parts_result found = fots_zone_file_parts(reinterpret_cast<const std::uint8_t *>(bytes.data()), bytes.size());
         return Zone(std::move(bytes), found);
@@ -1090,6 +1178,31 @@ public:
         return found;
     }
 
+    // Returns the date-time of the first instant at which the clocks have reached a date, and the
+    // length of the day from there to the start of the next one.
+    ZonedDateTime start_of_day(Date date) const;
+    Duration day_length(Date date) const { return Duration(detail::value_or_throw(with(fots_zoned_day_length, date.c())).duration, {}); }
+
+    // Return the Unix times some days or months after Unix times, and of the starts of their days, by
+    // the clocks of the zone.
+    InstantColumn add_days(const std::vector<std::int64_t> &seconds, const std::vector<std::int32_t> &days, Policy policy = Policy::Compatible) const
+    {
+        return moved(fots_zoned_add_days, seconds, days, policy);
+    }
+    InstantColumn add_months(const std::vector<std::int64_t> &seconds, const std::vector<std::int32_t> &months, Policy policy = Policy::Compatible) const
+    {
+        return moved(fots_zoned_add_months, seconds, months, policy);
+    }
+    InstantColumn starts_of_day(const std::vector<std::int64_t> &seconds) const
+    {
+        InstantColumn found{std::vector<std::int64_t>(seconds.size()), std::vector<std::uint8_t>(seconds.size()), 0};
+        if (!seconds.empty()) {
+            found.errors = with(fots_zoned_starts_of_day, seconds.data(), seconds.size(), found.seconds.data(), found.seconds.size(),
+                found.statuses.data(), found.statuses.size());
+        }
+        return found;
+    }
+
     // Returns the struct of C, which uses the bytes of this zone.
     fots_zone c() const noexcept { return {reinterpret_cast<const std::uint8_t *>(bytes_.data()), bytes_.size(), parts_}; }
 
@@ -1097,6 +1210,21 @@ private:
     Zone(std::string bytes, const fots_zone_parts_result &found)
         : bytes_(std::move(bytes)), parts_(detail::parsed_or_throw(found).parts)
     {
+    }
+
+    // Returns the column of a call with as many steps as Unix times, or throws a std::invalid_argument.
+    template <class Call>
+    InstantColumn moved(Call call, const std::vector<std::int64_t> &seconds, const std::vector<std::int32_t> &steps, Policy policy) const
+    {
+        if (seconds.size() != steps.size()) {
+            throw std::invalid_argument("columns of different lengths");
+        }
+        InstantColumn found{std::vector<std::int64_t>(seconds.size()), std::vector<std::uint8_t>(seconds.size()), 0};
+        if (!seconds.empty()) {
+            found.errors = with(call, seconds.data(), seconds.size(), steps.data(), steps.size(), static_cast<std::uint32_t>(policy),
+                found.seconds.data(), found.seconds.size(), found.statuses.data(), found.statuses.size());
+        }
+        return found;
     }
 
     // Makes a call with the struct of C.
@@ -1132,6 +1260,94 @@ inline std::string OffsetDateTime::format(const Format &format, const Zone &zone
     return detail::written(
         [&](char *bytes, std::size_t length) { return fots_moment_format_in_zone(value_, &held, format.c(), bytes, length); });
 }
+
+// An instant in a time zone, with the date and the time of day that its clocks show then. It refers
+// to the zone, which must outlive it. Compares by instant, whatever the zones are.
+class ZonedDateTime : public detail::Ordered<ZonedDateTime> {
+public:
+    // Creates the date-time in a zone at the instant of another date-time.
+    ZonedDateTime(OffsetDateTime moment, const Zone &zone) : ZonedDateTime(moment.in_zone(zone).c(), &zone) {}
+    ZonedDateTime(OffsetDateTime, const Zone &&) = delete;
+
+    static ZonedDateTime from_unix_duration(Duration duration, const Zone &zone) { return from(&zone, fots_zoned_at, duration.c()); }
+    // Creates the date-time that a local one means in a zone, or throws FOTS_SKIPPED_TIME or
+    // FOTS_REPEATED_TIME by Policy::Reject.
+    static ZonedDateTime from_local(PlainDateTime local, const Zone &zone, Policy policy = Policy::Compatible)
+    {
+        return from(&zone, fots_zoned_from_local, local.date().c(), local.time().c(), static_cast<std::uint32_t>(policy));
+    }
+
+    const Zone &zone() const noexcept { return *zone_; }
+    Date date() const noexcept { return Date(value_.date, {}); }
+    Time time() const noexcept { return Time(value_.time, {}); }
+    UtcOffset offset() const noexcept { return UtcOffset(value_.offset, {}); }
+    PlainDateTime local() const { return {date(), time()}; }
+    OffsetDateTime to_offset_date_time() const noexcept { return OffsetDateTime(value_, {}); }
+    std::int64_t unix_timestamp() const { return to_offset_date_time().unix_timestamp(); }
+    Duration unix_duration() const { return to_offset_date_time().unix_duration(); }
+
+    // Returns the same instant in another zone.
+    ZonedDateTime in_zone(const Zone &zone) const { return {to_offset_date_time(), zone}; }
+    ZonedDateTime in_zone(const Zone &&) const = delete;
+
+    // Move to another local date-time, date or time of day. They keep the offset if the clocks show
+    // it then, and otherwise go by the policy.
+    ZonedDateTime with_local(PlainDateTime local, Policy policy = Policy::Compatible) const
+    {
+        return from(zone_, fots_zoned_with_local, value_, local.date().c(), local.time().c(), static_cast<std::uint32_t>(policy));
+    }
+    ZonedDateTime with_date(Date date, Policy policy = Policy::Compatible) const { return with_local({date, time()}, policy); }
+    ZonedDateTime with_time(Time time, Policy policy = Policy::Compatible) const { return with_local({date(), time}, policy); }
+
+    // Returns the date-time a period later: the date is moved, the time of day stays, by the policy
+    // on the new date, and then the duration moves the instant.
+    ZonedDateTime add_period(const Period &period, Policy policy = Policy::Compatible) const
+    {
+        return from(zone_, fots_zoned_add_period, value_, period.c(), static_cast<std::uint32_t>(policy));
+    }
+    friend ZonedDateTime operator+(const ZonedDateTime &one, const Period &period) { return one.add_period(period); }
+    // Durations move the instant.
+    friend ZonedDateTime operator+(const ZonedDateTime &one, Duration duration)
+    {
+        return from(one.zone_, fots_zoned_checked_add, one.value_, duration.c());
+    }
+    friend ZonedDateTime operator-(const ZonedDateTime &one, Duration duration)
+    {
+        return from(one.zone_, fots_zoned_checked_sub, one.value_, duration.c());
+    }
+    friend Duration operator-(const ZonedDateTime &one, const ZonedDateTime &other)
+    {
+        return one.to_offset_date_time() - other.to_offset_date_time();
+    }
+
+    // Return the start of the day, and its length.
+    ZonedDateTime start_of_day() const { return zone_->start_of_day(date()); }
+    Duration day_length() const { return zone_->day_length(date()); }
+
+    // Returns the text by a format, such as "03:00 CEST" by "%H:%M %Z".
+    std::string format(const Format &format) const { return to_offset_date_time().format(format, *zone_); }
+
+    fots_moment c() const noexcept { return value_; }
+    std::pair<std::int64_t, std::int32_t> key() const { return unix_duration().key(); }
+
+private:
+    friend class Zone;
+
+    ZonedDateTime(fots_moment value, const Zone *zone) noexcept : value_(value), zone_(zone) {}
+
+    // Makes a call with the struct of C.
+    template <class... Parameters, class... Arguments>
+    static ZonedDateTime from(const Zone *zone, fots_moment_result (*call)(const fots_zone *, Parameters...), Arguments... arguments)
+    {
+        const fots_zone held = zone->c();
+        return {detail::value_or_throw(call(&held, arguments...)).moment, zone};
+    }
+
+    fots_moment value_;
+    const Zone *zone_;
+};
+
+inline ZonedDateTime Zone::start_of_day(Date date) const { return ZonedDateTime::from(this, fots_zoned_start_of_day, date.c()); }
 
 // A recurrence with times of day, its start, other readings (RDATE) and readings to leave out
 // (EXDATE), at most FOTS_MAX_DATES each, in any order.

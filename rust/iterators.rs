@@ -1,10 +1,12 @@
 //! Promises of iterators.
 
+use crate::cal_schedule::Steps;
 use crate::cal_units::{Cycle, iter::CycleIter};
 use crate::iter::{DateIter, Rev};
 use core::iter::FusedIterator;
 
 impl ExactSizeIterator for DateIter {}
 impl FusedIterator for DateIter {}
+impl FusedIterator for Steps {}
 impl<C: Cycle> FusedIterator for CycleIter<C> {}
 impl<C: Cycle> FusedIterator for Rev<CycleIter<C>> {}

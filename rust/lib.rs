@@ -101,7 +101,9 @@ pub use cal_units::{Month, Weekday};
 pub use cal_zone::{Local, Policy, Zone};
 pub use cal_zoned::ZonedDateTime;
 pub use formats::FormatText;
-pub use schedule::{ByDay, Convention, DayCount, Frequency, Period, Rule, RuleDays, Workdays, YearFraction};
+pub use schedule::{
+    ByDay, CalendarUnit, Convention, DateRange, DayCount, Frequency, Period, Rule, RuleDays, Workdays, YearFraction,
+};
 pub use zone::{Gap, LocalType};
 
 /// Returns the version of the crate. `(0, 1, 0)` is 0.1.0.
@@ -163,7 +165,8 @@ pub mod recurrence {
 /// [`Date`].
 pub mod schedule {
     pub use crate::cal_schedule::{
-        ByDay, Convention, DayCount, Frequency, Pattern, Period, PeriodUnit, Rule, RuleDays, Values, Workdays, YearFraction,
+        ByDay, CalendarUnit, Convention, DateRange, DayCount, Frequency, Pattern, Period, PeriodUnit, Rule, RuleDays, Steps,
+        Values, Workdays, YearFraction,
     };
 }
 

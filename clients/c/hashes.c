@@ -81,6 +81,20 @@ static fots_duration any_fots_duration(void)
     return duration;
 }
 
+/* Mostly parts of one sign, and no duration in half of the draws. */
+static fots_period any_fots_period(void)
+{
+    fots_period period;
+    const int64_t least = one_of(2) ? 0 : -400, most = least == 0 || one_of(8) ? 400 : 0;
+    period.years = (int32_t)number(least, most);
+    period.months = (int32_t)number(least, most);
+    period.weeks = (int32_t)number(least, most);
+    period.days = (int32_t)number(least, most);
+    period.duration.seconds = one_of(2) ? 0 : 3600 * number(least, most);
+    period.duration.nanoseconds = 0;
+    return period;
+}
+
 static fots_moment any_fots_moment(void)
 {
     fots_moment moment;
@@ -210,6 +224,13 @@ static fots_date any_reading(const fots_zone *zone)
     seconds = seconds % 100000000000 + fots_zone_offset(zone, seconds).offset.seconds + (one_of(2) ? 0 : number(-7200, 7200) % 100000);
     reading = fots_moment_from_unix_timestamp(seconds).moment;
     return reading.date;
+}
+
+/* Draws a moment in the zone, or one with another offset. */
+static fots_moment any_zoned(const fots_zone *zone)
+{
+    const fots_moment moment = fots_moment_from_unix_timestamp(any_instant(zone)).moment;
+    return one_of(16) ? any_fots_moment() : fots_moment_in_zone(moment, zone).moment;
 }
 
 /* ---- lists */

@@ -55,6 +55,22 @@ static void months(void)
     check(fots_date_months_until(day(2023, 1, 31), day(2023, 2, 28)).number == 1, "months to 28 February", 0, 0);
     const fots_period_result period = fots_date_period_until(day(2023, 1, 31), day(2024, 3, 2));
     check(period.status == FOTS_OK && period.years == 1 && period.months == 1 && period.days == 2, "a year, a month and 2 days", period.months, period.days);
+    const int32_t by_unit[5][4] = {{0, 0, 0, 396}, {0, 0, 56, 4}, {0, 13, 0, 2}, {0, 13, 0, 2}, {1, 1, 0, 2}};
+    for (uint32_t unit = FOTS_DAY; unit <= FOTS_YEAR; unit++) {
+        const fots_period_result found = fots_date_period_until_by(day(2000, 1, 31), day(2001, 3, 2), unit);
+        const int32_t *wanted = by_unit[unit - 1];
+        check(found.status == FOTS_OK && found.years == wanted[0] && found.months == wanted[1] && found.weeks == wanted[2] && found.days == wanted[3],
+            "a period by a unit", (int32_t)unit, found.days);
+    }
+    const fots_period month = {0, 1, 0, 0, {0, 0}}, hour = {0, 1, 0, 0, {3600, 0}}, none = {0, 0, 0, 0, {0, 0}};
+    const fots_date last = day(2000, 1, 31);
+    check(fots_date_step_of(last, month, day(2000, 2, 28)).number == 0, "the step of 28 February", 0, 0);
+    check(fots_date_step_of(last, month, day(2000, 2, 29)).number == 1, "the step of 29 February", 0, 0);
+    check(fots_date_step_of(last, month, day(2000, 3, 30)).number == 1, "the step of 30 March", 0, 0);
+    check(fots_date_step_of(last, month, day(2000, 3, 31)).number == 2, "the step of 31 March", 0, 0);
+    check(fots_date_step_of(last, month, day(2000, 1, 30)).status == FOTS_RESULT_OUT_OF_RANGE, "the step of a date before the start", 0, 0);
+    check(fots_date_step_of(last, hour, last).status == FOTS_RESULT_OUT_OF_RANGE, "the step of a period with a duration", 0, 0);
+    check(fots_date_step_of(last, none, last).status == FOTS_RESULT_OUT_OF_RANGE, "the step of an empty period", 0, 0);
 }
 
 static void ends(void)

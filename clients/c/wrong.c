@@ -229,6 +229,12 @@ static void months(int32_t julian_day, uint32_t number, int32_t count)
     status_is(with_other, period.status, period.days != FOTS_NO_VALUE, "period_until", julian_day, period.days);
     status_is(first_of(with_other, count >= 1 && count <= 5 ? FOTS_OK : FOTS_INVALID_CONVENTION), fraction.status,
         fraction.denominator != 0, "day_count", julian_day, count);
+    fots_period_result by_unit = fots_date_period_until_by(date, other, (uint32_t)count);
+    status_is(first_of(with_other, count >= 1 && count <= 5 ? FOTS_OK : FOTS_INVALID_UNIT), by_unit.status, by_unit.days != FOTS_NO_VALUE,
+        "period_until_by", julian_day, count);
+    fots_period step = {0, 1, 0, count < 0 ? -1 : 0, {0, 0}};
+    int32_t no_period = first_of(wrong, count < 0 ? FOTS_INVALID_PERIOD : FOTS_OK);
+    NUMBER(first_of(no_period, of_date(other)), fots_date_step_of(date, step, other), julian_day);
     NUMBER(with_other, fots_date_months_until(date, other), julian_day);
     NUMBER(with_other, fots_date_years_until(date, other), julian_day);
     DATE(wrong, fots_date_add_months(date, count));

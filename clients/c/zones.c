@@ -132,8 +132,10 @@ static void is_rejected(const fots_zone *zone, long long which)
     char text[16];
     const fots_date no_day = {FOTS_NO_VALUE};
     const fots_moment no_moment = {{FOTS_NO_VALUE}, {0}, 0};
+    const fots_duration no_duration = {1, -1};
+    const fots_period no_period = {1, -1, 0, 0, no_duration};
     int64_t second = 0;
-    int32_t offset;
+    int32_t offset = 0;
     uint8_t status;
     check(fots_zone_offset(zone, 0).status == FOTS_INVALID_ZONE && fots_zone_offset(zone, 0).offset.seconds == FOTS_NO_VALUE, "offset", which, 0);
     check(fots_zone_local_type(zone, 0).status == FOTS_INVALID_ZONE, "local type", which, 0);
@@ -146,6 +148,17 @@ static void is_rejected(const fots_zone *zone, long long which)
     check(print(zone, 0, "%Z", text, sizeof text).status == FOTS_INVALID_ZONE && text[0] == '~', "a text", which, 0);
     check(fots_zone_offsets(zone, &second, 1, &offset, 1, &status, 1) == 1 && status == FOTS_INVALID_ZONE, "offsets", which, offset);
     check(fots_zone_instants(zone, &second, 1, 4, &second, 1, &status, 1) == 1 && status == FOTS_INVALID_ZONE, "instants", which, second);
+    check(fots_zoned_at(zone, no_duration).status == FOTS_INVALID_ZONE, "at an instant", which, 0);
+    check(fots_zoned_from_local(zone, no_day, 0, 4).status == FOTS_INVALID_ZONE, "from a local date-time", which, 0);
+    check(fots_zoned_with_local(zone, no_moment, no_day, 0, 4).status == FOTS_INVALID_ZONE, "with a local date-time", which, 0);
+    check(fots_zoned_checked_add(zone, no_moment, no_duration).status == FOTS_INVALID_ZONE, "a duration later", which, 0);
+    check(fots_zoned_checked_sub(zone, no_moment, no_duration).status == FOTS_INVALID_ZONE, "a duration earlier", which, 0);
+    check(fots_zoned_add_period(zone, no_moment, no_period, 4).status == FOTS_INVALID_ZONE, "a period later", which, 0);
+    check(fots_zoned_start_of_day(zone, no_day).status == FOTS_INVALID_ZONE, "start of a day", which, 0);
+    check(fots_zoned_day_length(zone, no_day).status == FOTS_INVALID_ZONE, "length of a day", which, 0);
+    check(fots_zoned_add_days(zone, &second, 1, &offset, 1, 4, &second, 1, &status, 1) == 1 && status == FOTS_INVALID_ZONE, "days", which, second);
+    check(fots_zoned_add_months(zone, &second, 1, &offset, 1, 4, &second, 1, &status, 1) == 1 && status == FOTS_INVALID_ZONE, "months", which, second);
+    check(fots_zoned_starts_of_day(zone, &second, 1, &second, 1, &status, 1) == 1 && status == FOTS_INVALID_ZONE, "starts of days", which, second);
 }
 
 static void is_error(const char *text, int32_t status, size_t position)
@@ -250,6 +263,22 @@ static void is_safe(const fots_zone *zone)
     print(zone, 1711846800, "%T %Z", text, sizeof text);
     fots_zone_offsets(zone, seconds, 4, offsets, 4, statuses, 4);
     fots_zone_instants(zone, seconds, 4, FOTS_LATER, found, 4, statuses, 4);
+    for (row = 0; row < 4; row++) {
+        const fots_duration time = {seconds[row], 0};
+        const fots_period step = {0, 1, 0, 1, {3600, 0}};
+        const fots_moment_result from = fots_zoned_at(zone, time);
+        offsets[row] = row;
+        fots_zoned_from_local(zone, day(2024, 10, 27), half_past(2), (uint32_t)row);
+        fots_zoned_with_local(zone, from.moment, day(2024, 3, 31), half_past(2), (uint32_t)row);
+        fots_zoned_checked_add(zone, from.moment, time);
+        fots_zoned_checked_sub(zone, from.moment, time);
+        fots_zoned_add_period(zone, from.moment, step, (uint32_t)row);
+        fots_zoned_day_length(zone, from.moment.date);
+    }
+    fots_zoned_start_of_day(zone, day(2024, 3, 31));
+    fots_zoned_add_days(zone, seconds, 4, offsets, 4, FOTS_LATER, found, 4, statuses, 4);
+    fots_zoned_add_months(zone, seconds, 4, offsets, 4, FOTS_EARLIER, found, 4, statuses, 4);
+    fots_zoned_starts_of_day(zone, seconds, 4, found, 4, statuses, 4);
 }
 
 /* Changes each byte of a struct. */
@@ -328,6 +357,171 @@ static void against_localtime(const char *name, size_t length)
     }
 }
 
+/* ---- date-times in a zone */
+
+static fots_moment moment(fots_date date, uint32_t hour, uint32_t minute, int32_t hours)
+{
+    const fots_moment made = {date, {hours * 3600}, fots_time_from_hms_nano(hour, minute, 0, 0).time};
+    return made;
+}
+
+static void is_moment(fots_moment_result found, fots_moment wanted, const char *what)
+{
+    check(found.status == FOTS_OK && found.moment.date.julian_day == wanted.date.julian_day && found.moment.time == wanted.time
+        && found.moment.offset.seconds == wanted.offset.seconds, what, found.status, found.moment.offset.seconds);
+}
+
+static void is_not_moment(fots_moment_result found, int32_t status, const char *what)
+{
+    check(found.status == status && found.moment.date.julian_day == FOTS_NO_VALUE && found.moment.time == FOTS_NO_TIME, what, found.status, status);
+}
+
+static fots_period period(int32_t years, int32_t months, int32_t weeks, int32_t days, int64_t seconds)
+{
+    const fots_period made = {years, months, weeks, days, {seconds, 0}};
+    return made;
+}
+
+/* By the rules of RFC 9557 and Temporal for gaps and folds, which have examples in Berlin. */
+static void moves(void)
+{
+    const fots_zone berlin = posix(CET), azores = posix("<-01>1<+00>,M3.5.0/0,M10.5.0/1");
+    const fots_date skipping = day(2024, 3, 31), repeating = day(2024, 10, 27);
+    const fots_moment winter = moment(day(2024, 3, 30), 2, 30, 1), second = moment(repeating, 2, 30, 1);
+    const fots_duration start = {1711846800, 0}, hour = {3600, 0};
+    is_moment(fots_zoned_at(&berlin, start), moment(skipping, 3, 0, 2), "at an instant");
+    is_moment(fots_zoned_from_local(&berlin, skipping, half_past(2), FOTS_COMPATIBLE), moment(skipping, 3, 30, 2), "a gap");
+    is_moment(fots_zoned_from_local(&berlin, skipping, half_past(2), FOTS_EARLIER), moment(skipping, 1, 30, 1), "a gap, earlier");
+    is_moment(fots_zoned_from_local(&berlin, repeating, half_past(2), FOTS_LATER), second, "a fold, later");
+    is_moment(fots_zoned_with_local(&berlin, second, repeating, half_past(2) + UINT64_C(900000000000), FOTS_EARLIER), moment(repeating, 2, 45, 1), "the same half of a fold");
+    is_moment(fots_zoned_with_local(&berlin, winter, repeating, half_past(2), FOTS_COMPATIBLE), second, "at the own offset");
+    is_moment(fots_zoned_with_local(&berlin, winter, skipping, half_past(2), FOTS_COMPATIBLE), moment(skipping, 3, 30, 2), "not at the own offset");
+    is_moment(fots_zoned_checked_add(&berlin, moment(skipping, 1, 30, 1), hour), moment(skipping, 3, 30, 2), "an hour later");
+    is_moment(fots_zoned_checked_sub(&berlin, moment(skipping, 3, 30, 2), hour), moment(skipping, 1, 30, 1), "an hour earlier");
+    is_moment(fots_zoned_add_period(&berlin, winter, period(0, 0, 0, 1, 0), FOTS_COMPATIBLE), moment(skipping, 3, 30, 2), "a day later");
+    is_moment(fots_zoned_add_period(&berlin, moment(day(2024, 1, 31), 2, 30, 1), period(0, 1, 0, 31, 0), FOTS_COMPATIBLE), moment(skipping, 3, 30, 2), "a month, and then 31 days");
+    is_moment(fots_zoned_add_period(&berlin, winter, period(0, 0, 0, 2, 3600), FOTS_REJECT), moment(day(2024, 4, 1), 3, 30, 2), "two days and an hour later");
+    is_moment(fots_zoned_add_period(&berlin, second, period(0, 0, 0, 0, 0), FOTS_EARLIER), second, "a period of nothing");
+    is_moment(fots_zoned_start_of_day(&berlin, skipping), moment(skipping, 0, 0, 1), "the start of a day");
+    is_moment(fots_zoned_start_of_day(&azores, skipping), moment(skipping, 1, 0, 0), "a midnight that is skipped");
+    check(fots_zoned_day_length(&berlin, skipping).duration.seconds == 23 * 3600, "23 hours", 0, 0);
+    check(fots_zoned_day_length(&berlin, repeating).duration.seconds == 25 * 3600, "25 hours", 0, 0);
+    check(fots_zoned_day_length(&azores, skipping).duration.seconds == 23 * 3600, "23 hours from 1:00", 0, 0);
+}
+
+static void periods(void)
+{
+    const fots_date january = day(2024, 1, 31);
+    const fots_period month = period(0, 1, 0, 0, 0);
+    const fots_pair_result pair = fots_pair_add_period(january, half_past(23), period(0, 1, 0, 0, 7200));
+    check(fots_date_add_period(january, month).date.julian_day == day(2024, 2, 29).julian_day, "a month", 0, 0);
+    check(fots_date_add_period(january, period(1, 1, 1, 1, 0)).date.julian_day == day(2025, 3, 8).julian_day, "each part", 0, 0);
+    check(fots_date_nth_period(january, month, 2).date.julian_day == day(2024, 3, 31).julian_day, "two months without a drift", 0, 0);
+    check(fots_date_nth_period(january, month, -2).date.julian_day == day(2023, 11, 30).julian_day, "two months back", 0, 0);
+    check(pair.date.julian_day == day(2024, 3, 1).julian_day && pair.time == half_past(1), "a month and two hours", pair.status, 0);
+}
+
+static void wrong_moves(void)
+{
+    const fots_zone berlin = posix(CET);
+    const fots_date date = day(2024, 3, 30), none = {FOTS_NO_VALUE}, last = {FOTS_MAX_JULIAN_DAY}, skipping = day(2024, 3, 31);
+    const fots_moment right = moment(date, 2, 30, 1), wrong = moment(date, 2, 30, 2), invalid = moment(none, 0, 0, 1);
+    const fots_moment in_gap = moment(skipping, 2, 30, 1);
+    const fots_duration hour = {3600, 0}, two_signs = {1, -1}, longest = {INT64_MAX, 0};
+    const fots_period mixed = period(1, -1, 0, 0, 0), exact = period(0, 0, 0, 1, 1), day_later = period(0, 0, 0, 1, 0);
+    fots_period bad = day_later;
+    bad.duration = two_signs;
+    is_not_moment(fots_zoned_at(&berlin, two_signs), FOTS_INVALID_DURATION, "at no duration");
+    is_not_moment(fots_zoned_at(&berlin, longest), FOTS_RESULT_OUT_OF_RANGE, "at an instant past the range");
+    is_not_moment(fots_zoned_from_local(&berlin, none, 0, 0), FOTS_INVALID_DATE, "from no date");
+    is_not_moment(fots_zoned_from_local(&berlin, date, FOTS_NO_TIME, 0), FOTS_INVALID_TIME, "from no time");
+    is_not_moment(fots_zoned_from_local(&berlin, date, 0, 4), FOTS_INVALID_POLICY, "by no policy");
+    is_not_moment(fots_zoned_from_local(&berlin, skipping, half_past(2), FOTS_REJECT), FOTS_SKIPPED_TIME, "a gap, rejected");
+    is_not_moment(fots_zoned_from_local(&berlin, day(2024, 10, 27), half_past(2), FOTS_REJECT), FOTS_REPEATED_TIME, "a fold, rejected");
+    is_not_moment(fots_zoned_with_local(&berlin, invalid, date, 0, 0), FOTS_INVALID_MOMENT, "of no moment");
+    is_not_moment(fots_zoned_with_local(&berlin, wrong, none, 0, 0), FOTS_WRONG_OFFSET, "of a moment with another offset");
+    is_not_moment(fots_zoned_with_local(&berlin, in_gap, none, 0, 0), FOTS_WRONG_OFFSET, "of a moment in a gap");
+    is_not_moment(fots_zoned_with_local(&berlin, right, none, FOTS_NO_TIME, 4), FOTS_INVALID_DATE, "to no date");
+    is_not_moment(fots_zoned_with_local(&berlin, right, date, FOTS_NO_TIME, 4), FOTS_INVALID_TIME, "to no time");
+    is_not_moment(fots_zoned_with_local(&berlin, right, date, 0, 4), FOTS_INVALID_POLICY, "to a date by no policy");
+    is_not_moment(fots_zoned_checked_add(&berlin, invalid, hour), FOTS_INVALID_MOMENT, "an hour after no moment");
+    is_not_moment(fots_zoned_checked_add(&berlin, wrong, two_signs), FOTS_WRONG_OFFSET, "after another offset");
+    is_not_moment(fots_zoned_checked_add(&berlin, right, two_signs), FOTS_INVALID_DURATION, "no duration later");
+    is_not_moment(fots_zoned_checked_add(&berlin, right, longest), FOTS_RESULT_OUT_OF_RANGE, "past the range");
+    is_not_moment(fots_zoned_checked_sub(&berlin, invalid, hour), FOTS_INVALID_MOMENT, "an hour before no moment");
+    is_not_moment(fots_zoned_checked_sub(&berlin, wrong, two_signs), FOTS_WRONG_OFFSET, "before another offset");
+    is_not_moment(fots_zoned_checked_sub(&berlin, right, two_signs), FOTS_INVALID_DURATION, "no duration earlier");
+    is_not_moment(fots_zoned_checked_sub(&berlin, right, longest), FOTS_RESULT_OUT_OF_RANGE, "before the range");
+    is_not_moment(fots_zoned_add_period(&berlin, invalid, mixed, 4), FOTS_INVALID_MOMENT, "a period after no moment");
+    is_not_moment(fots_zoned_add_period(&berlin, wrong, mixed, 4), FOTS_WRONG_OFFSET, "a period after another offset");
+    is_not_moment(fots_zoned_add_period(&berlin, right, mixed, 4), FOTS_INVALID_PERIOD, "a period of two signs");
+    is_not_moment(fots_zoned_add_period(&berlin, right, bad, 4), FOTS_INVALID_PERIOD, "a period with no duration");
+    is_not_moment(fots_zoned_add_period(&berlin, right, day_later, 4), FOTS_INVALID_POLICY, "a period by no policy");
+    is_not_moment(fots_zoned_add_period(&berlin, right, day_later, FOTS_REJECT), FOTS_SKIPPED_TIME, "a period into a gap");
+    is_not_moment(fots_zoned_add_period(&berlin, right, period(INT32_MAX, 0, 0, 0, 0), 0), FOTS_RESULT_OUT_OF_RANGE, "a period past the range");
+    is_not_moment(fots_zoned_start_of_day(&berlin, none), FOTS_INVALID_DATE, "the start of no day");
+    check(fots_zoned_day_length(&berlin, none).status == FOTS_INVALID_DATE, "the length of no day", 0, 0);
+    check(fots_zoned_day_length(&berlin, last).status == FOTS_RESULT_OUT_OF_RANGE, "the length of the last day", 0, 0);
+    check(fots_date_add_period(none, mixed).status == FOTS_INVALID_DATE, "after no date", 0, 0);
+    check(fots_date_add_period(date, mixed).status == FOTS_INVALID_PERIOD, "two signs", 0, 0);
+    check(fots_date_add_period(date, exact).status == FOTS_PERIOD_HAS_DURATION, "a date plus a second", 0, 0);
+    check(fots_date_add_period(last, day_later).status == FOTS_RESULT_OUT_OF_RANGE, "after the last date", 0, 0);
+    check(fots_date_nth_period(none, day_later, 0).status == FOTS_INVALID_DATE, "no date", 0, 0);
+    check(fots_date_nth_period(date, day_later, INT32_MIN).status == FOTS_RESULT_OUT_OF_RANGE, "before the first date", 0, 0);
+    check(fots_pair_add_period(none, 0, mixed).status == FOTS_INVALID_DATE, "a pair of no date", 0, 0);
+    check(fots_pair_add_period(date, FOTS_NO_TIME, mixed).status == FOTS_INVALID_TIME, "a pair of no time", 0, 0);
+    check(fots_pair_add_period(date, 0, mixed).status == FOTS_INVALID_PERIOD, "a pair and two signs", 0, 0);
+    check(fots_pair_add_period(last, 0, exact).status == FOTS_RESULT_OUT_OF_RANGE, "a pair past the range", 0, 0);
+}
+
+/* Each row of a column is the result of the single calls. */
+static void moved_columns(const fots_zone *zone)
+{
+    enum { ROWS_OF_COLUMN = 4096 };
+    static int64_t seconds[ROWS_OF_COLUMN], moved[ROWS_OF_COLUMN], starts[ROWS_OF_COLUMN];
+    static int32_t steps[ROWS_OF_COLUMN];
+    static uint8_t statuses[ROWS_OF_COLUMN], start_statuses[ROWS_OF_COLUMN];
+    uint64_t state = 88172645463325252ULL;
+    for (int k = 0; k < ROWS_OF_COLUMN; k++) {
+        state ^= state << 13;
+        state ^= state >> 7;
+        state ^= state << 17;
+        const fots_int64_result change = fots_zone_next_change(zone, (int64_t)(state % 4000000000ULL));
+        seconds[k] = (change.status == FOTS_OK ? change.number : 0) + (int64_t)(state >> 40) % 200000 - 100000;
+        steps[k] = (int32_t)(state >> 20) % 50 - 25;
+    }
+    seconds[0] = INT64_MIN;
+    seconds[1] = INT64_MAX;
+    steps[2] = INT32_MAX;
+    for (uint32_t policy = 0; policy <= 4; policy++) {
+        for (int months = 0; months < 2; months++) {
+            size_t errors = 0;
+            const size_t found = (months ? fots_zoned_add_months : fots_zoned_add_days)(zone, seconds, ROWS_OF_COLUMN, steps, ROWS_OF_COLUMN, policy, moved,
+                ROWS_OF_COLUMN, statuses, ROWS_OF_COLUMN);
+            for (int k = 0; k < ROWS_OF_COLUMN; k++) {
+                const fots_duration time = {seconds[k], 0};
+                const fots_moment_result from = fots_zoned_at(zone, time);
+                const fots_moment_result one = fots_zoned_add_period(zone, from.moment, months ? period(0, steps[k], 0, 0, 0) : period(0, 0, 0, steps[k], 0), policy);
+                const int32_t status = policy > 3 ? FOTS_INVALID_POLICY : from.status ? from.status : one.status;
+                check(statuses[k] == status && moved[k] == (status ? INT64_MIN : fots_moment_unix_timestamp(one.moment).number), "a moved row", k, statuses[k]);
+                errors += status != FOTS_OK;
+            }
+            check(found == errors, "the errors of a column", (long long)found, (long long)errors);
+        }
+    }
+    fots_zoned_starts_of_day(zone, seconds, ROWS_OF_COLUMN, starts, ROWS_OF_COLUMN, start_statuses, ROWS_OF_COLUMN);
+    for (int k = 0; k < ROWS_OF_COLUMN; k++) {
+        const fots_duration time = {seconds[k], 0};
+        const fots_moment_result from = fots_zoned_at(zone, time), one = fots_zoned_start_of_day(zone, from.moment.date);
+        const int32_t status = from.status ? from.status : one.status;
+        check(start_statuses[k] == status && starts[k] == (status ? INT64_MIN : fots_moment_unix_timestamp(one.moment).number), "a start of a day", k, status);
+        check(status || starts[k] <= seconds[k], "a start after its day", k, starts[k]);
+    }
+    check(fots_zoned_add_days(zone, seconds, 2, steps, 1, 0, moved, 2, statuses, 2) == SIZE_MAX, "unequal lengths", 0, 0);
+    check(fots_zoned_add_months(zone, seconds, 2, steps, 2, 0, moved, 1, statuses, 2) == SIZE_MAX, "unequal lengths", 0, 0);
+    check(fots_zoned_starts_of_day(zone, seconds, 2, starts, 2, statuses, 1) == SIZE_MAX, "unequal lengths", 0, 0);
+}
+
 int main(int count, char **arguments)
 {
     instants();
@@ -336,12 +530,17 @@ int main(int count, char **arguments)
     errors();
     lenient();
     equal_bytes();
+    moves();
+    periods();
+    wrong_moves();
     const fots_zone berlin = posix(CET);
+    moved_columns(&berlin);
     instants_in_place(&berlin);
     hostile_struct(&berlin);
     if (count > 1) {
         const size_t length = read_file(arguments[1]);
         const fots_zone zone = fots_zone_from_file(bytes, length).zone;
+        moved_columns(&zone);
         hostile_struct(&zone);
         hostile(length);
         against_localtime(arguments[1], length);

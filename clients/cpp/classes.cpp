@@ -178,7 +178,7 @@ void schedule()
     check(Date::max().checked_add_months(1) == std::nullopt && Date::max().saturating_add_months(1) == Date::max(), "past the last month");
     const Date born = Date::parse("1980-06-01");
     check(born.years_until(Date::parse("2024-05-31")) == 43 && born.years_until(Date::parse("2024-06-01")) == 44, "an age");
-    check(end.months_until(leap) == 1 && end.period_until(Date::parse("2025-03-02")) == Period{1, 1, 2}, "months, and a period");
+    check(end.months_until(leap) == 1 && end.period_until(Date::parse("2025-03-02")) == Period(1, 1, 0, 2), "months, and a period");
     check(leap.first_of_month() == Date::parse("2024-02-01") && leap.last_of_month() == leap, "the ends of the month");
     check(leap.first_of_quarter() == Date::parse("2024-01-01") && leap.last_of_quarter() == Date::parse("2024-03-31")
         && leap.quarter() == 1, "the quarter");
@@ -366,7 +366,77 @@ void zones()
     check(rejected.statuses == std::vector<std::uint8_t>{FOTS_SKIPPED_TIME, FOTS_REPEATED_TIME, FOTS_OK} && rejected.errors == 2, "rejected");
     check(rejected.seconds[2] == 1719793800 && berlin.instants({}).errors == 0, "the others");
     throws([] { Zone::from_posix("CET"); }, FOTS_INVALID_POSIX_OFFSET, "invalid POSIX offset at 3", "no offset");
-    throws([] { Zone::from_file("TZif"); }, FOTS_UNEXPECTED_END, "unexpected end at 4", "no header");
+    throws([] { Zone::from_bytes("TZif"); }, FOTS_UNEXPECTED_END, "unexpected end at 4", "no header");
+}
+
+// The instants are those of GNU date, and the moves those of Temporal.
+void zoned()
+{
+    const Zone berlin = Zone::from_posix("CET-1CEST,M3.5.0,M10.5.0/3"), utc = Zone::from_posix("UTC0");
+    const Date skipping = Date::parse("2024-03-31"), repeating = Date::parse("2024-10-27");
+    const PlainDateTime in_gap(skipping, Time::from_hms(2, 30, 0)), in_fold(repeating, Time::from_hms(2, 30, 0));
+    const ZonedDateTime start(OffsetDateTime::from_unix_timestamp(1711846800), berlin);
+    check(start.date() == skipping && start.time() == Time::from_hms(3, 0, 0) && start.offset() == UtcOffset::from_hms(2, 0, 0), "the parts");
+    check(ZonedDateTime::from_unix_duration(Duration::seconds(1711846800), berlin) == start && &start.zone() == &berlin, "at an instant");
+    check(start.unix_timestamp() == 1711846800 && start.in_zone(utc) == start && start.in_zone(utc).time() == Time::from_hms(1, 0, 0), "another zone");
+    check(ZonedDateTime::from_local(in_gap, berlin).time() == Time::from_hms(3, 30, 0), "in a gap");
+    throws([&] { ZonedDateTime::from_local(in_gap, berlin, Policy::Reject); }, FOTS_SKIPPED_TIME, "skipped time", "rejected");
+    const ZonedDateTime second = ZonedDateTime::from_local(in_fold, berlin, Policy::Later);
+    check(second.unix_timestamp() == 1729992600 && second.with_time(Time::from_hms(2, 45, 0)) - second == Duration::minutes(15), "in a fold");
+    check(start - Duration::minutes(30) < start && (start - Duration::minutes(30)).time() == Time::from_hms(1, 30, 0), "half an hour earlier");
+    check((start + Duration::days(1)).time() == Time::from_hms(3, 0, 0), "24 hours later");
+    check((second + Period::from_days(-210)).local() == PlainDateTime(skipping, Time::from_hms(3, 30, 0)), "210 days earlier, in a gap");
+    check((second + Period(0, 1, 0, 1, Duration::hours(1))).local() == PlainDateTime(Date::parse("2024-11-28"), Time::from_hms(3, 30, 0)), "each part");
+    check(second.with_date(skipping).time() == Time::from_hms(3, 30, 0) && second.with_local(in_fold) == second, "another date");
+    check(start.start_of_day().unix_timestamp() == 1711839600 && start.day_length() == Duration::hours(23), "a day of 23 hours");
+    check(berlin.day_length(repeating) == Duration::hours(25) && berlin.start_of_day(repeating).local().time() == Time(0), "a day of 25 hours");
+    check(start.format(Format("%H:%M %Z")) == "03:00 CEST" && start.to_offset_date_time().local() == start.local(), "a text");
+    const InstantColumn days = berlin.add_days({1711846800, 1711760400}, {1, 1}), months = berlin.add_months({1711846800}, {1});
+    check(days.seconds == std::vector<std::int64_t>{1711933200, 1711846800} && days.errors == 0, "a column of days");
+    check(months.seconds == std::vector<std::int64_t>{1714438800} && berlin.starts_of_day({1711846800}).seconds[0] == 1711839600, "columns");
+    check(berlin.add_days({}, {}).errors == 0 && berlin.starts_of_day({}).errors == 0, "no rows");
+}
+
+void periods()
+{
+    const Date january = Date::parse("2024-01-31");
+    const Period month = Period::from_months(1), day = Period::from_days(1), all(1, 2, 3, 4, Duration::hours(5));
+    check(january.checked_add_period(month) == Date::parse("2024-02-29") && january.nth_period(month, 2) == Date::parse("2024-03-31"), "months");
+    check(Date::max().checked_add_period(day) == std::nullopt && january.checked_add_period(Period::from_weeks(1)) == Date::parse("2024-02-07"), "weeks");
+    check(all.years() == 1 && all.months() == 2 && all.weeks() == 3 && all.days() == 4 && all.duration() == Duration::hours(5), "the parts");
+    check(month == Period(0, 1, 0, 0) && month != day && Period::from_years(1) != Period::from_months(12), "equality");
+    const PlainDateTime night(january, Time::from_hms(23, 30, 0));
+    check(night.checked_add_period(Period(0, 1, 0, 0, Duration::hours(2))) == PlainDateTime(Date::parse("2024-03-01"), Time::from_hms(1, 30, 0)), "a pair");
+    throws([] { Period(1, -1, 0, 0); }, FOTS_INVALID_PERIOD, "invalid period", "two signs");
+    throws([&] { january.checked_add_period(Period::from_duration(Duration::hours(1))); }, FOTS_PERIOD_HAS_DURATION, "period has a duration", "a date and a duration");
+}
+
+// Zones by name, if the system has files.
+void named_zones()
+{
+    const auto is_invalid = [](const char *name) {
+        try {
+            Zone::named(name);
+        } catch (const std::invalid_argument &) {
+            return true;
+        }
+        return false;
+    };
+    const auto is_unread = [](const char *path) {
+        try {
+            Zone::from_file(path);
+        } catch (const std::system_error &) {
+            return true;
+        }
+        return false;
+    };
+    check(is_invalid("") && is_invalid("/etc/passwd") && is_invalid("../zone") && is_invalid("Europe/B\xe9rlin") && is_invalid("+1"), "invalid names");
+    check(is_unread("/nowhere") && is_unread("/") && is_unread("/dev/null"), "not regular files");
+    if (std::filesystem::exists("/usr/share/zoneinfo/Europe/Berlin") && !std::getenv("TZDIR")) {
+        const Zone &berlin = Zone::named("Europe/Berlin");
+        check(berlin.offset_at(1711846800) == UtcOffset::from_hms(2, 0, 0) && &berlin == &Zone::named("Europe/Berlin"), "a zone by name");
+        check(Zone::from_file("/usr/share/zoneinfo/Europe/Berlin").next_change(1700000000) == 1711846800, "a zone of a file");
+    }
 }
 
 void formats()
@@ -455,6 +525,9 @@ int main()
     recurrences();
     plain_moments();
     zones();
+    zoned();
+    periods();
+    named_zones();
     times_of_day();
     formats();
 #if __cplusplus >= 202002L

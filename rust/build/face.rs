@@ -125,7 +125,7 @@ const DERIVES: &[(&str, &[&str], &[&str])] = &[
     ("cal_zone", &["Gap", "Layout", "Local", "Rule", "Yearly"], &["Debug", "PartialEq", "Eq"]),
     ("cal_zone", &["Policy"], &["Hash"]),
     ("cal_zoned", &["ZonedDateTime"], &["Copy", "Debug"]),
-    ("cal_schedule", &["Period"], &["Hash"]),
+    ("cal_schedule", &["Period", "DateRange"], &["Hash"]),
 ];
 
 /// Derives traits. A type that the kit drops can be cloned in Rust, unless it has a clone of its

@@ -19,6 +19,9 @@ const METHODS: &[(&str, &str, &[&str])] = &[
             "months_until",
             "years_until",
             "period_until",
+            "period_until_by",
+            "first_of",
+            "last_of",
             "first_of_month",
             "last_of_month",
             "first_of_quarter",
@@ -35,10 +38,11 @@ const METHODS: &[(&str, &str, &[&str])] = &[
             "last_weekday_of_month",
             "checked_add_period",
             "nth_period",
+            "step_of",
         ],
     ),
     ("cal_zone", "OffsetDateTime", &["in_zone"]),
-    ("cal_zoned", "PlainDateTime", &["checked_add_period"]),
+    ("cal_zoned", "PlainDateTime", &["checked_add_period", "period_until"]),
 ];
 
 /// Makes links to functions that are methods in Rust links to these.

@@ -10,7 +10,7 @@ use std::path::{Path, PathBuf};
 use std::process::ExitCode;
 
 /// The libraries, as modules of the crate.
-const CRATES: [&str; 13] = [
+const CRATES: [&str; 14] = [
     "cal_units",
     "cal_span",
     "cal_clock",
@@ -22,6 +22,7 @@ const CRATES: [&str; 13] = [
     "cal_format",
     "cal_zone",
     "cal_tzif",
+    "cal_zoned",
     "cal_recurrence",
     "cal_c",
 ];

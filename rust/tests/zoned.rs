@@ -3,7 +3,8 @@
 use fotsevindre::error::{LocalTimeError, PeriodError};
 use fotsevindre::zone::start_of_day;
 use fotsevindre::{
-    Date, Month, OffsetDateTime, Period, PlainDateTime, Policy, SignedDuration, Time, UtcOffset, Zone, ZonedDateTime,
+    CalendarUnit, Date, Month, OffsetDateTime, Period, PlainDateTime, Policy, SignedDuration, Time, UtcOffset, Weekday, Workdays,
+    Zone, ZonedDateTime,
 };
 
 const CET: &str = "CET-1CEST,M3.5.0,M10.5.0/3";
@@ -49,6 +50,65 @@ fn local_date_times_by_policy() {
             let found = ZonedDateTime::from_local(reading(text), &berlin, policy);
             assert_eq!(shown(found), wanted.map(String::from), "{text} by {policy:?}");
         }
+    }
+}
+
+#[test]
+fn moves_to_a_date() {
+    let berlin = Zone::parse_posix(CET).unwrap();
+    let workdays = Workdays::new([true, true, true, true, true, false, false], &[]).unwrap();
+    let moment = ZonedDateTime::from_local(reading("2024-03-29 2:30:00"), &berlin, Policy::Compatible).unwrap();
+    let friday = moment.date();
+    for (date, wanted) in [
+        (friday.next_occurrence(Weekday::Monday), "2024-04-01 2:30:00.0 +02:00:00"),
+        (friday.prev_occurrence(Weekday::Friday), "2024-03-22 2:30:00.0 +01:00:00"),
+        (workdays.checked_add_workdays(friday, 2).unwrap(), "2024-04-02 2:30:00.0 +02:00:00"),
+        // The clocks skip 2:30.
+        (friday.next_occurrence(Weekday::Sunday), "2024-03-31 3:30:00.0 +02:00:00"),
+    ] {
+        assert_eq!(shown(moment.moved_to(date, Policy::Compatible)).as_deref(), Ok(wanted), "{date}");
+    }
+    // Its own date resolves nothing, also in the second half of a fold.
+    let later = ZonedDateTime::from_local(reading("2024-10-27 2:30:00"), &berlin, Policy::Later).unwrap();
+    assert_eq!(shown(later.moved_to(later.date(), Policy::Reject)).as_deref(), Ok("2024-10-27 2:30:00.0 +01:00:00"));
+    let before = ZonedDateTime::from_local(reading("2024-10-28 2:30:00"), &berlin, Policy::Later).unwrap();
+    assert_eq!(shown(before.moved_to(later.date(), Policy::Compatible)).as_deref(), Ok("2024-10-27 2:30:00.0 +02:00:00"));
+}
+
+/// A quarter has three months, and ISO weeks begin on Monday; the offsets are those of `zoneinfo`.
+#[test]
+fn starts_and_ends_of_units() {
+    let berlin = Zone::parse_posix(CET).unwrap();
+    let moment = ZonedDateTime::from_local(reading("2024-03-31 12:00:00"), &berlin, Policy::Compatible).unwrap();
+    let text = |value: Option<ZonedDateTime<'_>>| value.unwrap().to_string();
+    for (unit, start, end) in [
+        (CalendarUnit::Day, "2024-03-31 0:00:00.0 +01:00:00", "2024-03-31 23:59:59.999999999 +02:00:00"),
+        (CalendarUnit::Week, "2024-03-25 0:00:00.0 +01:00:00", "2024-03-31 23:59:59.999999999 +02:00:00"),
+        (CalendarUnit::Month, "2024-03-01 0:00:00.0 +01:00:00", "2024-03-31 23:59:59.999999999 +02:00:00"),
+        (CalendarUnit::Quarter, "2024-01-01 0:00:00.0 +01:00:00", "2024-03-31 23:59:59.999999999 +02:00:00"),
+        (CalendarUnit::Year, "2024-01-01 0:00:00.0 +01:00:00", "2024-12-31 23:59:59.999999999 +01:00:00"),
+    ] {
+        assert_eq!((text(moment.start_of(unit)), text(moment.end_of(unit))), (start.into(), end.into()), "{unit:?}");
+    }
+    let last = ZonedDateTime::from_local(PlainDateTime::new(Date::MAX, Time::MIDNIGHT), &berlin, Policy::Compatible).unwrap();
+    assert_eq!(last.end_of(CalendarUnit::Day), None);
+}
+
+/// The hours of `java.time.LocalDateTime.until` of Java 17; 29 February is a month after 31 January.
+#[test]
+fn periods_between_local_date_times() {
+    for (from, to, unit, wanted) in [
+        ("2024-01-31 12:00:00", "2024-03-01 11:00:00", CalendarUnit::Month, period(0, 1, 0, 0, 23)),
+        ("2024-01-31 12:00:00", "2024-03-01 11:00:00", CalendarUnit::Day, period(0, 0, 0, 29, 23)),
+        ("2024-01-31 12:00:00", "2024-03-01 11:00:00", CalendarUnit::Week, period(0, 0, 4, 1, 23)),
+        ("2024-03-01 11:00:00", "2024-01-31 12:00:00", CalendarUnit::Year, period(0, -1, 0, 0, -23)),
+        ("2024-03-01 11:00:00", "2024-03-01 12:00:00", CalendarUnit::Year, period(0, 0, 0, 0, 1)),
+        ("2023-03-01 11:00:00", "2024-03-01 11:00:00", CalendarUnit::Year, period(1, 0, 0, 0, 0)),
+    ] {
+        let (from, to) = (reading(from), reading(to));
+        let found = from.period_until(to, unit);
+        assert_eq!(from.checked_add_period(found), Some(to), "{from} to {to}");
+        assert_eq!(found, wanted, "{from} to {to} by {unit:?}");
     }
 }
 

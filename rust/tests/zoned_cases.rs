@@ -2,13 +2,16 @@
 
 use fotsevindre::error::{LocalTimeError, PeriodError};
 use fotsevindre::zone::start_of_day;
-use fotsevindre::{Date, OffsetDateTime, Period, PlainDateTime, Policy, SignedDuration, Zone, ZonedDateTime};
+use fotsevindre::{CalendarUnit, Date, OffsetDateTime, Period, PlainDateTime, Policy, SignedDuration, Zone, ZonedDateTime};
 use std::collections::HashMap;
 use std::fmt::Write as _;
 use std::hash::{BuildHasher, RandomState};
 use std::io::{self, Read, Write};
 
 const POLICIES: [Policy; 4] = [Policy::Compatible, Policy::Earlier, Policy::Later, Policy::Reject];
+
+const UNITS: [CalendarUnit; 5] =
+    [CalendarUnit::Day, CalendarUnit::Week, CalendarUnit::Month, CalendarUnit::Quarter, CalendarUnit::Year];
 
 fn main() -> io::Result<()> {
     let mut cases = String::new();
@@ -51,6 +54,15 @@ fn answer(kind: &str, zone: &'static Zone<'static>, numbers: &[i64]) -> String {
         ("day", &[day, years, months, weeks, days, seconds]) => {
             julian_day(date(day).checked_add_period(period(years, months, weeks, days, seconds)))
         }
+        ("moved", &[instant, day, policy]) => shown(at(instant, zone).moved_to(date(day), POLICIES[policy as usize])),
+        ("start_of", &[instant, unit]) => edge(at(instant, zone).start_of(UNITS[unit as usize])),
+        ("end_of", &[instant, unit]) => edge(at(instant, zone).end_of(UNITS[unit as usize])),
+        ("until", &[start, end, unit]) => parts(local(start).period_until(local(end), UNITS[unit as usize])),
+        ("until_days", &[start, end, unit]) => parts(date(start).period_until_by(date(end), UNITS[unit as usize])),
+        ("step_of", &[start, years, months, weeks, days, day]) => {
+            let step = date(start).step_of(period(years, months, weeks, days, 0), date(day));
+            step.map_or("none".to_owned(), |step| step.to_string())
+        }
         ("step", &[day, years, months, weeks, days, n]) => {
             julian_day(date(day).nth_period(period(years, months, weeks, days, 0), n as i32))
         }
@@ -63,6 +75,17 @@ fn shown(value: Result<ZonedDateTime<'_>, LocalTimeError>) -> String {
         Ok(value) => format!("{} {}", value.unix_timestamp_nanos(), value.offset().whole_seconds()),
         Err(error) => format!("{error:?}"),
     }
+}
+
+/// Returns the start or the end of a unit.
+fn edge(value: Option<ZonedDateTime<'_>>) -> String {
+    shown(value.ok_or(LocalTimeError::OutOfRange))
+}
+
+/// Returns the parts of a period, the last one in nanoseconds.
+fn parts(period: Period) -> String {
+    let exact = period.duration().whole_nanoseconds();
+    format!("{} {} {} {} {exact}", period.years(), period.months(), period.weeks(), period.days())
 }
 
 /// Compares two instants: their order, whether they are equal and hash alike, and the duration.

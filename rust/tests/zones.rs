@@ -1,7 +1,9 @@
 //! Time zones: rows of GNU date, the policies, and errors.
 
-use fotsevindre::columns::{RowError, row_error, zone_instants, zone_offsets};
-use fotsevindre::{Local, OffsetDateTime, PlainDateTime, Policy, Zone};
+use fotsevindre::columns::{
+    RowError, row_error, zone_instants, zone_offsets, zoned_add_days, zoned_add_months, zoned_starts_of_day,
+};
+use fotsevindre::{Local, OffsetDateTime, Period, PlainDateTime, Policy, Zone, ZonedDateTime};
 use std::panic::catch_unwind;
 
 const CET: &str = "CET-1CEST,M3.5.0,M10.5.0/3";
@@ -108,4 +110,34 @@ fn errors() {
         assert_eq!((error.position, error.to_string().as_str()), (position, shown));
     }
     assert_eq!(Zone::parse(b"TZif").unwrap_err().reason(), "unexpected end");
+}
+
+/// Each row of a column is the result of the methods.
+#[test]
+fn columns_of_moves() {
+    let berlin = Zone::parse_posix("CET-1CEST,M3.5.0,M10.5.0/3").unwrap();
+    let rows: Vec<i64> = (0..4000).map(|row| 1_711_846_800 - 200_000 + 37 * 60 * row).chain([i64::MIN, i64::MAX]).collect();
+    let steps: Vec<i32> = (0..).map(|row| row % 50 - 25).take(rows.len()).collect();
+    let (mut moved, mut statuses) = (vec![0; rows.len()], vec![0; rows.len()]);
+    let at = |seconds: i64| ZonedDateTime::from_unix_timestamp_nanos(i128::from(seconds) * 1_000_000_000, &berlin);
+    let seconds_of = |moment: ZonedDateTime<'_>| i64::try_from(moment.unix_timestamp_nanos() / 1_000_000_000).unwrap();
+    for policy in [Policy::Compatible, Policy::Earlier, Policy::Later, Policy::Reject] {
+        for period in [Period::from_days as fn(i32) -> Period, Period::from_months] {
+            let is_days = period(1) == Period::from_days(1);
+            let column = if is_days { zoned_add_days } else { zoned_add_months };
+            let errors = column(&berlin, &rows, &steps, policy, &mut moved, &mut statuses);
+            let singles =
+                rows.iter().zip(&steps).map(|(&row, &step)| at(row)?.checked_add_period(period(step), policy).ok().map(seconds_of));
+            let singles: Vec<Option<i64>> = singles.collect();
+            assert_eq!(errors, singles.iter().filter(|single| single.is_none()).count());
+            let found = moved.iter().zip(&statuses).map(|(&moved, &status)| (status == 0).then_some(moved));
+            assert_eq!(found.collect::<Vec<_>>(), singles);
+        }
+    }
+    assert_eq!(zoned_starts_of_day(&berlin, &rows, &mut moved, &mut statuses), 2);
+    for (&row, &start) in rows.iter().zip(&moved).take(4000) {
+        assert_eq!(at(row).unwrap().start_of_day().map(seconds_of), Some(start));
+    }
+    assert!(catch_unwind(|| zoned_add_days(&berlin, &[0], &[0; 2], Policy::Later, &mut [0], &mut [0])).is_err());
+    assert!(catch_unwind(|| zoned_starts_of_day(&berlin, &[0], &mut [0], &mut [0; 2])).is_err());
 }

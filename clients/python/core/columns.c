@@ -43,10 +43,8 @@ static size_t size_of(char letter)
     return letter == 'q' || letter == 'Q' ? 8 : letter == 'i' ? 4 : letter == 'H' ? 2 : 1;
 }
 
-/* The Julian day of 1970-01-01, from which numpy counts days, in 64 bits. What is far away is no
- * date, and its days without a date are the minimum. */
-#define UNIX_EPOCH 2440588
-
+/* Numpy counts days from 1970-01-01, in 64 bits. What is far away is no date, and its days without
+ * a date are the minimum. */
 static void read_days(int32_t *dates, const uint8_t *bytes, size_t rows)
 {
     for (size_t row = 0; row < rows; row++) {

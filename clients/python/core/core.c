@@ -21,6 +21,7 @@ typedef struct Value {
         fots_time time;
         fots_offset offset;
         fots_duration duration;
+        fots_period period;
         fots_moment moment;
     };
 } Value;
@@ -36,22 +37,29 @@ typedef struct Delta {
     int days, seconds, microseconds;
 } Delta;
 
-/* The size of a value with a field, which takes 8 or 16 bytes. */
+/* A period whose parts were checked. */
+typedef struct fots_checked_period_result {
+    int32_t status;
+    fots_period period;
+} fots_checked_period_result;
+
+/* The size of a value with a field, which takes a multiple of 8 bytes. */
 #define SIZE_OF(field) (offsetof(Value, field) + (sizeof(((Value *)0)->field) + 7) / 8 * 8)
 #define VALUE(object) ((Value *)(object))
 #define DATE(object) (VALUE(object)->date)
 #define TIME(object) (VALUE(object)->time)
 #define OFFSET(object) (VALUE(object)->offset)
 #define DURATION(object) (VALUE(object)->duration)
+#define PERIOD(object) (VALUE(object)->period)
 #define MOMENT(object) (VALUE(object)->moment)
 #define WORKDAYS(object) (&((WorkdaysObject *)(object))->workdays)
 
 /* What a module has in one interpreter: the types in the order of types.pyi, and then the arguments
  * of setup. All fields are pointers to objects. */
 typedef struct State {
-    PyTypeObject *date, *time, *offset, *duration, *plain, *moment, *workdays, *timedelta;
+    PyTypeObject *date, *time, *offset, *duration, *period, *plain, *moment, *workdays, *timedelta;
     PyObject *has_delta; /* True if a timedelta is a Delta, which the limited API doesn't promise */
-    PyObject *weekday, *convention, *day_count, *period, *year_fraction, *status_error;
+    PyObject *weekday, *calendar_unit, *convention, *day_count, *year_fraction, *status_error;
     PyObject *months[12], *weekdays[7];
 } State;
 
@@ -60,6 +68,9 @@ static inline const State *state_of(PyObject *self) { return state_of_type(Py_TY
 static inline const State *state_of_module(PyObject *module) { return PyModule_GetState(module); }
 
 #define new_reference(object) Py_NewRef(object)
+
+/* The Julian day of 1970-01-01. */
+#define UNIX_EPOCH 2440588
 
 /* ---- arguments: each function converts one, or returns 0 after it has raised an error */
 
@@ -101,6 +112,7 @@ TO_VALUE(date, date)
 TO_VALUE(time, time)
 TO_VALUE(offset, offset)
 TO_VALUE(duration, duration)
+TO_VALUE(period, period)
 TO_VALUE(plain, moment)
 TO_VALUE(moment, moment)
 
@@ -216,6 +228,7 @@ NEW(date, const State *state, state->date)
 NEW(time, const State *state, state->time)
 NEW(offset, const State *state, state->offset)
 NEW(duration, const State *state, state->duration)
+NEW(period, const State *state, state->period)
 NEW(moment, PyTypeObject *type, type)
 
 /* Returns the year, the Month and the day, quicker than Py_BuildValue. */
@@ -260,8 +273,9 @@ OF(calendar_date, calendar_date, tuple_of(state, result))
 OF(ordinal_date, ordinal_date, Py_BuildValue("iI", (int)result.year, (unsigned)result.ordinal))
 OF(iso_week_date, iso_week_date, Py_BuildValue("iIO", (int)result.year, (unsigned)result.week,
     state->weekdays[result.weekday - 1]))
-OF(period, period, PyObject_CallFunction(state->period, "iii", (int)result.years,
-    (int)result.months, (int)result.days))
+OF(period, period, new_period(state, (fots_period){result.years, result.months, result.weeks,
+    result.days, {0, 0}}))
+OF(checked_period, checked_period, new_period(state, result.period))
 OF(year_fraction, year_fraction, PyObject_CallFunction(state->year_fraction, "LI",
     (long long)result.numerator, (unsigned)result.denominator))
 

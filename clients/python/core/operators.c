@@ -16,6 +16,18 @@ COMPARE(offset_compare, OFFSET(self).seconds, OFFSET(other).seconds)
 COMPARE(duration_compare, fots_duration_compare(DURATION(self), DURATION(other)).number, 0)
 COMPARE(moment_compare, fots_moment_compare(MOMENT(self), MOMENT(other)).number, 0)
 
+/* Periods have no order: a month isn't a number of days. */
+static PyObject *period_compare(PyObject *self, PyObject *other, int operation)
+{
+    if (Py_TYPE(other) != Py_TYPE(self) || (operation != Py_EQ && operation != Py_NE)) {
+        return new_reference(Py_NotImplemented);
+    }
+    fots_period one = PERIOD(self), two = PERIOD(other);
+    int is_equal = one.years == two.years && one.months == two.months && one.weeks == two.weeks &&
+        one.days == two.days && !fots_duration_compare(one.duration, two.duration).number;
+    return PyBool_FromLong(is_equal == (operation == Py_EQ));
+}
+
 /* Mixes the bits of a number. Values of other types have other hashes. */
 static Py_hash_t mixed(uint64_t number, uint64_t kind)
 {
@@ -30,6 +42,13 @@ static uint64_t number_of(fots_duration duration)
     return (uint64_t)duration.seconds * 1000000007 + (uint64_t)duration.nanoseconds;
 }
 
+static uint64_t number_of_period(fots_period period)
+{
+    uint64_t months = (uint64_t)period.years << 32 ^ (uint32_t)period.months;
+    uint64_t days = (uint64_t)period.weeks << 32 ^ (uint32_t)period.days;
+    return (months * 1000003 + days) * 1000003 + number_of(period.duration);
+}
+
 /* A date-time has the number of its instant. */
 #define HASH(name, number, kind) \
     static Py_hash_t name(PyObject *self) { return mixed(number, kind); }
@@ -37,6 +56,7 @@ HASH(date_hash, (uint64_t)DATE(self).julian_day, 0)
 HASH(time_hash, TIME(self), 1)
 HASH(offset_hash, (uint64_t)OFFSET(self).seconds, 2)
 HASH(duration_hash, number_of(DURATION(self)), 3)
+HASH(period_hash, number_of_period(PERIOD(self)), 6)
 HASH(plain_hash, number_of(fots_moment_unix_time(MOMENT(self)).duration), 4)
 HASH(moment_hash, number_of(fots_moment_unix_time(MOMENT(self)).duration), 5)
 
@@ -78,6 +98,15 @@ static int to_move(const State *state, PyObject *object, fots_duration *by)
 /* The sum or the difference of a value and a duration, by the start of the names of the calls. */
 #define MOVED(call, value) (back ? fots_##call##_sub(value, by) : fots_##call##_add(value, by))
 
+/* Moves a date, or a date-time without an offset, by a period. */
+static PyObject *moved_by_period(const State *state, PyObject *self, fots_period period)
+{
+    PyTypeObject *type = Py_TYPE(self);
+    return type == state->date ? of_date(state, fots_date_add_period(DATE(self), period)) :
+        type == state->plain ? of_moment(state, type, plain_add_period(MOMENT(self), period)) :
+        new_reference(Py_NotImplemented);
+}
+
 /* Moves a value by a duration, or a date or date-time by a timedelta. */
 static PyObject *moved(const State *state, PyObject *self, PyObject *other, int back)
 {
@@ -109,6 +138,9 @@ static PyObject *moved(const State *state, PyObject *self, PyObject *other, int 
 static PyObject *value_add(PyObject *self, PyObject *other)
 {
     const State *state = state_of_value(self);
+    if (state && Py_TYPE(other) == state->period) {
+        return moved_by_period(state, self, PERIOD(other));
+    }
     return state ? moved(state, self, other, 0) : moved(state_of(other), other, self, 0);
 }
 

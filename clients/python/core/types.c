@@ -65,6 +65,24 @@ static PyObject *duration_string(PyObject *self)
     return length ? PyUnicode_FromStringAndSize(bytes, length) : PyUnicode_FromString("0s");
 }
 
+/* ---- periods */
+
+/* Only an invalid period can't be added. */
+static fots_checked_period_result period_create(int32_t years, int32_t months, int32_t weeks,
+    int32_t days, fots_duration duration)
+{
+    fots_period period = {years, months, weeks, days, duration};
+    fots_pair_result moved = fots_pair_add_period((fots_date){UNIX_EPOCH}, (fots_time){0}, period);
+    int is_invalid = moved.status == FOTS_INVALID_PERIOD;
+    return (fots_checked_period_result){is_invalid ? moved.status : FOTS_OK, period};
+}
+
+static int32_t period_years(fots_period period) { return period.years; }
+static int32_t period_months(fots_period period) { return period.months; }
+static int32_t period_weeks(fots_period period) { return period.weeks; }
+static int32_t period_days(fots_period period) { return period.days; }
+static fots_duration period_duration(fots_period period) { return period.duration; }
+
 /* ---- date-times */
 
 static const fots_offset utc = {0};
@@ -73,6 +91,11 @@ static fots_date moment_date(fots_moment moment) { return moment.date; }
 static fots_time moment_time(fots_moment moment) { return moment.time; }
 static fots_offset moment_offset(fots_moment moment) { return moment.offset; }
 static fots_moment plain_assume_utc(fots_moment moment) { return moment; }
+static fots_moment_result plain_add_period(fots_moment moment, fots_period period)
+{
+    fots_pair_result moved = fots_pair_add_period(moment.date, moment.time, period);
+    return (fots_moment_result){moved.status, {moved.date, utc, moved.time}};
+}
 static fots_moment moment_local(fots_moment own) { return (fots_moment){own.date, utc, own.time}; }
 static fots_moment_result moment_to_utc(fots_moment own) { return fots_moment_to_offset(own, utc); }
 static fots_moment moment_replace_date(fots_moment m, fots_date date) { m.date = date; return m; }

@@ -5,15 +5,16 @@
 # value a constant. A parameter without a type has that of its name, such as Weekday, else Int. The
 # order of the types is that of `State` in core.c.
 import datetime
+import functools
 import operator
 from datetime import timedelta
 from typing import Any, Callable, ClassVar, Iterable, SupportsIndex, overload
 
 from typing_extensions import Self
 
-from .choices import Convention, DayCount
-from .conversions import CLOCKS, OFFSET, whole_microseconds
-from .enums import Month, Period, Weekday, YearFraction
+from .choices import CalendarUnit, Convention, DayCount
+from .conversions import CLOCKS, OFFSET, parts_of, whole_microseconds
+from .enums import Month, Weekday, YearFraction
 from .errors import check
 from .formats import Format
 from .schedules import Days
@@ -55,7 +56,6 @@ class _Formatted:
         such a value."""
 
 class _DateParts:
-    def __add__(self, other: SignedDuration | timedelta) -> Self: ...
     def __radd__(self, other: timedelta) -> Self: ...
     @overload
     def __sub__(self, other: {Self,SignedDuration | timedelta}) -> {SignedDuration,Self}: ...
@@ -72,6 +72,12 @@ class _DateParts:
     def to_iso_week_date(self) -> tuple[int, int, Weekday]: "Returns ISO year, week and Weekday."
     def to_julian_day(self) -> int: "Returns the Julian day."
     def replace_{year,month,day,ordinal}(self, number) -> Self: "Replaces the {}."
+
+class _Shifted:
+    @overload
+    def __add__(self, other: {SignedDuration | timedelta,Period}) -> Self: ...
+    def checked_add_period(self, period) -> Self | None:
+        "Returns the value plus a Period like +, or None out of range."
 
 class _TimeParts:
     hour: int = "The hour, from 0 to 23."
@@ -97,12 +103,13 @@ class _TimeParts:
             clock += "%::z" if self.offset.seconds_past_minute() else "%:z"
         return self.strftime(clock if isinstance(self, Time) else f"%FT{clock}")
 
-class Date(_Value, _DateParts, _Moved, _Formatted):
+class Date(_Value, _DateParts, _Shifted, _Moved, _Formatted):
     """Date(year, month, day): a day of the proleptic Gregorian calendar, from MIN, -999999-01-01,
     to MAX, 999999-12-31.
 
     + and - with a SignedDuration, and calls that add one, move by its whole days; with a timedelta
-    they take only whole days. Dates have a SignedDuration between them.
+    they take only whole days. + with a Period takes none with a duration. Dates have a
+    SignedDuration between them.
     """
     {MIN,MAX}: ClassVar[Date] = Date({-999999,999999}, {1,12}, {1,31})
     def __new__(cls, year, month, day) -> Date: ...
@@ -146,6 +153,15 @@ class Date(_Value, _DateParts, _Moved, _Formatted):
     def {months,years}_until(self, other: Date) -> int:
         "Returns the whole {} to the other day, such as an age; negative if that is earlier."
     def period_until(self, other: Date) -> Period: "Returns years, months and days to another day."
+    def period_until_by(self, other: Date, unit: CalendarUnit) -> Period:
+        """Returns the period to another day with a CalendarUnit as its largest part: days, weeks
+        and days, months and days, or years, months and days."""
+    def nth_period(self, period, n) -> Date:
+        """Returns the date n times a Period later, counted from this date, so that nothing drifts:
+        with a month 31 January leads to 29 February and 31 March. OverflowError out of range."""
+    def step_of(self, period, date) -> int | None:
+        """Returns the greatest n for which nth_period isn't after a date, or None if the date is
+        earlier than this one, or if the period has a duration or isn't positive."""
     def day_count(self, other: Date, convention: DayCount) -> YearFraction:
         "Returns the fraction of a year to the other day by a DayCount."
     def first_of_{month,quarter,year}(self) -> Date: "Returns the first day of the {}."
@@ -331,6 +347,26 @@ class SignedDuration(_Value, _Moved):
         microseconds = whole_microseconds(self.subsec_nanoseconds(), "datetime.timedelta")
         return timedelta(seconds=self.whole_seconds(), microseconds=microseconds)
 
+class Period:
+    """Period(*, years, months, weeks, days, duration): how much later something is by the calendar
+    and by the clock.
+
+    No part is negative if another one is positive. A date moves by the years and months first, and
+    then by the weeks and days. 12 months aren't equal to a year.
+    """
+
+    def __new__(cls, *, years: Fits = 0, months: Fits = 0, weeks: Fits = 0, days: Fits = 0,
+                duration=SignedDuration()) -> Period: ...
+
+    def __eq__(self, other: object) -> bool: ...
+    def __hash__(self) -> int: ...
+    {years,months,weeks,days}: int = "The {}, in 32 bits."
+    duration: SignedDuration = "The exact duration."
+    def {__str__,__repr__}(self) -> str:
+        return f"Period({', '.join(f'{name}={part}' for name, part in parts_of(self).items())})"
+    def __reduce__(self) -> tuple[Any, ...]:
+        return functools.partial(Period, **parts_of(self)), ()
+
 class _DateTime(_Value, _DateParts, _TimeParts, _Moved, _Formatted):
     def date(self) -> Date: "Returns the date."
     def time(self) -> Time: "Returns the time of day."
@@ -350,11 +386,11 @@ class _DateTime(_Value, _DateParts, _TimeParts, _Moved, _Formatted):
         zone = self.offset.to_timezone() if isinstance(self, OffsetDateTime) else None
         return datetime.datetime.combine(self.date().to_date(), self.time().to_time(), zone)
 
-class PlainDateTime(_DateTime):
+class PlainDateTime(_DateTime, _Shifted):
     """PlainDateTime(date, time): a date and a time of day, from MIN to MAX.
 
-    + and - with a SignedDuration or a timedelta are exact; date-times have a SignedDuration between
-    them.
+    + and - with a SignedDuration or a timedelta are exact, and + with a Period moves the date and
+    then adds its duration; date-times have a SignedDuration between them.
     """
     {MIN,MAX}: ClassVar[PlainDateTime] = PlainDateTime(Date.{}, Time.{MIDNIGHT,MAX})
     def __new__(cls, date, time) -> PlainDateTime: ...
@@ -381,6 +417,7 @@ class OffsetDateTime(_DateTime):
     """
     UNIX_EPOCH: ClassVar[OffsetDateTime] = OffsetDateTime(Date(1970, 1, 1), Time(), UtcOffset())
     def __new__(cls, date, time, offset) -> OffsetDateTime: ...
+    def __add__(self, other: SignedDuration | timedelta) -> OffsetDateTime: ...
     offset: UtcOffset = "The offset from UTC."
     def new_in_offset(date, time, offset) -> OffsetDateTime:
         "Creates the date-time of a date, a time of day and an offset."

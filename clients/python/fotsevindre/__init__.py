@@ -20,33 +20,33 @@ Values are immutable. They compare and hash by their number, date-times at an of
 from datetime import timedelta
 
 from . import _core, choices as _choices
-from .enums import Month, Period, Weekday, YearFraction
+from .enums import Month, Weekday, YearFraction
 from .errors import ComponentRange, ContradictionError, FormatError, ParseError, ParseRuleError
 from .errors import ParseRuleErrorKind, ZoneError, status_error
 
-_core.setup(timedelta, _core.is_delta(timedelta(-1, 2, 3)), Weekday, _choices.Convention,
-    _choices.DayCount, Period, YearFraction, status_error, *Month, *Weekday)
+_core.setup(timedelta, _core.is_delta(timedelta(-1, 2, 3)), Weekday, _choices.CalendarUnit,
+    _choices.Convention, _choices.DayCount, YearFraction, status_error, *Month, *Weekday)
 
 from . import calls as _calls, members as _members
 from .calls import *
 from .formats import Format
 from .schedules import Days, Recurrence, Rule, Workdays
-from .zones import Local, Zone
+from .zones import Local, Zone, ZonedDateTime
 
 __version__ = "0.1.0"
 
 __all__ = [
     "ComponentRange", "ContradictionError", "Days", "Format", "FormatError", "Local", "Month",
-    "ParseError", "ParseRuleError", "ParseRuleErrorKind", "Period", "Recurrence", "Rule", "Weekday",
-    "Workdays", "YearFraction", "Zone", "ZoneError", "status_error",
+    "ParseError", "ParseRuleError", "ParseRuleErrorKind", "Recurrence", "Rule", "Weekday",
+    "Workdays", "YearFraction", "Zone", "ZonedDateTime", "ZoneError", "status_error",
 ]
 # A checker of types reads literals only; a test compares these names with calls.__all__.
 __all__ += [
-    "Date", "Time", "UtcOffset", "SignedDuration", "PlainDateTime", "OffsetDateTime",
+    "Date", "Time", "UtcOffset", "SignedDuration", "Period", "PlainDateTime", "OffsetDateTime",
     "days_in_month", "days_in_year_month", "is_leap_year", "days_in_year", "weeks_in_year",
     "add_to_pair", "sub_from_pair", "rfc3339_text", "unix_text", "unix_duration", "unix_pair",
-    "parse_rfc3339", "parse_unix", "Convention", "DayCount", "Frequency", "LocalKind", "Policy",
-    "DateColumns", "CalendarDateColumns", "OrdinalDateColumns", "IsoWeekDateColumns",
+    "parse_rfc3339", "parse_unix", "CalendarUnit", "Convention", "DayCount", "Frequency", "LocalKind",
+    "Policy", "DateColumns", "CalendarDateColumns", "OrdinalDateColumns", "IsoWeekDateColumns",
     "WeekdayColumns", "OffsetColumns", "InstantColumns", "NumberColumns", "MomentColumns",
     "TextColumns", "dates_from_julian_days", "dates_from_calendar_dates",
     "dates_from_ordinal_dates", "dates_from_iso_week_dates", "dates_to_calendar_dates",

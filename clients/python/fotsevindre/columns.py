@@ -82,7 +82,7 @@ class _Like:
         arrays.pop("texts", None)
         self.numpy: Any = sys.modules.get("numpy") if arrays else None
         # The units of results that are times because what was given is.
-        pairs = (("dates", "dates"), ("readings", "seconds"))
+        pairs = (("dates", "dates"), ("readings", "seconds"), ("seconds", "seconds"))
         self.times = {made: _UNITS[given] for given, made in pairs
             if given in arrays and arrays[given].dtype.kind == "M"}
         # There is one more bound than there are rows.

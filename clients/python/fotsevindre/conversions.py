@@ -41,6 +41,12 @@ def whole_microseconds(nanoseconds: int, name: str) -> int:
     return nanoseconds // 1000
 
 
+def parts_of(period: Any) -> dict[str, Any]:
+    """Returns the parts of a `Period` that aren't zero, by their names."""
+    names = ("years", "months", "weeks", "days", "duration")
+    return {name: part for name in names if (part := getattr(period, name))}
+
+
 class _Unit:
     """A class method of a unit. A duration has the numbers of a `timedelta` by these names, which
     round down, so `(b - a).days == 1` is right."""

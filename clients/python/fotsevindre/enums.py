@@ -96,8 +96,6 @@ class Weekday(_Cycle):
         return (int(self) + 1) % 7
 
 
-Period = NamedTuple("Period", [("years", int), ("months", int), ("days", int)])
-Period.__doc__ = "Years, months and days, all of one sign, with fewer than 12 months."
 YearFraction = NamedTuple("YearFraction", [("numerator", int), ("denominator", int)])
 YearFraction.__doc__ = "A fraction of a year: what was counted, over what a year counts."
 

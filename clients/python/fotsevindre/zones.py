@@ -4,18 +4,23 @@ from __future__ import annotations
 
 import contextlib
 import dataclasses
+import datetime
 import importlib.resources
 import operator
 import os
 import pathlib
-from typing import Any, SupportsIndex
+import zoneinfo
+from typing import Any, Callable, Generic, SupportsIndex, TypeVar, overload
 
 # The file calls.py imports this one, so only calls use its names.
 from . import _core, calls
-from ._core import OffsetDateTime, PlainDateTime, UtcOffset
+from ._core import Date, OffsetDateTime, Period, PlainDateTime, SignedDuration, Time, UtcOffset
 from .choices import LocalKind, Policy
+from .enums import Weekday
 from .errors import ParseError, ZoneError, check
 from .formats import Format
+
+_P = TypeVar("_P")
 
 
 @dataclasses.dataclass(frozen=True)
@@ -150,6 +155,16 @@ class Zone:
         """Returns the same instant in this zone, like `OffsetDateTime.in_zone`."""
         return _core.moment_in_zone(moment, self._zone)
 
+    def start_of_day(self, date: Date) -> ZonedDateTime:
+        """Returns the first instant at which the clocks have reached midnight of a date, or raises
+        `OverflowError`."""
+        return ZonedDateTime._at(_core.zoned_start_of_day(self._zone, date), self)
+
+    def day_length(self, date: Date) -> SignedDuration:
+        """Returns the duration from the start of a day to the start of the next day, or raises
+        `OverflowError`."""
+        return _core.zoned_day_length(self._zone, date)
+
     def strftime(self, moment: OffsetDateTime, format: str | Format) -> str:
         """Returns the text of the same instant in this zone by a format, where `%Z` is the
         abbreviation, with the errors of `in_zone` and of `OffsetDateTime.strftime`."""
@@ -164,7 +179,27 @@ class Zone:
     def instants(self, readings: Any, policy: Policy = Policy.Compatible) -> calls.InstantColumns:
         """Returns the Unix times of a column of readings, which are the seconds by the clock since
         1970-01-01 0:00, or `datetime64`, by a policy."""
-        return calls._zone_instants(readings, (*self._zone, int(check(policy, Policy))))
+        return calls._zone_instants(readings, self._by(policy))
+
+    def add_days(
+            self, seconds: Any, days: Any, policy: Policy = Policy.Compatible) -> calls.InstantColumns:
+        """Returns the Unix times some days after a column of Unix times, in seconds or
+        `datetime64`, with the same time of day by the clocks and by a policy."""
+        return calls._zoned_add_days(seconds, days, self._by(policy))
+
+    def add_months(
+            self, seconds: Any, months: Any,
+            policy: Policy = Policy.Compatible) -> calls.InstantColumns:
+        """Returns the Unix times some months later, like `add_days`."""
+        return calls._zoned_add_months(seconds, months, self._by(policy))
+
+    def starts_of_day(self, seconds: Any) -> calls.InstantColumns:
+        """Returns the Unix times of the starts of the days that the clocks show at a column of Unix
+        times, in seconds or `datetime64`."""
+        return calls._zoned_starts_of_day(seconds, self._zone)
+
+    def _by(self, policy: Policy) -> tuple[Any, ...]:
+        return (*self._zone, int(check(policy, Policy)))
 
     def __str__(self) -> str:
         return self.key
@@ -176,3 +211,236 @@ class Zone:
         if self._is_posix:
             return type(self).from_posix, (self.key,)
         return type(self).from_file, (self._zone[0], self.key)
+
+
+class _Part(Generic[_P]):
+    """A part that an `OffsetDateTime` has, of a `ZonedDateTime`."""
+
+    def __init__(self, part: Callable[[OffsetDateTime], _P]) -> None:
+        self._part = part
+
+    def __get__(self, value: ZonedDateTime, _kind: object = None) -> _P:
+        return self._part(value._moment)
+
+
+@dataclasses.dataclass(frozen=True, init=False, repr=False, eq=False)
+class ZonedDateTime:
+    """ZonedDateTime(moment, zone): the instant of an `OffsetDateTime` in a time zone, with the date
+    and the time of day that the clocks show then.
+
+    Values compare and hash by instant, regardless of zone. + and - with a `SignedDuration` or a
+    `timedelta` move the instant, and + with a `Period` like `add_period`. If what the clocks show
+    is out of range, calls raise `OverflowError`, and by `Policy.Reject` they raise `ValueError` in
+    a gap and in a fold.
+
+    >>> berlin = Zone.from_posix("CET-1CEST,M3.5.0,M10.5.0/3")
+    >>> noon = ZonedDateTime.from_local(PlainDateTime.parse("2024-03-30T12:00"), berlin)
+    >>> noon + Period(days=1), noon + SignedDuration(days=1)
+    (2024-03-31 12:00:00.0 +02:00:00, 2024-03-31 13:00:00.0 +02:00:00)
+    """
+
+    zone: Zone
+    _moment: OffsetDateTime
+
+    year = _Part(lambda moment: moment.year)
+    month = _Part(lambda moment: moment.month)
+    day = _Part(lambda moment: moment.day)
+    hour = _Part(lambda moment: moment.hour)
+    minute = _Part(lambda moment: moment.minute)
+    second = _Part(lambda moment: moment.second)
+    nanosecond = _Part(lambda moment: moment.nanosecond)
+    offset = _Part(lambda moment: moment.offset)
+
+    def __init__(self, moment: OffsetDateTime, zone: Zone) -> None:
+        self._set(check(zone, Zone).in_zone(moment), zone)
+
+    def _set(self, moment: OffsetDateTime, zone: Zone) -> ZonedDateTime:
+        vars(self).update(zone=zone, _moment=moment)
+        return self
+
+    @classmethod
+    def _at(cls, moment: OffsetDateTime, zone: Zone) -> ZonedDateTime:
+        """Returns a value of a moment with the offset of the zone."""
+        return cls.__new__(cls)._set(moment, zone)
+
+    @classmethod
+    def from_local(cls, reading: PlainDateTime, zone: Zone,
+                   policy: Policy = Policy.Compatible) -> ZonedDateTime:
+        """Creates the date-time that a local time means by a policy."""
+        date, time = check(reading, PlainDateTime).date(), reading.time()
+        parts = check(zone, Zone)._zone
+        return cls._at(_core.zoned_from_local(parts, date, time, check(policy, Policy)), zone)
+
+    @classmethod
+    def from_unix_duration(cls, duration: SignedDuration, zone: Zone) -> ZonedDateTime:
+        """Creates the date-time of a Unix time."""
+        return cls._at(_core.zoned_at(check(zone, Zone)._zone, duration), zone)
+
+    @classmethod
+    def from_unix_timestamp(cls, seconds: SupportsIndex, zone: Zone) -> ZonedDateTime:
+        """Creates the date-time of a Unix time in seconds."""
+        return cls.from_unix_duration(SignedDuration.new(seconds, 0), zone)
+
+    @classmethod
+    def from_unix_timestamp_nanos(cls, timestamp: SupportsIndex, zone: Zone) -> ZonedDateTime:
+        """Creates the date-time of a Unix time in nanoseconds."""
+        return cls.from_unix_duration(SignedDuration.nanoseconds_i128(timestamp), zone)
+
+    @classmethod
+    def from_datetime(cls, value: datetime.datetime) -> ZonedDateTime:
+        """Converts the instant of a `datetime.datetime` with a `zoneinfo.ZoneInfo`, whose key is the
+        name of the zone, or raises `ValueError`."""
+        key = getattr(check(value, datetime.datetime).tzinfo, "key", None)
+        if key is None:
+            raise ValueError("expected a datetime.datetime with a zoneinfo.ZoneInfo that has a key")
+        return cls(OffsetDateTime.from_datetime(value), Zone(key))
+
+    def to_datetime(self) -> datetime.datetime:
+        """Converts to a `datetime.datetime` with the `zoneinfo.ZoneInfo` of the key of the zone, or
+        raises `LookupError` without one; other errors like `OffsetDateTime.to_datetime`."""
+        return self._moment.to_datetime().astimezone(zoneinfo.ZoneInfo(self.zone.key))
+
+    def to_offset_date_time(self) -> OffsetDateTime:
+        """Returns what the clocks show, with their offset."""
+        return self._moment
+
+    def date(self) -> Date:
+        """Returns the date."""
+        return self._moment.date()
+
+    def time(self) -> Time:
+        """Returns the time of day."""
+        return self._moment.time()
+
+    def local(self) -> PlainDateTime:
+        """Returns the date and the time of day."""
+        return self._moment.local()
+
+    def weekday(self) -> Weekday:
+        """Returns the `Weekday`."""
+        return self._moment.weekday()
+
+    def unix_timestamp(self) -> int:
+        """Returns the Unix time in whole seconds, rounded down."""
+        return self._moment.unix_timestamp()
+
+    def unix_timestamp_nanos(self) -> int:
+        """Returns the Unix time in nanoseconds."""
+        return self._moment.unix_timestamp_nanos()
+
+    def unix_duration(self) -> SignedDuration:
+        """Returns the Unix time as a duration."""
+        return self._moment.unix_duration()
+
+    def in_zone(self, zone: Zone) -> ZonedDateTime:
+        """Returns the same instant in another zone."""
+        return ZonedDateTime(self._moment, zone)
+
+    def with_local(
+            self, reading: PlainDateTime, policy: Policy = Policy.Compatible) -> ZonedDateTime:
+        """Replaces the local time. Keeps the offset if the clocks show the new one at it, and
+        otherwise goes by the policy."""
+        return self._with(check(reading, PlainDateTime).date(), reading.time(), policy)
+
+    def with_date(self, date: Date, policy: Policy = Policy.Compatible) -> ZonedDateTime:
+        """Replaces the date, like `with_local`."""
+        return self._with(date, self.time(), policy)
+
+    def with_time(self, time: Time, policy: Policy = Policy.Compatible) -> ZonedDateTime:
+        """Replaces the time of day, like `with_local`."""
+        return self._with(self.date(), time, policy)
+
+    def _with(self, date: Date, time: Time, policy: Policy) -> ZonedDateTime:
+        number = check(policy, Policy)
+        moment = _core.zoned_with_local(self.zone._zone, self._moment, date, time, number)
+        return self._at(moment, self.zone)
+
+    def start_of_day(self) -> ZonedDateTime:
+        """Returns the start of the day, like `Zone.start_of_day`."""
+        return self.zone.start_of_day(self.date())
+
+    def day_length(self) -> SignedDuration:
+        """Returns the length of the day, like `Zone.day_length`."""
+        return self.zone.day_length(self.date())
+
+    def add_period(self, period: Period, policy: Policy = Policy.Compatible) -> ZonedDateTime:
+        """Returns the date-time a period later. Years and months move the date, then weeks and
+        days; the policy says what the same time of day means there. Then the duration moves the
+        instant. A period with only a duration ignores the policy."""
+        number = check(policy, Policy)
+        moment = _core.zoned_add_period(self.zone._zone, self._moment, period, number)
+        return self._at(moment, self.zone)
+
+    def checked_add_period(
+            self, period: Period, policy: Policy = Policy.Compatible) -> ZonedDateTime | None:
+        """Returns the same, or `None` out of range."""
+        number = check(policy, Policy)
+        moment = _core.zoned_checked_add_period(self.zone._zone, self._moment, period, number)
+        return None if moment is None else self._at(moment, self.zone)
+
+    def checked_add(self, duration: SignedDuration) -> ZonedDateTime | None:
+        """Returns the date-time a duration later, or `None` out of range."""
+        moment = _core.zoned_checked_add(self.zone._zone, self._moment, duration)
+        return None if moment is None else self._at(moment, self.zone)
+
+    def checked_sub(self, duration: SignedDuration) -> ZonedDateTime | None:
+        """Returns the date-time a duration earlier, or `None` out of range."""
+        moment = _core.zoned_checked_sub(self.zone._zone, self._moment, duration)
+        return None if moment is None else self._at(moment, self.zone)
+
+    def __add__(self, other: SignedDuration | datetime.timedelta | Period) -> ZonedDateTime:
+        if isinstance(other, Period):
+            return self.add_period(other)
+        duration = _duration(other)
+        if duration is None:
+            return NotImplemented
+        return self._at(_core.zoned_add(self.zone._zone, self._moment, duration), self.zone)
+
+    def __radd__(self, other: datetime.timedelta) -> ZonedDateTime:
+        return self + other if isinstance(other, datetime.timedelta) else NotImplemented
+
+    @overload
+    def __sub__(self, other: ZonedDateTime) -> SignedDuration: ...
+
+    @overload
+    def __sub__(self, other: SignedDuration | datetime.timedelta) -> ZonedDateTime: ...
+
+    def __sub__(self, other: Any) -> Any:
+        if isinstance(other, ZonedDateTime):
+            return self._moment - other._moment
+        duration = _duration(other)
+        if duration is None:
+            return NotImplemented
+        return self._at(_core.zoned_sub(self.zone._zone, self._moment, duration), self.zone)
+
+    def __eq__(self, other: object) -> bool:
+        return isinstance(other, ZonedDateTime) and self._moment == other._moment
+
+    def __lt__(self, other: ZonedDateTime) -> bool:
+        return self._moment < other._moment if isinstance(other, ZonedDateTime) else NotImplemented
+
+    def __le__(self, other: ZonedDateTime) -> bool:
+        return self._moment <= other._moment if isinstance(other, ZonedDateTime) else NotImplemented
+
+    def __hash__(self) -> int:
+        return hash(self._moment)
+
+    def strftime(self, format: str | Format) -> str:
+        """Returns the text by a format, like `Zone.strftime`."""
+        return self.zone.strftime(self._moment, format)
+
+    def __format__(self, specification: str) -> str:
+        is_format = "%" in specification
+        return self.strftime(specification) if is_format else format(str(self), specification)
+
+    def __str__(self) -> str:
+        return str(self._moment)
+
+    __repr__ = __str__
+
+
+def _duration(move: object) -> SignedDuration | None:
+    """Returns the duration of a `SignedDuration` or a `timedelta`, and else `None`."""
+    if isinstance(move, datetime.timedelta):
+        return SignedDuration.from_timedelta(move)
+    return move if isinstance(move, SignedDuration) else None

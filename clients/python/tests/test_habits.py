@@ -13,7 +13,7 @@ import unittest
 
 import fotsevindre
 from fotsevindre import (
-    ComponentRange, Convention, Date, DayCount, Format, Frequency, LocalKind, Month, OffsetDateTime, ParseError, PlainDateTime, Policy, Recurrence, Rule, SignedDuration, Time, UtcOffset, Weekday, Workdays, Zone, _core,
+    CalendarUnit, ComponentRange, Convention, Date, DayCount, Format, Frequency, LocalKind, Month, OffsetDateTime, ParseError, PlainDateTime, Policy, Recurrence, Rule, SignedDuration, Time, UtcOffset, Weekday, Workdays, Zone, _core,
 )
 
 LEAP_DAY = Date(2024, 2, 29)
@@ -85,7 +85,7 @@ class SilentlyWrong(unittest.TestCase):
         self.assertEqual((LEAP_DAY + Other(1), PlainDateTime.MIN + Other(0, 1, 2)), (Date(2024, 3, 1), PlainDateTime.MIN + SignedDuration(seconds=1, microseconds=2)))
         self.assertTrue(_core.is_delta(datetime.timedelta(-1, 2, 3)))
         self.assertFalse(_core.is_delta(datetime.timedelta(-1, 2, 4)) or _core.is_delta(b"of another size"))
-        setup = (Weekday, Convention, DayCount, fotsevindre.Period, fotsevindre.YearFraction, fotsevindre.status_error, *Month, *Weekday)
+        setup = (Weekday, CalendarUnit, Convention, DayCount, fotsevindre.YearFraction, fotsevindre.status_error, *Month, *Weekday)
         try:
             _core.setup(datetime.timedelta, False, *setup)
             self.assertEqual((LEAP_DAY + datetime.timedelta(1), PlainDateTime.MIN + datetime.timedelta(0, 1, 2)), (Date(2024, 3, 1), PlainDateTime.MIN + Other(0, 1, 2)))

@@ -190,6 +190,27 @@ class Numpy(unittest.TestCase):
         ):
             self.assertRaisesRegex(ValueError, words, wrong)
 
+    def test_moves_in_zones(self):
+        zone = Zone.from_posix("CET-1CEST,M3.5.0,M10.5.0/3")
+        times = numpy.array(["2024-03-30T01:30", "2024-10-26T00:30", "NaT", "2024-01-31T22:59"], dtype="datetime64[s]")
+        for found, wanted, statuses in (
+            (zone.add_days(times, 1), ["2024-03-31T01:30", "2024-10-27T00:30", "NaT", "2024-02-01T22:59"], [0, 0, 1, 0]),
+            (zone.add_days(times, numpy.array([1, 1, 1, 60]), Policy.Later), ["2024-03-31T01:30", "2024-10-27T01:30", "NaT", "2024-03-31T21:59"], [0, 0, 1, 0]),
+            (zone.add_days(times, 1, Policy.Reject), ["NaT", "NaT", "NaT", "2024-02-01T22:59"], [47, 48, 1, 0]),
+            (zone.add_months(times, 1, Policy.Earlier), ["2024-04-30T00:30", "2024-11-26T01:30", "NaT", "2024-02-29T22:59"], [0, 0, 1, 0]),
+            (zone.starts_of_day(times), ["2024-03-29T23:00", "2024-10-25T22:00", "NaT", "2024-01-30T23:00"], [0, 0, 1, 0]),
+        ):
+            numpy.testing.assert_array_equal(found.seconds, numpy.array(wanted, dtype="datetime64[s]"))
+            self.assertEqual((found.seconds.dtype, list(found.statuses), found.error_count), ("datetime64[s]", statuses, sum(map(bool, statuses))))
+        seconds = times.astype("int64")
+        self.assertEqual(list(zone.add_days(list(seconds), 1).seconds), list(zone.add_days(times, 1).seconds.astype("int64")))
+        masked = zone.starts_of_day(numpy.ma.MaskedArray(times, [1, 0, 0, 0]))
+        self.assertEqual((masked.seconds.dtype, list(masked.seconds.mask)), ("datetime64[s]", [1, 0, 0, 0]))
+        self.assertRaisesRegex(ValueError, "expected whole seconds", zone.starts_of_day, numpy.array(["2024-03-31T02:30:00.5"], dtype="datetime64[ms]"))
+        self.assertRaisesRegex(TypeError, "column of integers", zone.add_days, times, numpy.array([1], dtype="timedelta64[D]"))
+        self.assertRaises(ValueError, zone.add_days, times, [1, 2])
+        self.assertRaises(TypeError, zone.starts_of_day, 0)
+
     def test_numbers_of_numpy(self):
         date = Date.from_calendar_date(numpy.int32(2024), numpy.uint8(2), numpy.int64(29))
         self.assertEqual((date, date.replace_day(numpy.int16(1))), (Date.parse("2024-02-29"), Date.parse("2024-02-01")))

@@ -62,6 +62,14 @@ class Pandas(unittest.TestCase):
             time in noon.date().iter_to(Date.MAX)
         self.assertRaises(TypeError, lambda: noon + pandas.NaT)
 
+    def test_moves_in_zones(self):
+        zone = Zone.from_posix("CET-1CEST,M3.5.0,M10.5.0/3")
+        times = pandas.Series(pandas.to_datetime(["2024-03-30 11:00", None, "2024-10-26 22:00"]), index=["a", "b", "c"])
+        for found, wanted in ((zone.add_days(times, 1), ["2024-03-31 10:00", None, "2024-10-27 23:00"]),
+                (zone.starts_of_day(times), ["2024-03-29 23:00", None, "2024-10-26 22:00"])):
+            self.assertTrue(found.seconds.equals(pandas.Series(pandas.to_datetime(wanted), index=["a", "b", "c"])))
+            self.assertEqual((list(found.statuses), found.error_count), ([0, 1, 0], 1))
+
     def test_what_is_refused(self):
         noon = pandas.Series(pandas.to_datetime(["2024-02-29 12:00"]))
         for call in (lambda: fotsevindre.dates_weekdays(noon), lambda: fotsevindre.dates_add_days(self.DAYS, pandas.Series([noon[0] - self.DAYS[0]] * len(self.DAYS)))):

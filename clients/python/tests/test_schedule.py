@@ -12,13 +12,13 @@ import random
 import unittest
 
 try:
-    from dateutil import rrule
+    from dateutil import relativedelta, rrule
 except ImportError:
-    rrule = None
+    relativedelta = rrule = None
 
 from fotsevindre import (
-    ComponentRange, Convention, Date, DayCount, Frequency, Month, OffsetDateTime, PlainDateTime, Recurrence, Rule, ParseRuleError, ParseRuleErrorKind,
-    SignedDuration, Time, Weekday, Workdays, Zone)
+    CalendarUnit, ComponentRange, Convention, Date, DayCount, Frequency, Month, OffsetDateTime, ParseRuleError, ParseRuleErrorKind, Period, PlainDateTime, Recurrence,
+    Rule, SignedDuration, Time, Weekday, Workdays, Zone)
 
 
 def day(year, month, day_of_month):
@@ -42,7 +42,8 @@ class Months(unittest.TestCase):
         self.assertEqual(day(1980, 6, 1).years_until(day(2024, 5, 31)), 43)
         self.assertEqual(day(1980, 6, 1).years_until(day(2024, 6, 1)), 44)
         self.assertEqual(day(2023, 1, 31).months_until(day(2022, 12, 30)), -1)
-        self.assertEqual(day(2023, 1, 31).period_until(day(2024, 3, 2)), (1, 1, 2))
+        self.assertEqual(day(2023, 1, 31).period_until(day(2024, 3, 2)), Period(years=1, months=1, days=2))
+        self.assertEqual(day(2024, 3, 2).period_until(day(2023, 1, 31)), Period(years=-1, months=-1, days=-2))
 
     def test_drawn_months(self):
         draw = random.Random(1)
@@ -55,6 +56,97 @@ class Months(unittest.TestCase):
                 most = calendar.monthrange(to_year, to_month + 1)[1] if to_year < 10000 else 0
                 wanted = day(to_year, to_month + 1, min(date.day, most))
                 self.assertEqual(day(date.year, date.month, date.day).checked_add_months(months), wanted)
+
+    def test_periods(self):
+        hour = SignedDuration.HOUR
+        for start, period, wanted in (
+            (day(2000, 1, 31), Period(months=1, days=1), day(2000, 3, 1)), (day(2000, 1, 31), Period(months=2), day(2000, 3, 31)),
+            (day(2024, 2, 29), Period(years=1, days=1), day(2025, 3, 1)), (day(2024, 3, 31), Period(months=-1, days=-1), day(2024, 2, 28)),
+            (day(2024, 1, 1), Period(weeks=1, days=1), day(2024, 1, 9)), (Date.MAX, Period(), Date.MAX), (Date.MAX, Period(days=1), None),
+            (Date.MIN, Period(years=-2**31), None), (Date.MIN, Period(years=1999998, months=11, days=30), Date.MAX),
+        ):
+            self.assertEqual(start.checked_add_period(period), wanted)
+            if wanted is None:
+                self.assertRaises(OverflowError, lambda: start + period)
+                self.assertRaises(OverflowError, start.nth_period, period, 1)
+            else:
+                reading = PlainDateTime(start, Time(23))
+                self.assertEqual((start + period, start.nth_period(period, 1), reading + period), (wanted, wanted, PlainDateTime(wanted, Time(23))))
+                self.assertEqual(reading.checked_add_period(period), reading + period)
+        # Steps of a month don't drift.
+        self.assertEqual([day(2024, 1, 31).nth_period(Period(months=1), n) for n in (0, 1, 2, 3, -2)],
+            [day(2024, 1, 31), day(2024, 2, 29), day(2024, 3, 31), day(2024, 4, 30), day(2023, 11, 30)])
+        self.assertRaises(OverflowError, day(2024, 1, 31).nth_period, Period(days=1), 10**30)
+        self.assertEqual(PlainDateTime(day(2000, 1, 31), Time(23)) + Period(months=1, duration=2 * hour), PlainDateTime(day(2000, 3, 1), Time(1)))
+        self.assertIsNone(PlainDateTime.MAX.checked_add_period(Period(duration=SignedDuration.NANOSECOND)))
+        for call in (lambda: day(2024, 1, 1) + Period(duration=hour), lambda: day(2024, 1, 1).checked_add_period(Period(duration=hour)),
+                lambda: day(2024, 1, 1).nth_period(Period(duration=hour), 0), lambda: Period(years=1, days=-1), lambda: Period(weeks=-1, duration=hour)):
+            self.assertRaises(ValueError, call)
+        for call in (lambda: day(2024, 1, 1) - Period(days=1), lambda: Period(days=1) + day(2024, 1, 1), lambda: Time() + Period(), lambda: hour + Period(),
+                lambda: OffsetDateTime.UNIX_EPOCH + Period(days=1), lambda: Period(1), lambda: Period(days=1.0), lambda: Period(duration=1),
+                lambda: day(2024, 1, 1).checked_add_period(1), lambda: Period() < Period(), lambda: Period() + Period()):
+            self.assertRaises(TypeError, call)
+        for name in ("years", "months", "weeks", "days"):
+            self.assertRaises(OverflowError, Period, **{name: 2**31})
+            self.assertEqual(getattr(Period(**{name: -2**31}), name), -2**31)
+
+    def test_periods_by_a_unit(self):
+        for start, end, units in (
+            (day(2000, 1, 31), day(2001, 3, 2), (Period(days=396), Period(weeks=56, days=4), Period(months=13, days=2), Period(years=1, months=1, days=2))),
+            (day(2024, 3, 2), day(2023, 1, 31), (Period(days=-396), Period(weeks=-56, days=-4), Period(months=-13, days=-2),
+                Period(years=-1, months=-1, days=-2))),
+            (day(2023, 1, 31), day(2023, 2, 28), (Period(days=28), Period(weeks=4), Period(months=1), Period(months=1))),
+            (Date.MIN, Date.MIN, (Period(),) * 4),
+        ):
+            by_day, by_week, by_month, by_year = units
+            wanted = [by_day, by_week, by_month, by_month, by_year]
+            self.assertEqual([start.period_until_by(end, unit) for unit in CalendarUnit], wanted)
+            self.assertEqual({start + period for period in wanted}, {end})
+            self.assertEqual(start.period_until(end), by_year)
+        self.assertEqual(Date.MIN.period_until_by(Date.MAX, CalendarUnit.Day), Period(days=(Date.MAX - Date.MIN).days))
+        for call in (lambda: day(2024, 1, 1).period_until_by(day(2024, 1, 2), 1), lambda: day(2024, 1, 1).period_until_by(1, CalendarUnit.Day),
+                lambda: day(2024, 1, 1).period_until_by(day(2024, 1, 2), Frequency.Monthly)):
+            self.assertRaises(TypeError, call)
+
+    def test_steps(self):
+        start, month = day(2024, 1, 31), Period(months=1)
+        for date, step in ((start, 0), (day(2024, 2, 28), 0), (day(2024, 2, 29), 1), (day(2024, 3, 30), 1), (day(2024, 3, 31), 2), (day(2024, 1, 30), None)):
+            self.assertEqual(start.step_of(month, date), step)
+        for period in (Period(), Period(days=-1), Period(days=1, duration=SignedDuration.HOUR)):
+            self.assertIsNone(start.step_of(period, start))
+        self.assertRaises(TypeError, start.step_of, 1, start)
+        draw = random.Random(3)
+        for _ in range(300):
+            period = Period(years=draw.randrange(2), months=draw.randrange(3), weeks=draw.randrange(2), days=draw.randrange(1, 9))
+            date = start + Period(days=draw.randrange(2000))
+            step = start.step_of(period, date)
+            self.assertTrue(start.nth_period(period, step) <= date < start.nth_period(period, step + 1), (period, date))
+
+    def test_periods_are_values(self):
+        named = {"years": 1, "months": 12, "weeks": 7, "days": 30, "duration": SignedDuration(hours=2, nanoseconds=1)}
+        period = Period(**named)
+        self.assertEqual({name: getattr(period, name) for name in named}, named)
+        self.assertEqual((str(period), repr(Period()), repr(Period(days=-1))), (
+            "Period(years=1, months=12, weeks=7, days=30, duration=2h1ns)", "Period()", "Period(days=-1)"))
+        for same in (Period(**named), copy.copy(period), copy.deepcopy(period), *(pickle.loads(pickle.dumps(period, protocol)) for protocol in range(6))):
+            self.assertEqual((same, hash(same)), (period, hash(period)))
+        for name in named:
+            other = Period(**{**named, name: 2 * named[name]})
+            self.assertTrue(other != period and hash(other) != hash(period) and not other == period)
+        self.assertNotEqual(Period(months=12), Period(years=1))
+        self.assertRaises(AttributeError, setattr, period, "years", 2)
+
+    def test_drawn_periods(self):
+        draw = random.Random(2)
+        for _ in range(500 if relativedelta else 0):
+            sign = draw.choice((1, -1))
+            named = {name: sign * draw.randrange(most) for name, most in (("years", 500), ("months", 50), ("weeks", 50), ("days", 500))}
+            start = datetime.datetime(draw.randrange(1000, 3000), draw.randrange(1, 13), 1) + datetime.timedelta(draw.randrange(31), draw.randrange(86400))
+            wanted = start + relativedelta.relativedelta(**named)
+            self.assertEqual((Date.from_date(start.date()) + Period(**named)).to_date(), wanted.date())
+            seconds = sign * draw.randrange(10**6)
+            moved = PlainDateTime.from_datetime(start) + Period(**named, duration=SignedDuration(seconds=seconds))
+            self.assertEqual(moved.to_datetime(), wanted + datetime.timedelta(seconds=seconds))
 
     def test_ends(self):
         leap = day(2024, 2, 29)

@@ -45,6 +45,14 @@ printed: Tuple[str, Date, Time] = (day.strftime(Format("%d")), Date.strptime("20
 zone: Zone = Zone.from_posix("CET-1CEST,M3.5.0,M10.5.0/3")
 zoned: Tuple[OffsetDateTime, Local, int] = (moment.in_zone(zone), zone.resolve(local), zone.instants([0], Policy.Reject).error_count)
 of_zone: List[OffsetDateTime] = list(recurrence.moments(local, zone)) + list(recurrence.moments(local, zone=zone, since=moment))
+in_zone: ZonedDateTime = ZonedDateTime.from_local(local, zone, Policy.Later).with_time(Time.MAX) + Period(months=1) - datetime.timedelta(1)
+of_moment: Tuple[ZonedDateTime, Optional[ZonedDateTime], SignedDuration, int] = (
+    ZonedDateTime(moment, zone).in_zone(zone).start_of_day(), in_zone.checked_add_period(Period(days=1)), in_zone - in_zone, in_zone.year)
+starts: Tuple[ZonedDateTime, SignedDuration, datetime.datetime] = (zone.start_of_day(day), zone.day_length(day), in_zone.to_datetime())
+moved: Tuple[Date, PlainDateTime, Optional[Date], Date] = (
+    day + Period(months=1), local + Period(duration=no_time), day.checked_add_period(Period(days=-1)), day.nth_period(Period(weeks=2), 3))
+period: Period = day.period_until(last)
+of_period: Tuple[int, SignedDuration] = (period.years + period.months + period.weeks + period.days, period.duration)
 weekly: Recurrence = Recurrence.from_parts(Frequency.Weekly, bymonth=Month.June, byweekday=[Weekday.Monday], wkst=Weekday.Sunday, until=moment)
 last_of_zone: Optional[OffsetDateTime] = weekly.until_moment
 fault: Tuple[int, Optional[str]] = (ParseRuleError(1, ParseRuleErrorKind.Missing).position, ParseRuleError(1, ParseRuleErrorKind.Missing).part)
@@ -86,3 +94,15 @@ day.add_months(number=1)  # refused
 day.strftime(29)  # refused
 zone.instants([0], 3)  # refused
 moment.in_zone("Europe/Berlin")  # refused
+day - Period(days=1)  # refused
+moment + Period(days=1)  # refused
+in_zone + 1  # refused
+in_zone < moment  # refused
+Period(days="1")  # refused
+Period(1)  # refused
+period < period  # refused
+ZonedDateTime(local, zone)  # refused
+ZonedDateTime.from_local(local, "Europe/Berlin")  # refused
+in_zone.checked_add(no_time).year  # refused
+in_zone.add_period(no_time)  # refused
+zone.add_days([0], 1, 0)  # refused

@@ -18,6 +18,8 @@ pub mod Walks
 pub mod OneAnswer
 pub mod ZoneResults
 pub mod ZoneTexts
+pub mod ZonedResults
+pub mod Periods
 pub mod OnePass
 pub mod IsoDates
 pub mod OneZone

@@ -1,10 +1,10 @@
 -- Days after a move, if they exist.
-use Rattle.std.proofs.Common.{◌≡◌, ℕ, ◌<◌, ◌≤◌, ◌==◌, if◌then◌else◌, refl, sym, ap, ◌∙◌, arith, ℤ, ◌≤ℤ◌, ◌<ℤ◌, Option, Some, None, IfSome, IfNone, Result, Ok, Err, IfOk, IfErr, subst}
+use Rattle.std.proofs.Common.{◌≡◌, ℕ, ◌<◌, ◌≤◌, ◌==◌, if◌then◌else◌, refl, sym, ap, ◌∙◌, arith, ℤ, pos, ◌≤ℤ◌, ◌<ℤ◌, Option, Some, None, IfSome, IfNone, Result, Ok, Err, IfOk, IfErr, subst}
 use Rattle.std.proofs.lemmas.Int.{ints}
 use Rattle.cal_time.specs.Date.{IsDate}
 use Rattle.cal_schedule.specs.declared.year_fraction.DayCount.{DayCount}
 use Rattle.cal_schedule.specs.declared.year_fraction.DayCount.TheVariants.{Actual360, Actual365Fixed, Thirty360, ThirtyE360, ActualActual}
-use Rattle.cal_schedule.specs.Period.{date_period, Parts}
+use Rattle.cal_schedule.specs.Period.{parts, Parts}
 use Rattle.cal_schedule.specs.declared.workdays.convention.Convention.{Convention}
 use Rattle.cal_schedule.specs.declared.workdays.convention.Convention.TheVariants.{Unadjusted, Following, ModifiedFollowing, Preceding, ModifiedPreceding}
 use Rattle.cal_c.specs.Columns.{IsByte}
@@ -41,8 +41,8 @@ before j k h i e = omega (arith, ints)
 pub number-with : (Has : ℤ → Type 0) (z : ℤ) → Has z → IsNumberWith Has (number_ok z)
 number-with Has z h = record { status_is = refl; has = h }
 
-pub period-with : (Has : Parts → Type 0) (p : Parts) → p ≡ date_period p.years p.months p.days → Has p → IsPeriodWith Has (period_ok p)
-period-with Has p e h = record { status_is = refl; has = subst Has e h }
+pub period-with : (Has : Parts → Type 0) (p : Parts) → p.exact ≡ pos 0 → Has p → IsPeriodWith Has (period_ok p)
+period-with Has p e h = record { status_is = refl; has = subst Has (ap (parts p.years p.months p.weeks p.days) e) h }
 
 -- each number is of one day count
 abbrev count_at : ℕ → DayCount

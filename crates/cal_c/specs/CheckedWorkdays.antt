@@ -1,8 +1,7 @@
 -- The working days that a struct of C holds.
-use Rattle.std.specs.Prelude.{◌≡◌, ◌⊎◌, ℕ, ◌+◌, ◌<◌, ◌≤◌, List, length, take, get_or, ℤ, pos, ◌<ℤ◌, ◌≤ℤ◌, true, Option, IfSome}
-use Rattle.cal_time.specs.Date.{last_day, IsDate}
-use Rattle.cal_time.specs.IsoWeekDate.{count_before}
-use Rattle.cal_schedule.specs.Workdays.{WorkWeek, is_workday, nth_workday}
+use Rattle.std.specs.Prelude.{◌≡◌, ℕ, ◌<◌, ◌≤◌, List, take, get_or, ℤ, Option, IfSome}
+use Rattle.cal_time.specs.Date.{IsDate}
+use Rattle.cal_schedule.specs.Workdays.{WorkWeek, nth_workday}
 use Rattle.cal_schedule.specs.WorkdaysSplit.{marked_count}
 use Rattle.cal_c.specs.Results.{date_or_out_of_range, date_error, number_ok, number_error}
 use Rattle.cal_c.specs.declared.status.TheConstants.{OK, INVALID_DATE, INVALID_WEEKMASK, TOO_MANY_HOLIDAYS}
@@ -55,20 +54,3 @@ abbrev pub IsWorkdaysBetween : CheckedWorkdays → ℤ → ℤ → NumberResult 
 IsWorkdaysBetween c date other r = IsForWeek c (λ s. r ≡ number_error s)
     (need IsJulianDay date × IsJulianDay other else r ≡ number_error INVALID_DATE then r.status ≡ OK)
     (λ w. IsJulianDay date → IsJulianDay other → r ≡ number_ok (workdays_between w (day_of date) (day_of other)))
-
--- The rank of a day is the number of working days before it. The first i holidays are those with at
--- most this rank.
-pub record HavePassed (w : WorkWeek) (rank i : ℕ) : Type 0 where
-  pub most : i ≤ length w.holidays
-  pub before : (j : ℕ) → j < i → count_before (is_workday w) (get_or w.holidays j 0) ≤ rank
-  pub after : (j : ℕ) → i ≤ j → j < length w.holidays → rank < count_before (is_workday w) (get_or w.holidays j 0)
-
--- Day x is the working day of the range with this rank.
-pub record IsDayOfRank (w : WorkWeek) (rank : ℤ) (x : ℕ) : Type 0 where
-  pub date : IsDate x
-  pub workday : is_workday w x ≡ true
-  pub has_rank : pos (count_before (is_workday w) x) ≡ rank
-
--- No working day of the range has this rank.
-abbrev pub NoDayOfRank : WorkWeek → ℤ → Type 0
-NoDayOfRank w rank = (rank <ℤ pos 0) ⊎ (pos (count_before (is_workday w) (last_day + 1)) ≤ℤ rank)

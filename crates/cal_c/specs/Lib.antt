@@ -14,6 +14,8 @@ pub mod RecurrenceParts
 pub mod CheckedWorkdays
 pub mod Zones
 pub mod ZoneColumns
+pub mod Periods
+pub mod Zoned
 pub mod Formats
 pub mod FormatTexts
 pub mod FormatParsing

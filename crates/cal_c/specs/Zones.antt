@@ -126,6 +126,7 @@ zone_status kinds.Offset = INVALID_LOCAL_TYPE
 zone_status kinds.Daylight = INVALID_LOCAL_TYPE
 zone_status kinds.NameIndex = INVALID_ABBREVIATION
 zone_status kinds.NotAscii = INVALID_ABBREVIATION
+zone_status kinds.NameEnd = INVALID_ABBREVIATION
 zone_status (kinds.Timeline error) = timeline_status error
 zone_status kinds.Newline = MISSING_NEWLINE
 zone_status kinds.Name = INVALID_ABBREVIATION

@@ -29,6 +29,7 @@ mod constructors;
 mod months;
 mod statuses;
 mod texts;
+mod zoned;
 mod zones;
 
 use crate::status::OK;

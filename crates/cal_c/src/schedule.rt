@@ -3,8 +3,11 @@
 mod date_list;
 mod months;
 mod period_ends;
+pub mod periods;
 mod recurrences;
 mod results;
+mod steps;
+mod units;
 mod until;
 mod weekdays;
 pub mod workdays;

@@ -1,5 +1,6 @@
 //! The statuses. The header has them as an enum. The statuses from `YEAR_OUT_OF_RANGE` to
-//! `TIMESTAMP_OUT_OF_RANGE`, and from `DAY_OUT_OF_RANGE` on, name a component that is out of range.
+//! `TIMESTAMP_OUT_OF_RANGE`, and from `DAY_OUT_OF_RANGE` to `WEEKDAY_OUT_OF_RANGE`, name a component
+//! that is out of range.
 ghost use Rattle.std.specs.Prelude.{◌≡◌};
 ghost use Rattle.cal_c.specs.Statuses.{component_status};
 
@@ -191,6 +192,18 @@ pub const ORDINAL_OUT_OF_RANGE: i32 = 65;
 pub const WEEK_OUT_OF_RANGE: i32 = 66;
 
 pub const WEEKDAY_OUT_OF_RANGE: i32 = 67;
+
+/// A part of the period is positive and another one negative, or its duration is invalid.
+pub const INVALID_PERIOD: i32 = 68;
+
+/// The period has a duration, and a date has no time of day.
+pub const PERIOD_HAS_DURATION: i32 = 69;
+
+/// The offset of the moment is not the offset of the zone at its instant.
+pub const WRONG_OFFSET: i32 = 70;
+
+/// The number is not a unit of the calendar.
+pub const INVALID_UNIT: i32 = 71;
 
 /// Returns the status of an error, by its component.
 pub fn error_status(error: ComponentRange) -> i32

@@ -12,3 +12,4 @@ pub mod policy;
 mod printing;
 mod resolution;
 pub mod results;
+mod zoned;

@@ -109,9 +109,10 @@ impl UtcOffset {
         ensures minutes { result.1 ≡ minutes_past_hour self }
         ensures seconds { result.2 ≡ seconds_past_minute self }
     {
+        let minutes = self.whole_minutes();
         (
-            self.whole_hours(),
-            self.minutes_past_hour(),
+            (minutes / 60) as i8,
+            (minutes % 60) as i8,
             self.seconds_past_minute(),
         )
     }

@@ -14,7 +14,7 @@ use Rattle.cal_date.proofs.Packed.{bool_byte-most}
 -- The leap mark and the days before each month. A leap year begins at 16.
 abbrev pub starts : List ℕ
 starts = 0 ∷ 31 ∷ 59 ∷ 90 ∷ 120 ∷ 151 ∷ 181 ∷ 212 ∷ 243 ∷ 273 ∷ 304 ∷ 334 ∷ 365 ∷ 0 ∷ 0 ∷ 0
-    ∷ 512 ∷ 543 ∷ 572 ∷ 603 ∷ 633 ∷ 664 ∷ 694 ∷ 725 ∷ 756 ∷ 786 ∷ 817 ∷ 847 ∷ 878 ∷ []
+    ∷ 512 ∷ 543 ∷ 572 ∷ 603 ∷ 633 ∷ 664 ∷ 694 ∷ 725 ∷ 756 ∷ 786 ∷ 817 ∷ 847 ∷ 878 ∷ 0 ∷ 0 ∷ 0 ∷ 0 ∷ []
 
 abbrev pub start : ℕ → ℕ
 start j = slice_index_or starts j 0

@@ -17,3 +17,6 @@ pub mod OneAnswer
 pub mod WorkdaysSearch
 pub mod WorkdaysWeeks
 pub mod Periods
+pub mod StepsInOrder
+pub mod UntilBy
+pub mod DateRanges

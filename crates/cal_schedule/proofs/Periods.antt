@@ -1,11 +1,11 @@
 -- Days moved by periods.
-use Rattle.std.proofs.Common.{◌≡◌, ℕ, ◌≤◌, ◌<◌, sym, ap, ◌∙◌, subst, arith, inl, inr, w32, FitsSigned}
+use Rattle.std.proofs.Common.{◌≡◌, ℕ, ◌≤◌, ◌<◌, sym, ◌∙◌, subst, arith, inl, inr, w32, FitsSigned}
 use Rattle.std.proofs.lemmas.Int.{ints, by_lt_z}
 use Rattle.std.proofs.lemmas.Bool.{cases_lt}
-use Rattle.std.specs.Prelude.{◌≢◌, Bool, true, false, Result, Ok, Err, Option, Some, None, ℤ, pos, negsuc, neg_ℤ, ◌+ℤ◌, ◌-ℤ◌, ◌*ℤ◌, ◌≤ℤ◌, ◌<ℤ◌, IfSome}
+use Rattle.std.specs.Prelude.{◌≢◌, Bool, true, false, Result, Ok, Err, Option, Some, None, ℤ, pos, negsuc, neg_ℤ, ◌+ℤ◌, ◌*ℤ◌, ◌≤ℤ◌, IfSome}
 use Rattle.cal_time.specs.Date.{last_day, IsDate, julian_day_at}
 use Rattle.cal_schedule.specs.declared.period_error.PeriodError.{PeriodError}
-use Rattle.cal_schedule.specs.Months.{month_number_at, IsMonthsLater}
+use Rattle.cal_schedule.specs.Months.{IsMonthsLater}
 use Rattle.cal_schedule.specs.Period.{date_period, days_of, months_of, AgreeInSign, IsDateAfter, IsDaysLater, IsOneSign, Parts}
 use Rattle.cal_schedule.proofs.MonthMoves.{month_numbers-rise, one_later, IsMonthNumber-date}
 use Rattle.cal_schedule.proofs.Untils.{no_months}
@@ -89,7 +89,7 @@ multiple (pos a) m d (inr h) = inr (down a m h.0, down a d h.1)
 multiple (negsuc a) m d (inl h) = inr (turned_down a m h.0, turned_down a d h.1)
 multiple (negsuc a) m d (inr h) = inl (turned_up a m h.0, turned_up a d h.1)
 
-parts_agree : (p : Parts) → IsOneSign p → AgreeInSign (months_of p) (days_of p)
+pub parts_agree : (p : Parts) → IsOneSign p → AgreeInSign (months_of p) (days_of p)
 parts_agree p (inl h) = inl (omega (arith, ints), omega (arith, ints))
 parts_agree p (inr h) = inr (omega (arith, ints), omega (arith, ints))
 

@@ -113,7 +113,7 @@ has_later a m h =
     }
 
 -- More months give a day that isn't earlier.
-later-rises : (a r s : ℕ) (k m : ℤ) → k ≤ℤ m → IsMonthsLater a k r → IsMonthsLater a m s → r ≤ s
+pub later-rises : (a r s : ℕ) (k m : ℤ) → k ≤ℤ m → IsMonthsLater a k r → IsMonthsLater a m s → r ≤ s
 later-rises a r s k m h x y =
     by_lt_z k m (λ less. let before : r < s = earlier r s (omega (arith, ints, x.month, y.month)) in omega arith) (λ most.
     let same : k ≡ m = omega (arith, ints) in

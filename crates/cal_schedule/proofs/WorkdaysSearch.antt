@@ -1,75 +1,146 @@
--- The results of the searches.
-use Rattle.std.proofs.Common.{◌≡◌, ℕ, zero, suc, ◌+◌, ◌-◌, ◌<◌, ◌≤◌, sym, ap, ◌∙◌, arith, length, get_or, slice_get, Option, Some, None, true, inl, inr}
-use Rattle.std.specs.Prelude.{SomeIff, IfSome}
+-- Working days by their ranks.
+use Rattle.std.proofs.Common.{◌≡◌, ℕ, zero, suc, ◌+◌, ◌-◌, ◌<◌, ◌≤◌, ap, arith, List, Bool, length, get_or, slice_get, Option, Some, None, true, refl, sym, ◌∙◌, subst, inl, inr, ℤ, pos, ◌+ℤ◌, ◌-ℤ◌, ◌<ℤ◌, ◌≤ℤ◌}
+use Rattle.std.specs.Int.{from_bool}
+use Rattle.std.specs.Prelude.{IfSome}
 use Rattle.std.proofs.lemmas.Bool.{cases_lt, cases_Bool}
-use Rattle.std.proofs.lemmas.List.Sums.{count_by_more_yes}
+use Rattle.std.proofs.lemmas.Int.{ints, by_lt_z}
+use Rattle.std.proofs.lemmas.List.Sums.{count_by_more_yes, count_by_more_no}
 use Rattle.cal_time.specs.Date.{last_day, IsDate}
 use Rattle.cal_time.specs.IsoWeekDate.{count_before}
 use Rattle.cal_schedule.specs.Workdays.{WorkWeek, is_marked, is_workday, workdays_from, workdays_before, workdays_within}
 use Rattle.cal_schedule.specs.WorkdaysLaws.{length-within}
-use Rattle.cal_schedule.specs.WorkdaysSplit.{IsSplit, marked_count, IsNthFrom, IsNthBefore}
-use Rattle.cal_schedule.specs.Ranks.{count-none, count-yes, count-no, count-rises, count-less, greater-rank, below-rank, nth-from, none-nth_from, nth-back, none-nth_back}
-use Rattle.cal_schedule.proofs.WorkdaysWeeks.{Rises, ranks, free, before-last, workday-unmarked, none-marked}
+use Rattle.cal_schedule.specs.WorkdaysSplit.{HavePassed, IsMarkedBefore, IsRanked, IsSplit, marked_count}
+use Rattle.cal_schedule.specs.Ranks.{count-rises, count-less, greater-rank, nth-from, none-nth_from, nth-back, none-nth_back}
+use Rattle.cal_schedule.proofs.WorkdaysWeeks.{Rises, ranks, free, held-next, low-more, high-less}
 
--- The search forward: the holidays passed, and the holidays left.
-pub left-from : (w : WorkWeek) → Rises w.holidays → (i before : ℕ) → before < count_before (is_marked w) (get_or w.holidays i 0)
-    → (j : ℕ) → i ≤ j → j < length w.holidays → before < count_before (is_marked w) (get_or w.holidays j 0)
-left-from w r i before h j low high =
-    elim (cases_lt i j) as (λ _. before < count_before (is_marked w) (get_or w.holidays j 0)) [
-      | inl less ↦ omega (arith, count-rises (is_marked w) (get_or w.holidays i 0) (get_or w.holidays j 0) (omega (arith, r i j less high)))
-      | inr most ↦ let e : i ≡ j = omega arith in omega (arith, ap (λ k. count_before (is_marked w) (get_or w.holidays k 0)) e)
+-- the rank of a holiday, by the marked days and the marked holidays before it
+split-at : (w : WorkWeek) → Rises w.holidays → (i : ℕ) → i < length w.holidays → IsSplit w.holidays i (get_or w.holidays i 0)
+split-at w r i low = record {
+  most = omega arith;
+  before = λ j h. r j i h low;
+  after = high-less w.holidays r i (get_or w.holidays i 0) (omega arith);
+}
+
+pub rank-at : (w : WorkWeek) → Rises w.holidays → (i : ℕ) → i < length w.holidays
+    → count_before (is_workday w) (get_or w.holidays i 0) + marked_count w i ≡ count_before (is_marked w.marks) (get_or w.holidays i 0)
+rank-at w r i low = ranks w r i (get_or w.holidays i 0) (split-at w r i low)
+
+-- a step over a holiday: its rank, and the marked holidays up to it
+pub step : (w : WorkWeek) (marks : List Bool) → Rises w.holidays → marks ≡ w.marks → (i day n : ℕ) (b : Bool) → i < length w.holidays → day ≡ get_or w.holidays i 0
+    → n ≡ count_before (is_marked marks) day → b ≡ is_marked marks day
+    → (count_before (is_workday w) (get_or w.holidays i 0) + marked_count w i ≡ n) × (marked_count w (i + 1) ≡ marked_count w i + from_bool b)
+step w marks r same i day n b low at count mark = (
+  rank-at w r i low ∙ ap (count_before (is_marked w.marks)) (sym at) ∙ ap (λ m. count_before (is_marked m) day) (sym same) ∙ sym count,
+  held-next w i b _ low (mark ∙ ap (λ m. is_marked m day) same ∙ ap (is_marked w.marks) at) refl,
+)
+
+-- the halves of a search for a rank
+pub passed-more : (w : WorkWeek) → Rises w.holidays → (m : ℕ) (rank : ℤ) → m < length w.holidays → pos (count_before (is_workday w) (get_or w.holidays m 0)) ≤ℤ rank
+    → (j : ℕ) → j < m + 1 → pos (count_before (is_workday w) (get_or w.holidays j 0)) ≤ℤ rank
+passed-more w r m rank low h j less =
+    omega (arith, ints, count-rises (is_workday w) (get_or w.holidays j 0) (get_or w.holidays m 0) (high-less w.holidays r j _ (omega arith) m (omega arith) low))
+
+pub left-less : (w : WorkWeek) → Rises w.holidays → (m : ℕ) (rank : ℤ) → rank <ℤ pos (count_before (is_workday w) (get_or w.holidays m 0))
+    → (j : ℕ) → m ≤ j → j < length w.holidays → rank <ℤ pos (count_before (is_workday w) (get_or w.holidays j 0))
+left-less w r m rank h j most high =
+    omega (arith, ints, count-rises (is_workday w) (get_or w.holidays m 0) (get_or w.holidays j 0) (high-less w.holidays r m _ (omega arith) j most high))
+
+-- the marked holidays before an index never fall
+marked-step : (w : WorkWeek) (i : ℕ) → i < length w.holidays → marked_count w i ≤ marked_count w (i + 1)
+marked-step w i low =
+    elim (cases_Bool (is_marked w.marks (get_or w.holidays i 0))) as (λ _. marked_count w i ≤ marked_count w (i + 1)) [
+      | inl hit ↦ omega (arith, count_by_more_yes (is_marked w.marks) w.holidays i 0 low hit)
+      | inr miss ↦ omega (arith, count_by_more_no (is_marked w.marks) w.holidays i 0 low miss)
     ]
 
-pub found-from : (w : WorkWeek) → Rises w.holidays → (start i from n before x : ℕ) → IsSplit w.holidays start from → i ≤ length w.holidays
-    → before + marked_count w start ≡ count_before (is_marked w) from + n + marked_count w i → count_before (is_marked w) from ≤ before
-    → ((j : ℕ) → j < i → count_before (is_marked w) (get_or w.holidays j 0 + 1) ≤ before)
-    → ((j : ℕ) → i ≤ j → j < length w.holidays → before < count_before (is_marked w) (get_or w.holidays j 0))
-    → is_marked w x ≡ true → count_before (is_marked w) x ≡ before → IsNthFrom w from n x
-found-from w r start i from n before x s most sum least passed left on e =
-    let below : (j : ℕ) → j < i → get_or w.holidays j 0 < x = λ j h. below-rank (is_marked w) (get_or w.holidays j 0) x on (omega (arith, passed j h)) in
-    let above : (j : ℕ) → i ≤ j → j < length w.holidays → x < get_or w.holidays j 0 =
-    λ j low high. greater-rank (is_marked w) x (get_or w.holidays j 0) (omega (arith, left j low high)) in
-    let split : IsSplit w.holidays i x = record { most = most; before = below; after = λ j low high. omega (arith, above j low high) } in
-    record {
-      workday = free w i x on below above;
-      not_before = elim (cases_lt x from) as (λ _. from ≤ x) [
-        | inl less ↦ absurd (omega (arith, count-less (is_marked w) x from on less))
-        | inr later ↦ later
-      ];
-      rank = omega (arith, ranks w r i x split, ranks w r start from s);
-    }
+marked-rises : (w : WorkWeek) (i j : ℕ) → i ≤ j → j ≤ length w.holidays → marked_count w i ≤ marked_count w j
+marked-rises w i zero h most = let e : i ≡ 0 = omega arith in omega (arith, ap (marked_count w) e)
+marked-rises w i (suc j) h most =
+    let one : j + 1 ≡ suc j = omega arith in
+    elim (cases_lt i (suc j)) as (λ _. marked_count w i ≤ marked_count w (suc j)) [
+      | inl less ↦ omega (arith, marked-rises w i j (omega arith) (omega arith), marked-step w j (omega arith), ap (marked_count w) one)
+      | inr same ↦ let e : i ≡ suc j = omega arith in omega (arith, ap (marked_count w) e)
+    ]
 
--- the search back
-pub passed-back : (w : WorkWeek) → Rises w.holidays → (i x : ℕ) → i < length w.holidays
-    → count_before (is_marked w) (get_or w.holidays i 0 + 1) ≤ count_before (is_marked w) x → is_marked w x ≡ true
-    → (j : ℕ) → j < i + 1 → get_or w.holidays j 0 < x
-passed-back w r i x low h on j less = before-last w r i x low (below-rank (is_marked w) (get_or w.holidays i 0) x on h) j (omega arith)
+-- the holidays before a day, if the first k are
+split-from : (days : List ℕ) → Rises days → (n k left : ℕ) → k + left ≡ length days → ((j : ℕ) → j < k → get_or days j 0 < n) → (i : ℕ) × (k ≤ i) × IsSplit days i n
+split-from days r n k zero e h = (k, omega arith, record { most = omega arith; before = h; after = λ j most low. absurd (omega arith) })
+split-from days r n k (suc left) e h =
+    elim (cases_lt (get_or days k 0) n) as (λ _. (i : ℕ) × (k ≤ i) × IsSplit days i n) [
+      | inl less ↦ let more = split-from days r n (k + 1) left (omega arith) (low-more days r k n (omega arith) less) in (more.0, omega (arith, more.1), more.2)
+      | inr most ↦ (k, omega arith, record { most = omega arith; before = h; after = high-less days r k n most })
+    ]
 
-pub found-back : (w : WorkWeek) → Rises w.holidays → (end i to n before x : ℕ) → IsSplit w.holidays end to → i ≤ end
-    → before + (n + 1) + marked_count w end ≡ count_before (is_marked w) to + marked_count w i → before + (n + 1) ≤ count_before (is_marked w) to
-    → ((j : ℕ) → i ≤ j → j < end → before < count_before (is_marked w) (get_or w.holidays j 0))
-    → ((j : ℕ) → j < i → get_or w.holidays j 0 < x)
-    → is_marked w x ≡ true → count_before (is_marked w) x ≡ before → IsNthBefore w to n x
-found-back w r end i to n before x s within sum most passed below on e =
-    let earlier : x < to = greater-rank (is_marked w) x to (omega arith) in
-    let above : (j : ℕ) → i ≤ j → j < length w.holidays → x < get_or w.holidays j 0 =
-    λ j low high. elim (cases_lt j end) as (λ _. x < get_or w.holidays j 0) [
-      | inl less ↦ greater-rank (is_marked w) x (get_or w.holidays j 0) (omega (arith, passed j low less))
-      | inr later ↦ omega (arith, s.after j later high)
-    ] in
-    let split : IsSplit w.holidays i x = record { most = omega (arith, s.most); before = below; after = λ j low high. omega (arith, above j low high) } in
-    record {
-      workday = free w i x on below above;
-      before = earlier;
-      rank = omega (arith, ranks w r i x split, ranks w r end to s);
-    }
+held-most : (w : WorkWeek) → Rises w.holidays → (k n : ℕ) → k ≤ length w.holidays → ((j : ℕ) → j < k → get_or w.holidays j 0 < n)
+    → count_before (is_workday w) n + marked_count w k ≤ count_before (is_marked w.marks) n
+held-most w r k n most h =
+    let split = split-from w.holidays r n k (length w.holidays - k) (omega arith) h in
+    omega (arith, ranks w r split.0 n split.2, marked-rises w k split.0 split.1 split.2.most)
 
-pub none-back_few : (w : WorkWeek) → Rises w.holidays → (end to n : ℕ) → IsSplit w.holidays end to → count_before (is_marked w) to ≤ n → count_before (is_workday w) to ≤ n
-none-back_few w r end to n s h = omega (arith, ranks w r end to s)
+-- The marked day with the marked holidays of the search and the rank before it is the working day.
+below : (w : WorkWeek) → Rises w.holidays → (k : ℕ) (rank : ℤ) (x : ℕ) → HavePassed w rank k → is_marked w.marks x ≡ true
+    → pos (count_before (is_marked w.marks) x) ≡ rank +ℤ pos (marked_count w k) → (j : ℕ) → j < k → get_or w.holidays j 0 < x
+below w r k rank x p on e j less =
+    let low : j < length w.holidays = omega (arith, p.most) in
+    let here = rank-at w r j low in
+    let counts = marked-rises w j k (omega arith) p.most in
+    elim (cases_lt (get_or w.holidays j 0) x) as (λ _. get_or w.holidays j 0 < x) [
+      | inl before ↦ before
+      | inr most ↦ elim (cases_lt x (get_or w.holidays j 0)) as (λ _. get_or w.holidays j 0 < x) [
+        | inl after ↦ absurd (omega (arith, ints, count-less (is_marked w.marks) x (get_or w.holidays j 0) on after, here, counts, e, p.before j less))
+        | inr same ↦
+            let is : x ≡ get_or w.holidays j 0 = omega arith in
+            let more = count_by_more_yes (is_marked w.marks) w.holidays j 0 low (sym (ap (is_marked w.marks) is) ∙ on) in
+            absurd (omega (arith, ints, ap (count_before (is_marked w.marks)) is, here, more, e, marked-rises w (j + 1) k (omega arith) p.most, p.before j less))
+      ]
+    ]
 
-pub none-back_held : (w : WorkWeek) → Rises w.holidays → (end i to n : ℕ) → IsSplit w.holidays end to → i < length w.holidays
-    → n + 1 + marked_count w end ≡ count_before (is_marked w) to + marked_count w (i + 1) → is_marked w (get_or w.holidays i 0) ≡ true → count_before (is_workday w) to ≤ n
-none-back_held w r end i to n s low sum on = omega (arith, ranks w r end to s, count_by_more_yes (is_marked w) w.holidays i 0 low on)
+above : (w : WorkWeek) → Rises w.holidays → (k : ℕ) (rank : ℤ) (x : ℕ) → HavePassed w rank k → pos (count_before (is_marked w.marks) x) ≡ rank +ℤ pos (marked_count w k)
+    → (j : ℕ) → k ≤ j → j < length w.holidays → x < get_or w.holidays j 0
+above w r k rank x p e j most high =
+    greater-rank (is_marked w.marks) x (get_or w.holidays j 0)
+    (omega (arith, ints, rank-at w r j high, marked-rises w k j most (omega arith), e, p.after j most high))
+
+pub ranked : (w : WorkWeek) (marks : List Bool) → Rises w.holidays → (rank n : ℤ) (r : Option ℕ) → marks ≡ w.marks → IsMarkedBefore w rank n
+    → IsRanked (is_marked marks) n r → IsRanked (is_workday w) rank r
+ranked w marks rise rank n r same p h = of r (subst (λ m. IsRanked (is_marked m) n r) same h)
+  where
+    of : (r : Option ℕ) → IsRanked (is_marked w.marks) n r → IsRanked (is_workday w) rank r
+    of None (inl negative) = inl (omega (arith, ints, p.2))
+    of None (inr past) =
+        by_lt_z rank (pos (count_before (is_workday w) (last_day + 1)))
+        (λ less. absurd (omega (arith, ints, past, p.2, held-most w rise p.0 (last_day + 1) p.1.most (λ j low. greater-rank (is_workday w) _ _ (omega (arith, ints, p.1.before j low))))))
+        (λ most. inr most)
+    of (Some x) h =
+        let e : pos (count_before (is_marked w.marks) x) ≡ rank +ℤ pos (marked_count w p.0) = h.has_rank ∙ p.2 in
+        let lower = below w rise p.0 rank x p.1 h.passes e in
+        let higher = above w rise p.0 rank x p.1 e in
+        let split : IsSplit w.holidays p.0 x = record { most = p.1.most; before = lower; after = λ j most high. omega (arith, higher j most high) } in
+        record { date = h.date; passes = free w p.0 x h.passes lower higher; has_rank = omega (arith, ints, e, ranks w rise p.0 x split) }
+
+-- the day of a rank in the list, or none
+pub from-rank : (w : WorkWeek) (n k : ℕ) (rank : ℤ) (r : Option ℕ) → n ≤ last_day + 1 → rank ≡ pos (count_before (is_workday w) n + k)
+    → IsRanked (is_workday w) rank r → (r ≡ slice_get (workdays_from w n) k) × IfSome r (λ day. (is_workday w day ≡ true) × (n ≤ day) × IsDate day)
+from-rank w n k rank None low e (inl negative) = absurd (omega (arith, ints))
+from-rank w n k rank None low e (inr past) =
+    let all : n + (last_day + 1 - n) ≡ last_day + 1 = omega arith in
+    (sym (none-nth_from (is_workday w) n (last_day + 1 - n) k (omega (arith, ints, ap (count_before (is_workday w)) all))), tt)
+from-rank w n k rank (Some x) low e h =
+    let not_before : n ≤ x = elim (cases_lt x n) as (λ _. n ≤ x) [
+      | inl less ↦ absurd (omega (arith, ints, h.has_rank, count-less (is_workday w) x n h.passes less))
+      | inr most ↦ most
+    ] in (
+      sym (nth-from (is_workday w) n (last_day + 1 - n) k x not_before (omega (arith, h.date)) h.passes (omega (arith, ints, h.has_rank))),
+      (h.passes, not_before, h.date),
+    )
+
+pub back-rank : (w : WorkWeek) (n k : ℕ) (rank : ℤ) (r : Option ℕ) → n ≤ last_day + 1 → rank ≡ pos (count_before (is_workday w) n) -ℤ pos (k + 1)
+    → IsRanked (is_workday w) rank r → (r ≡ slice_get (workdays_before w n) k) × IfSome r (λ day. (is_workday w day ≡ true) × (day < n) × IsDate day)
+back-rank w n k rank None low e (inl negative) = (sym (none-nth_back (is_workday w) n k (omega (arith, ints))), tt)
+back-rank w n k rank None low e (inr past) = absurd (omega (arith, ints, count-rises (is_workday w) n (last_day + 1) low))
+back-rank w n k rank (Some x) low e h =
+    let before : x < n = greater-rank (is_workday w) x n (omega (arith, ints, h.has_rank)) in
+    (sym (nth-back (is_workday w) n k x before h.passes (omega (arith, ints, h.has_rank))), (h.passes, before, h.date))
 
 -- the count
 pub split-order : (w : WorkWeek) (start end from to : ℕ) → from ≤ to → IsSplit w.holidays start from → IsSplit w.holidays end to → start ≤ end
@@ -79,66 +150,11 @@ split-order w start end from to h s t =
       | inr most ↦ most
     ]
 
-pub count-within : (w : WorkWeek) → Rises w.holidays → (start end from to held : ℕ) → from ≤ to → IsSplit w.holidays start from → IsSplit w.holidays end to
-    → held + marked_count w start ≡ marked_count w end
-    → count_before (is_marked w) to ≡ length (workdays_within w from to) + held + count_before (is_marked w) from
-count-within w r start end from to held h s t sum = omega (arith, ranks w r start from s, ranks w r end to t, length-within w from to h)
-
--- the day of a rank in the list, or none
-pub day-from : (w : WorkWeek) (n k x : ℕ) (r : Option ℕ) → n ≤ last_day + 1 → IsNthFrom w n k x → SomeIff r (IsDate x) x → r ≡ slice_get (workdays_from w n) k
-day-from w n k x None low h out =
-    let all : n + (last_day + 1 - n) ≤ x = omega arith in
-    sym (none-nth_from (is_workday w) n (last_day + 1 - n) k (omega (arith, count-rises (is_workday w) (n + (last_day + 1 - n)) x all, h.rank)))
-day-from w n k x (Some y) low h is =
-    ap Some is.1 ∙ sym (nth-from (is_workday w) n (last_day + 1 - n) k x h.not_before (omega (arith, is.0)) h.workday h.rank)
-
-pub found-day_from : (w : WorkWeek) (n k x : ℕ) (r : Option ℕ) → IsNthFrom w n k x → SomeIff r (IsDate x) x
-    → IfSome r (λ day. (is_workday w day ≡ true) × (n ≤ day) × IsDate day)
-found-day_from w n k x None h out = tt
-found-day_from w n k x (Some y) h is = (ap (is_workday w) is.1 ∙ h.workday, omega (arith, is.1, h.not_before), omega (arith, is.0, is.1))
-
-pub day-back : (w : WorkWeek) (n k x : ℕ) (r : Option ℕ) → n ≤ last_day + 1 → IsNthBefore w n k x → SomeIff r (IsDate x) x → r ≡ slice_get (workdays_before w n) k
-day-back w n k x None low h out = absurd (out (omega (arith, h.before)))
-day-back w n k x (Some y) low h is = ap Some is.1 ∙ sym (nth-back (is_workday w) n k x h.before h.workday h.rank)
-
-pub found-day_back : (w : WorkWeek) (n k x : ℕ) (r : Option ℕ) → IsNthBefore w n k x → SomeIff r (IsDate x) x
-    → IfSome r (λ day. (is_workday w day ≡ true) × (day < n) × IsDate day)
-found-day_back w n k x None h out = tt
-found-day_back w n k x (Some y) h is = (ap (is_workday w) is.1 ∙ h.workday, omega (arith, is.1, h.before), omega (arith, is.0, is.1))
-
-pub none-day_back : (w : WorkWeek) (n k : ℕ) → count_before (is_workday w) n ≤ k → None ≡ slice_get (workdays_before w n) k
-none-day_back w n k h = sym (none-nth_back (is_workday w) n k h)
-
--- a week with no marked day has no working day
-workday-most : (w : WorkWeek) (n : ℕ) → count_before (is_workday w) n ≤ count_before (is_marked w) n
-workday-most w zero = omega (arith, count-none (is_workday w))
-workday-most w (suc n) =
-    elim (cases_Bool (is_marked w n)) [
-      | inl hit ↦ elim (cases_Bool (is_workday w n)) [
-        | inl on ↦ omega (arith, count-yes (is_marked w) n hit, count-yes (is_workday w) n on, workday-most w n)
-        | inr off ↦ omega (arith, count-yes (is_marked w) n hit, count-no (is_workday w) n off, workday-most w n)
-      ]
-      | inr miss ↦ omega (arith, count-no (is_marked w) n miss, count-no (is_workday w) n (workday-unmarked w n miss), workday-most w n)
-    ]
-
-pub no_marks-from : (w : WorkWeek) (n k : ℕ) → count_before (is_marked w) 7 ≡ 0 → None ≡ slice_get (workdays_from w n) k
-no_marks-from w n k e =
-    let all = n + (last_day + 1 - n) in
-    sym (none-nth_from (is_workday w) n (last_day + 1 - n) k (omega (arith, workday-most w all, none-marked w e all)))
-
-pub no_marks-back : (w : WorkWeek) (n k : ℕ) → count_before (is_marked w) 7 ≡ 0 → None ≡ slice_get (workdays_before w n) k
-no_marks-back w n k e = none-day_back w n k (omega (arith, workday-most w n, none-marked w e n))
-
-pub back-passed : (w : WorkWeek) (i end before after k : ℕ)
-    → count_before (is_marked w) (get_or w.holidays i 0 + 1) ≡ count_before (is_marked w) (get_or w.holidays i 0) + k → after + k ≡ before
-    → before < count_before (is_marked w) (get_or w.holidays i 0 + 1)
-    → ((j : ℕ) → i + 1 ≤ j → j < end → before < count_before (is_marked w) (get_or w.holidays j 0))
-    → (j : ℕ) → i ≤ j → j < end → after < count_before (is_marked w) (get_or w.holidays j 0)
-back-passed w i end before after k step sum here passed j low high =
-    elim (cases_lt i j) as (λ _. after < count_before (is_marked w) (get_or w.holidays j 0)) [
-      | inl less ↦ omega (arith, passed j (omega arith) high)
-      | inr most ↦ let same : i ≡ j = omega arith in omega (arith, ap (λ m. count_before (is_marked w) (get_or w.holidays m 0)) same)
-    ]
+pub count-within : (w : WorkWeek) (marks : List Bool) → Rises w.holidays → marks ≡ w.marks → (start end index from to held : ℕ) → from ≤ to → IsSplit w.holidays start from
+    → IsSplit w.holidays end to → held + marked_count w start ≡ marked_count w index → index ≡ end
+    → count_before (is_marked marks) to ≡ length (workdays_within w from to) + held + count_before (is_marked marks) from
+count-within w marks r same start end index from to held h s t sum done =
+    omega (arith, ap (λ m. count_before (is_marked m) from) same, ap (λ m. count_before (is_marked m) to) same, ap (marked_count w) done, ranks w r start from s, ranks w r end to t, length-within w from to h)
 
 -- the calls on dates, which are their numbers
 pub within-same : (w : WorkWeek) (a b m n : ℕ) → a ≡ m → b ≡ n → length (workdays_within w a b) ≡ length (workdays_within w m n)

@@ -4,10 +4,14 @@ pub mod Pattern
 pub mod Period
 pub mod PeriodFields
 pub mod Previous
+pub mod RangeFields
+pub mod Ranges
 pub mod Rule
 pub mod Ranks
 pub mod RuleLaws
 pub mod RuleSearch
+pub mod Steps
+pub mod Units
 pub mod Until
 pub mod Values
 pub mod Weekdays

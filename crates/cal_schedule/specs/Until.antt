@@ -1,5 +1,5 @@
 -- The number of months from one day to another that doesn't pass it.
-use Rattle.std.specs.Prelude.{◌≡◌, ℕ, ◌≤◌, ℤ, pos, ◌+ℤ◌, ◌*ℤ◌, ◌≤ℤ◌}
+use Rattle.std.specs.Prelude.{◌≡◌, ℕ, ◌≤◌, ℤ, pos, ◌+ℤ◌, ◌≤ℤ◌}
 use Rattle.cal_time.specs.Date.{IsDate}
 use Rattle.cal_schedule.specs.Months.{IsMonthsLater}
 use Rattle.cal_schedule.specs.Period.{date_period, months_of, Parts}

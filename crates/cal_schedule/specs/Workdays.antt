@@ -10,8 +10,8 @@ pub record WorkWeek : Type 0 where
   pub holidays : List ℕ
 
 -- Day n has a marked weekday.
-unfoldable pub is_marked : WorkWeek → ℕ → Bool
-is_marked w n = slice_index_or w.marks (weekday_at n) false
+unfoldable pub is_marked : List Bool → ℕ → Bool
+is_marked marks n = slice_index_or marks (weekday_at n) false
 
 -- Day n is a holiday.
 unfoldable pub is_holiday : WorkWeek → ℕ → Bool
@@ -19,7 +19,7 @@ is_holiday w n = list_any (λ h. h == n) w.holidays
 
 -- Day n is a working day: its weekday is marked, and it is not a holiday.
 unfoldable pub is_workday : WorkWeek → ℕ → Bool
-is_workday w n = is_marked w n && not (is_holiday w n)
+is_workday w n = is_marked w.marks n && not (is_holiday w n)
 
 -- The working days of the range from day n on, in ascending order.
 abbrev pub workdays_from : WorkWeek → ℕ → List ℕ

@@ -1,6 +1,7 @@
--- Holidays in order, by the number of them before a day.
-use Rattle.std.specs.Prelude.{◌≡◌, ℕ, ◌+◌, ◌<◌, ◌≤◌, List, length, slice_index, take, true}
+-- Holidays in order, by the number of them before a day, and days by their ranks.
+use Rattle.std.specs.Prelude.{◌≡◌, ◌⊎◌, ℕ, ◌+◌, ◌<◌, ◌≤◌, Bool, List, length, slice_index, take, true, Option, MatchOption, ℤ, pos, ◌+ℤ◌, ◌<ℤ◌, ◌≤ℤ◌}
 use Rattle.std.specs.List.{count_by}
+use Rattle.cal_time.specs.Date.{last_day, IsDate}
 use Rattle.cal_time.specs.IsoWeekDate.{count_before}
 use Rattle.cal_schedule.specs.Workdays.{WorkWeek, is_marked, is_workday}
 
@@ -12,16 +13,27 @@ pub record IsSplit (holidays : List ℕ) (i n : ℕ) : Type 0 where
 
 -- The number of holidays with a marked weekday among the first i.
 abbrev pub marked_count : WorkWeek → ℕ → ℕ
-marked_count w i = count_by (is_marked w) (take i w.holidays)
+marked_count w i = count_by (is_marked w.marks) (take i w.holidays)
 
--- Day x is a working day from day n on, with k others from day n on before it.
-pub record IsNthFrom (w : WorkWeek) (n k x : ℕ) : Type 0 where
-  pub workday : is_workday w x ≡ true
-  pub not_before : n ≤ x
-  pub rank : count_before (is_workday w) x ≡ count_before (is_workday w) n + k
+-- The first i holidays are those with at most this rank, the number of working days before a day.
+pub record HavePassed (w : WorkWeek) (rank : ℤ) (i : ℕ) : Type 0 where
+  pub most : i ≤ length w.holidays
+  pub before : (j : ℕ) → j < i → pos (count_before (is_workday w) (slice_index w.holidays j)) ≤ℤ rank
+  pub after : (j : ℕ) → i ≤ j → j < length w.holidays → rank <ℤ pos (count_before (is_workday w) (slice_index w.holidays j))
 
--- Day x is a working day before day n, with k others in between.
-pub record IsNthBefore (w : WorkWeek) (n k x : ℕ) : Type 0 where
-  pub workday : is_workday w x ≡ true
-  pub before : x < n
-  pub rank : count_before (is_workday w) x + (k + 1) ≡ count_before (is_workday w) n
+-- There are n marked days before the working day with this rank: its rank, and the marked holidays
+-- that have passed.
+abbrev pub IsMarkedBefore : WorkWeek → ℤ → ℤ → Type 0
+IsMarkedBefore w rank n = (i : ℕ) × HavePassed w rank i × (n ≡ rank +ℤ pos (marked_count w i))
+
+-- Day x is the day of the range that passes a test and has this rank, the number of such days before
+-- it.
+pub record IsDayOfRank (test : ℕ → Bool) (rank : ℤ) (x : ℕ) : Type 0 where
+  pub date : IsDate x
+  pub passes : test x ≡ true
+  pub has_rank : pos (count_before test x) ≡ rank
+
+-- The result is the day of the range with this rank, or `None` if the range has none.
+abbrev pub IsRanked : (ℕ → Bool) → ℤ → Option ℕ → Type 0
+IsRanked test rank r =
+    MatchOption r ((rank <ℤ pos 0) ⊎ (pos (count_before test (last_day + 1)) ≤ℤ rank)) (IsDayOfRank test rank)

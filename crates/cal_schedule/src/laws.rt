@@ -1,11 +1,14 @@
 //! Laws of several calls: of months here, and of rules and working days in their own modules.
-ghost use Rattle.std.specs.Prelude.{◌≡◌, ◌<◌, ◌≤◌, ℕ, Result, pos, ◌+ℤ◌, Some, IfSome, IsSomeAnd};
+ghost use Rattle.std.specs.Prelude.{◌≡◌, ◌<◌, ◌≤◌, ℕ, Ok, Result, pos, ◌+ℤ◌, Some, IfSome, IsSomeAnd};
 ghost use Rattle.cal_time.specs.Date.{day_of_month_at};
 ghost use Rattle.cal_schedule.specs.Months.{month_number_at};
 ghost use Rattle.cal_schedule.specs.Period.{days_of, months_of, IsDateAfter};
 ghost use Rattle.cal_schedule.specs.declared.period_error.PeriodError.{PeriodError};
 
-use crate::{Period, checked_add_months, months_until};
+use crate::{
+    CalendarUnit, Period, PeriodError, checked_add_months, checked_add_period, months_until,
+    period_until_by,
+};
 use cal_time::Date;
 
 pub mod rules;
@@ -62,6 +65,15 @@ pub fn months_round_trip(date: Date, months: i32) -> Option<Date>
     let negative = months.checked_neg()?;
     let back = checked_add_months(there, negative)?;
     Some(back)
+}
+
+/// Adds the period until a date, by any unit, which gives the date.
+pub fn until_adds(from: Date, to: Date, unit: CalendarUnit) -> Result<Date, PeriodError>
+    ensures { result ≡ Ok to }
+{
+    // It states that the date is in range.
+    let _ = to.to_julian_day();
+    checked_add_period(from, period_until_by(from, to, unit))
 }
 
 /// Proves that a period leads from a date to one result.

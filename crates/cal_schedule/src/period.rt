@@ -36,7 +36,7 @@ impl Model for Period {
 
 impl Period {
     /// Creates a period from its parts. Returns `None` if one part is positive and another one
-    /// negative.
+    /// negative. A month and an hour are a period, and a month less an hour isn't.
     pub fn new(
         years: i32,
         months: i32,
@@ -59,7 +59,7 @@ impl Period {
         })
     }
 
-    /// Creates a period of years.
+    /// Creates a period of years. 4 years after 29 February 2024 is 29 February 2028.
     pub fn from_years(years: i32) -> Self
         ensures { result ≡ parts years (pos 0) (pos 0) (pos 0) (pos 0) }
     {
@@ -72,7 +72,7 @@ impl Period {
         }
     }
 
-    /// Creates a period of months.
+    /// Creates a period of months. A month after 31 January 2024 is 29 February.
     pub fn from_months(months: i32) -> Self
         ensures { result ≡ parts (pos 0) months (pos 0) (pos 0) (pos 0) }
     {
@@ -85,7 +85,7 @@ impl Period {
         }
     }
 
-    /// Creates a period of weeks.
+    /// Creates a period of weeks. 2 weeks after 20 February 2024 is 5 March.
     pub fn from_weeks(weeks: i32) -> Self
         ensures { result ≡ parts (pos 0) (pos 0) weeks (pos 0) (pos 0) }
     {
@@ -98,7 +98,7 @@ impl Period {
         }
     }
 
-    /// Creates a period of days.
+    /// Creates a period of days. 10 days after 20 February 2024 is 1 March.
     pub fn from_days(days: i32) -> Self
         ensures { result ≡ parts (pos 0) (pos 0) (pos 0) days (pos 0) }
     {
@@ -111,7 +111,7 @@ impl Period {
         }
     }
 
-    /// Creates a period of an exact duration.
+    /// Creates a period of an exact duration. 24 hours aren't a day: in a zone a day can have 23.
     pub fn from_duration(duration: SignedDuration) -> Self
         ensures { result ≡ parts (pos 0) (pos 0) (pos 0) (pos 0) duration }
     {
@@ -122,6 +122,15 @@ impl Period {
             days: 0,
             duration,
         }
+    }
+
+    /// Replaces the exact duration. Returns `None` if it is positive and another part negative, or
+    /// the other way round. A month with an hour is a month and an hour.
+    pub fn with_duration(self, duration: SignedDuration) -> Option<Self>
+        ensures { let p = parts self.years self.months self.weeks self.days duration
+            in SomeIff result (IsOneSign p) p }
+    {
+        Self::new(self.years, self.months, self.weeks, self.days, duration)
     }
 
     /// Returns the years.

@@ -61,7 +61,8 @@ pub fn quarter(date: Date) -> u8
     ensures range { (1 ≤ result) × (result ≤ 4) }
     ensures in_range { IsDate date }
 {
-    date.month().place() / 3 + 1
+    let (index, _) = date.month_index_and_day();
+    index / 3 + 1
 }
 
 /// Returns the first day of the quarter. For 29 February 2024 it is 1 January 2024.

@@ -3,10 +3,12 @@ ghost use Rattle.std.specs.Prelude.{◌≡◌, ◌<◌, ◌≤◌, ◌^◌, pos,
 ghost use Rattle.cal_time.specs.Date.{IsDate};
 ghost use Rattle.cal_schedule.specs.Months.{month_number_at, IsMonthNumber, IsMonthsLater};
 ghost use Rattle.cal_schedule.specs.Period.{date_period, months_of};
+ghost use Rattle.cal_schedule.specs.Units.{IsUntilBy};
 ghost use Rattle.cal_schedule.specs.Until.{IsGreatest, IsLeast, IsPeriodUntil, IsMonthsUpTo, IsMonthsBackTo};
 
 use crate::months::checked_add_months;
 use crate::period::Period;
+use crate::unit::CalendarUnit;
 use cal_time::{Date, SignedDuration};
 
 /// Returns the months from the month of one date to the month of another.
@@ -106,6 +108,20 @@ pub fn years_until(from: Date, to: Date) -> i32
     years
 }
 
+/// Returns the months and days from one date to another.
+fn months_and_days_until(from: Date, to: Date) -> (i32, i32)
+    ensures value { IsPeriodUntil from to (date_period (pos 0) result.0 result.1) }
+    ensures value_forward { from ≤ to → IsGreatest (IsMonthsUpTo from to) result.0 }
+    ensures value_backward { to < from → IsLeast (IsMonthsBackTo from to) result.0 }
+    ensures forward { from ≤ to → (pos 0 ≤ℤ result.0) × (pos 0 ≤ℤ result.1) }
+    ensures backward { to < from → (result.0 ≤ℤ pos 0) × (result.1 ≤ℤ pos 0) }
+    ensures in_range { IsDate from × IsDate to }
+{
+    let months = months_until(from, to);
+    let day = add_months(from, months);
+    (months, to.to_julian_day() - day.to_julian_day())
+}
+
 /// Returns the years, months and days from one date to another.
 fn parts_until(from: Date, to: Date) -> (i32, i32, i32)
     ensures value { IsPeriodUntil from to (date_period result.0 result.1 result.2) }
@@ -119,10 +135,9 @@ fn parts_until(from: Date, to: Date) -> (i32, i32, i32)
         × (result.1 ≤ℤ pos 0) × (result.2 ≤ℤ pos 0) }
     ensures in_range { IsDate from × IsDate to }
 {
-    let whole = months_until(from, to);
-    let day = add_months(from, whole);
+    let (whole, days) = months_and_days_until(from, to);
     let (years, months) = years_and_months(whole);
-    (years, months, to.to_julian_day() - day.to_julian_day())
+    (years, months, days)
 }
 
 /// Returns the years, months and days from one date to another: as many whole months as
@@ -143,6 +158,64 @@ pub fn period_until(from: Date, to: Date) -> Period
 {
     let (years, months, days) = parts_until(from, to);
     match Period::new(years, months, 0, days, SignedDuration::ZERO) {
+        Some(period) => period,
+        None => unreachable!(),
+    }
+}
+
+/// Returns the period from one date to another, with `largest` as the largest unit of its parts.
+/// For a year, it is [`period_until`]. For a month or a quarter, it has months and days, and for a
+/// week, weeks and days. Adding it to `from` gives `to`.
+///
+/// From 31 January 2023 to 2 March 2024 it is 13 months and 2 days, or 56 weeks and 4 days, or 396
+/// days.
+pub fn period_until_by(from: Date, to: Date, largest: CalendarUnit) -> Period
+    ensures { IsUntilBy largest from to result }
+{
+    match largest {
+        CalendarUnit::Day => Period::from_days(days_until(from, to)),
+        CalendarUnit::Week => in_weeks(from, to),
+        CalendarUnit::Month => in_months(from, to),
+        CalendarUnit::Quarter => in_months(from, to),
+        CalendarUnit::Year => period_until(from, to),
+    }
+}
+
+/// Returns the days from one date to another.
+fn days_until(from: Date, to: Date) -> i32
+    ensures { pos to ≡ pos from +ℤ result }
+{
+    to.to_julian_day() - from.to_julian_day()
+}
+
+/// Splits days into weeks and days.
+fn weeks_and_days(days: i32) -> (i32, i32)
+    ensures value { days ≡ pos 7 *ℤ result.0 +ℤ result.1 }
+    ensures forward { pos 0 ≤ℤ days → (pos 0 ≤ℤ result.0) × (pos 0 ≤ℤ result.1)
+        × (result.1 ≤ℤ pos 6) }
+    ensures backward { days ≤ℤ pos 0 → (result.0 ≤ℤ pos 0) × (neg_ℤ (pos 6) ≤ℤ result.1)
+        × (result.1 ≤ℤ pos 0) }
+{
+    (days / 7, days % 7)
+}
+
+/// Returns the weeks and days from one date to another.
+fn in_weeks(from: Date, to: Date) -> Period
+    ensures { IsUntilBy CalendarUnit.Week from to result }
+{
+    let (weeks, days) = weeks_and_days(days_until(from, to));
+    match Period::new(0, 0, weeks, days, SignedDuration::ZERO) {
+        Some(period) => period,
+        None => unreachable!(),
+    }
+}
+
+/// Returns the months and days from one date to another.
+fn in_months(from: Date, to: Date) -> Period
+    ensures { IsUntilBy CalendarUnit.Month from to result }
+{
+    let (months, days) = months_and_days_until(from, to);
+    match Period::new(0, months, 0, days, SignedDuration::ZERO) {
         Some(period) => period,
         None => unreachable!(),
     }

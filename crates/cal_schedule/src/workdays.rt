@@ -7,12 +7,13 @@ mod adjust;
 mod calendar;
 mod convention;
 mod search;
-mod week;
+mod weekday_marks;
 
 use cal_date::day_number::day_number;
 use cal_time::Date;
 pub use calendar::Workdays;
 pub use convention::Convention;
+pub use weekday_marks::WeekdayMarks;
 
 impl Workdays<'_> {
     /// Returns `true` for a working day: its weekday is marked, and it is not a holiday. For Monday
@@ -23,7 +24,7 @@ impl Workdays<'_> {
         ensures in_range { IsDate date }
     {
         let day = day_number(date);
-        self.is_marked(day) && !self.is_holiday(day)
+        self.week().is_marked(day) && !self.is_holiday(day)
     }
 
     /// Returns the first working day after a date, or `None` if the range has none. For Monday to

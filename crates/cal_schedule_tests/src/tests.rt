@@ -8,6 +8,7 @@ use std::process::Abort;
 mod iso_weeks;
 mod months;
 mod one_answer;
+mod periods;
 mod recurrences;
 mod rules;
 mod rules_laws;

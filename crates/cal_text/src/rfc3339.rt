@@ -30,6 +30,9 @@ pub use text::Text;
 /// Returns `UnexpectedByte` or `UnexpectedEnd` for any other form. Otherwise returns `OutOfRange`
 /// with the first component out of range: `month`, `day`, `hour`, `minute`, `second` (also 60,
 /// because there are no leap seconds), `offset hour` above 23, or `offset minute`.
+// Inlined, so that the caller has the result in registers: in memory it is written by parts, and the
+// processor waits before it reads them as one number.
+#[inline(always)]
 pub fn parse(text: &[u8]) -> Result<OffsetDateTime, ParseError>
     ensures every { (m : LocalAndOffset) → IsMomentText text.now m → result ≡ Ok m }
     ensures value { IfOk result (IsMomentText text.now) }

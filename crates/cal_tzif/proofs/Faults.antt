@@ -61,6 +61,7 @@ not_type bytes p k e (IsTypeError.name _ _ far _) h = omega (arith, far, h.name)
 pub not_types : (bytes : List ℕ) (p : Layout) (e : ZoneError) → IsTypesError bytes p e → HasTypes bytes p → ⊥
 not_types bytes p e (IsTypesError.one k inside _ fault) h = not_type bytes p k e fault (h.types k inside)
 not_types bytes p e (IsTypesError.ascii _ (IsAsciiError.byte k inside _ more _)) h = omega (arith, more, h.ascii k inside)
+not_types bytes p e (IsTypesError.end _ _ fault) h = fault.0 h.end
 
 not_footer_text : (bytes : List ℕ) (at : ℕ) (e : ZoneError) (f : Option Footer) → at + 1 ≢ length bytes → IsTextError (without_last bytes) at e → IsFooterText bytes at f → ⊥
 not_footer_text bytes at e None more fault h = more h

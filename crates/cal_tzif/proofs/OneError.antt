@@ -19,7 +19,7 @@ use Rattle.cal_tzif.specs.File.{HasFooter, IsFooterError, without_last, HasIndex
 use Rattle.cal_tzif.specs.Header.{IsHeader, IsHeaderError, HasHeaders, IsHeadersError, layout_of, second_at, second_header}
 use Rattle.cal_tzif.specs.Posix.{standard_end, IsDaylight, daylight_end, IsChange, change_end, end_at}
 use Rattle.cal_tzif.specs.PosixError.{error_at, IsStandardError, IsDaylightError, IsChangeError, IsRuleError, IsTextError}
-use Rattle.cal_tzif.specs.Types.{IsTypeError, IsAsciiError, HasTypes, IsTypesError}
+use Rattle.cal_tzif.specs.Types.{IsTypeError, AreAscii, IsAsciiError, HasTypes, IsTypesError}
 use Rattle.cal_tzif.proofs.Faults.{not_standard, not_daylight, not_change, not_header, not_headers, not_type, not_types, not_footer}
 use Rattle.cal_tzif.proofs.Unique.{footer_text-one}
 
@@ -171,6 +171,9 @@ type-one bytes p k e f (IsTypeError.name has _ _ _) (IsTypeError.offset none _) 
 type-one bytes p k e f (IsTypeError.name _ most _ _) (IsTypeError.flag _ more _) = absurd (omega (arith, more, most))
 type-one bytes p k e f (IsTypeError.name _ _ _ a) (IsTypeError.name _ _ _ b) = a ∙ sym b
 
+not_ascii : (bytes : List ℕ) (start n : ℕ) (e : ZoneError) → IsAsciiError bytes start n e → AreAscii bytes start n → ⊥
+not_ascii bytes start n e (IsAsciiError.byte k inside _ more _) all = omega (arith, more, all k inside)
+
 ascii-one : (bytes : List ℕ) (start n : ℕ) (e f : ZoneError) → IsAsciiError bytes start n e → IsAsciiError bytes start n f → e ≡ f
 ascii-one bytes start n e f (IsAsciiError.byte j _ all more a) (IsAsciiError.byte k _ each most b) =
     a ∙ ap (λ (i : ℕ). error_at kinds.NotAscii (start + i)) (same j k (λ l. omega (arith, each j l, more)) (λ l. omega (arith, all k l, most))) ∙ sym b
@@ -182,6 +185,11 @@ types-one bytes p e f (IsTypesError.one j _ all a) (IsTypesError.one k _ each b)
 types-one bytes p e f (IsTypesError.one j inside _ a) (IsTypesError.ascii all _) = absurd (not_type bytes p j e a (all j inside))
 types-one bytes p e f (IsTypesError.ascii all _) (IsTypesError.one k inside _ b) = absurd (not_type bytes p k f b (all k inside))
 types-one bytes p e f (IsTypesError.ascii _ a) (IsTypesError.ascii _ b) = ascii-one bytes p.names (p.names_end - p.names) e f a b
+types-one bytes p e f (IsTypesError.one j inside _ a) (IsTypesError.end all _ _) = absurd (not_type bytes p j e a (all j inside))
+types-one bytes p e f (IsTypesError.end all _ _) (IsTypesError.one k inside _ b) = absurd (not_type bytes p k f b (all k inside))
+types-one bytes p e f (IsTypesError.ascii _ a) (IsTypesError.end _ all _) = absurd (not_ascii bytes p.names (p.names_end - p.names) e a all)
+types-one bytes p e f (IsTypesError.end _ all _) (IsTypesError.ascii _ b) = absurd (not_ascii bytes p.names (p.names_end - p.names) f b all)
+types-one bytes p e f (IsTypesError.end _ _ a) (IsTypesError.end _ _ b) = a.1 ∙ sym b.1
 
 footer-one : (bytes : List ℕ) (at : ℕ) (e f : ZoneError) → IsFooterError bytes at e → IsFooterError bytes at f → e ≡ f
 footer-one bytes at e f (IsFooterError.first _ a) (IsFooterError.first _ b) = a ∙ sym b

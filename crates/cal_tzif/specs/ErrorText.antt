@@ -33,6 +33,7 @@ reason kinds.Offset = codes "invalid local time type"
 reason kinds.Daylight = codes "invalid local time type"
 reason kinds.NameIndex = codes "invalid abbreviation"
 reason kinds.NotAscii = codes "invalid abbreviation"
+reason kinds.NameEnd = codes "invalid abbreviation"
 reason kinds.Name = codes "invalid abbreviation"
 reason (kinds.Timeline error) = timeline_reason error
 reason kinds.Newline = codes "missing newline"

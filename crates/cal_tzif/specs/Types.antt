@@ -1,5 +1,5 @@
--- The local time types of a TZif file are in range, used or not, and the abbreviations are ASCII
--- (RFC 9636, 3.2).
+-- The local time types of a TZif file are in range, used or not, and the abbreviations are ASCII, each
+-- with a NUL at its end (RFC 9636, 3.2).
 use Rattle.std.specs.Prelude.{◌≡◌, ℕ, ◌+◌, ◌-◌, ◌*◌, ◌<◌, ◌≤◌, List, slice_index}
 use Rattle.cal_zone.specs.declared.layout.Layout.{Layout}
 use Rattle.cal_zone.specs.Table.{type_in}
@@ -33,16 +33,26 @@ AreTypes bytes p n = (k : ℕ) → k < n → IsType bytes p k
 abbrev pub AreAscii : List ℕ → ℕ → ℕ → Type 0
 AreAscii bytes start n = (k : ℕ) → k < n → slice_index bytes (start + k) ≤ 127
 
--- All types are in range, and all abbreviations are ASCII.
+-- The byte before a position is a NUL.
+abbrev pub EndsWithNul : List ℕ → ℕ → Type 0
+EndsWithNul bytes end = (1 ≤ end) × (slice_index bytes (end - 1) ≡ 0)
+
+-- All types are in range, and all abbreviations are ASCII and end with a NUL: the last one does.
 pub record HasTypes (bytes : List ℕ) (p : Layout) : Type 0 where
   pub types : AreTypes bytes p p.kinds
   pub ascii : AreAscii bytes p.names (p.names_end - p.names)
+  pub end : EndsWithNul bytes p.names_end
 
 -- The error of the first byte that is not ASCII.
 pub data IsAsciiError (bytes : List ℕ) (start n : ℕ) (e : ZoneError) : Type 0 where
   byte : (k : ℕ) → k < n → AreAscii bytes start k → 127 < slice_index bytes (start + k) → e ≡ error_at kinds.NotAscii (start + k) → IsAsciiError bytes start n e
 
+-- The error of a last abbreviation without a NUL, which is missing at the end.
+abbrev pub IsEndError : List ℕ → ℕ → ZoneError → Type 0
+IsEndError bytes end e = (¬ EndsWithNul bytes end) × (e ≡ error_at kinds.NameEnd end)
+
 -- The error of the first type that has one, or else of the abbreviations.
 pub data IsTypesError (bytes : List ℕ) (p : Layout) (e : ZoneError) : Type 0 where
   one : (k : ℕ) → k < p.kinds → AreTypes bytes p k → IsTypeError bytes p k e → IsTypesError bytes p e
   ascii : AreTypes bytes p p.kinds → IsAsciiError bytes p.names (p.names_end - p.names) e → IsTypesError bytes p e
+  end : AreTypes bytes p p.kinds → AreAscii bytes p.names (p.names_end - p.names) → IsEndError bytes p.names_end e → IsTypesError bytes p e

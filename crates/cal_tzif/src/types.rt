@@ -1,7 +1,7 @@
 //! Local time types of TZif files.
 ghost use Rattle.std.specs.Prelude.{◌≡◌, ℕ, ◌+◌, ◌<◌, ◌≤◌, length, IfErr, OnOk};
 ghost use Rattle.cal_zone.specs.Table.{IsInside};
-ghost use Rattle.cal_tzif.specs.Types.{IsType, IsTypeError, AreAscii, IsAsciiError, HasTypes, IsTypesError};
+ghost use Rattle.cal_tzif.specs.Types.{IsType, IsTypeError, AreAscii, IsAsciiError, EndsWithNul, IsEndError, HasTypes, IsTypesError};
 
 use crate::zone_error::{ZoneError, ZoneErrorKind};
 use cal_zone::Layout;
@@ -43,6 +43,18 @@ fn check_ascii(bytes: &[u8], start: usize, count: usize) -> Result<(), ZoneError
     Ok(())
 }
 
+/// Checks that the byte before a position, at which the abbreviations end, is a NUL.
+fn check_end(bytes: &[u8], end: usize) -> Result<(), ZoneError>
+    requires { end ≤ length bytes.now }
+    ensures value { OnOk result (EndsWithNul bytes.now end) }
+    ensures error { IfErr result (IsEndError bytes.now end) }
+{
+    if end == 0 || bytes[end - 1] != 0 {
+        return Err(ZoneErrorKind::NameEnd.at(end));
+    }
+    Ok(())
+}
+
 /// Checks the local time types and the abbreviations.
 pub(crate) fn check_types(bytes: &[u8], layout: Layout) -> Result<(), ZoneError>
     requires inside { IsInside bytes.now layout }
@@ -55,5 +67,8 @@ pub(crate) fn check_types(bytes: &[u8], layout: Layout) -> Result<(), ZoneError>
             return Err(error);
         }
     }
-    check_ascii(bytes, layout.names, layout.names_end - layout.names)
+    if let Err(error) = check_ascii(bytes, layout.names, layout.names_end - layout.names) {
+        return Err(error);
+    }
+    check_end(bytes, layout.names_end)
 }

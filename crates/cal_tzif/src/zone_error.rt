@@ -28,6 +28,8 @@ pub enum ZoneErrorKind {
     NameIndex,
     /// An abbreviation isn't ASCII.
     NotAscii,
+    /// The last abbreviation has no NUL at its end.
+    NameEnd,
     /// The changes are not in order.
     Timeline(TimelineError),
     /// A newline before or after the footer is missing.
@@ -72,9 +74,10 @@ impl ZoneErrorKind {
             ZoneErrorKind::NoType => "missing local time type",
             ZoneErrorKind::TypeIndex => "invalid type index",
             ZoneErrorKind::Offset | ZoneErrorKind::Daylight => "invalid local time type",
-            ZoneErrorKind::NameIndex | ZoneErrorKind::NotAscii | ZoneErrorKind::Name => {
-                "invalid abbreviation"
-            }
+            ZoneErrorKind::NameIndex
+            | ZoneErrorKind::NotAscii
+            | ZoneErrorKind::NameEnd
+            | ZoneErrorKind::Name => "invalid abbreviation",
             ZoneErrorKind::Timeline(error) => timeline_reason(error),
             ZoneErrorKind::Newline => "missing newline",
             ZoneErrorKind::PosixOffset => "invalid POSIX offset",

@@ -1,14 +1,19 @@
 //! Laws: each definition leaves one result.
-ghost use Rattle.std.specs.Prelude.{◌≡◌, ℤ, Option, Result};
+ghost use Rattle.std.specs.Prelude.{◌≡◌, ℕ, ℤ, Option, Some, Result};
+ghost use Rattle.cal_schedule.specs.declared.unit.CalendarUnit.{CalendarUnit};
 ghost use Rattle.cal_zone.specs.declared.local_time_error.LocalTimeError.{LocalTimeError};
 ghost use Rattle.cal_zone.specs.declared.policy.Policy.{Policy};
 ghost use Rattle.cal_zoned.specs.Day.{IsStart};
+ghost use Rattle.cal_zoned.specs.Moves.{IsMovedTo, IsNextStart, IsStartOf};
 ghost use Rattle.cal_zoned.specs.Period.{IsPeriodLater};
+ghost use Rattle.cal_zoned.specs.Until.{IsPeriodUntil};
+ghost use Rattle.cal_schedule.specs.Period.{Parts};
 ghost use Rattle.cal_zoned.specs.Resolved.{IsKept, IsResolved};
 ghost use Rattle.cal_zoned.specs.Zoned.{InZone};
 
-use crate::ZonedDateTime;
-use cal_schedule::{Period, date_after};
+use crate::{ZonedDateTime, checked_add_period, period_until};
+use cal_datetime::PlainDateTime;
+use cal_schedule::{CalendarUnit, Period, date_after};
 use cal_zone::Zone;
 use cal_zone::laws::one_local;
 
@@ -43,4 +48,49 @@ pub fn one_period_later(moment: &ZonedDateTime<'_>, period: Period)
 {
     one_local(moment.zone());
     let _ = date_after(moment.date(), period);
+}
+
+/// Proves that moving to a date leads to one result.
+pub fn one_moved(moment: &ZonedDateTime<'_>)
+    ensures { (p : Policy) (n : ℕ) (a b : Result InZone LocalTimeError)
+        → IsMovedTo p moment.now n a → IsMovedTo p moment.now n b → a ≡ b }
+{
+    one_local(moment.zone());
+}
+
+/// Proves that a unit has one start.
+pub fn one_start_of(moment: &ZonedDateTime<'_>)
+    ensures { (unit : CalendarUnit) (a b : Option InZone)
+        → IsStartOf unit moment.now a → IsStartOf unit moment.now b → a ≡ b }
+{
+    let _ = moment;
+}
+
+/// Proves that a unit has one next start, and so one end.
+pub fn one_next_start(moment: &ZonedDateTime<'_>)
+    ensures { (unit : CalendarUnit) (s t : InZone)
+        → IsNextStart unit moment.now s → IsNextStart unit moment.now t → s ≡ t }
+{
+    let _ = moment;
+}
+
+/// Proves that the period between two local date-times is the only one that its definition allows.
+pub fn one_period_until(from: PlainDateTime, to: PlainDateTime)
+    ensures { (unit : CalendarUnit) (p q : Parts)
+        → IsPeriodUntil unit from to p → IsPeriodUntil unit from to q → p ≡ q }
+{
+    let _ = (from, to);
+}
+
+/// Adds the period until a local date-time, which gives it.
+pub fn until_adds(
+    from: PlainDateTime,
+    to: PlainDateTime,
+    unit: CalendarUnit,
+) -> Option<PlainDateTime>
+    ensures { result ≡ Some to }
+{
+    // It states that the date-time is in range.
+    let _ = to.date();
+    checked_add_period(from, period_until(from, to, unit))
 }

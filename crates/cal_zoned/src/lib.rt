@@ -6,8 +6,11 @@
 mod day;
 pub mod laws;
 mod period;
+mod until;
+pub mod unchecked;
 mod zoned_date_time;
 
 pub use day::start_of_day;
 pub use period::checked_add_period;
+pub use until::period_until;
 pub use zoned_date_time::ZonedDateTime;

@@ -15,8 +15,9 @@ use std::marker::Model;
 
 mod arithmetic;
 mod days;
-mod moves;
+pub(crate) mod moves;
 mod order;
+mod units;
 
 /// An instant in a time zone, with the date and the time of day that the clocks of the zone show
 /// then.
@@ -176,7 +177,11 @@ impl<'z> ZonedDateTime<'z> {
 
 /// Returns the local date-time some seconds and nanoseconds after 1970-01-01 0:00 UTC at an offset,
 /// or `None` if it is out of range.
-fn local_date_time(seconds: i64, past: i32, offset: UtcOffset) -> Option<PlainDateTime>
+pub(crate) fn local_date_time(
+    seconds: i64,
+    past: i32,
+    offset: UtcOffset,
+) -> Option<PlainDateTime>
     requires { (pos 0 ≤ℤ past) × (past <ℤ pos second) }
     ensures { let local = unix_epoch +ℤ (seconds +ℤ offset) *ℤ pos second +ℤ past
         in SomeIff result (IsDateTime local) local }

@@ -107,16 +107,21 @@ pub extern "C" fn fots_calendar_dates_to_iso_week_dates(
     write_rows!(iso_week_date_of_calendar_date(years, months, days) => iso_years, weeks, weekdays; statuses)
 }
 
+// Rows are written faster if each part of a row is chosen by itself: rustc packs the parts of a
+// tuple into one number.
+
 /// Returns the calendar date of a date, and the status.
 fn calendar_date_row_of(date: i32) -> (i32, u8, u8, u8)
     ensures { IsCalendarDateOf date (calendar_date_row result.0 result.1 result.2 result.3) }
 {
     let (year, month, day) = to_calendar_date(clamped_number(date));
-    if is_julian_day(date) {
-        (year, month as u8, day as u8, OK as u8)
-    } else {
-        (NO_VALUE, 0, 0, INVALID_DATE as u8)
-    }
+    let is_day = is_julian_day(date);
+    (
+        if is_day { year } else { NO_VALUE },
+        if is_day { month as u8 } else { 0 },
+        if is_day { day as u8 } else { 0 },
+        if is_day { OK as u8 } else { INVALID_DATE as u8 },
+    )
 }
 
 /// Returns the ordinal date of a date, and the status.
@@ -133,11 +138,13 @@ fn iso_week_date_row_of(date: i32) -> (i32, u8, u8, u8)
     ensures { IsIsoWeekDateOf date (iso_week_date_row result.0 result.1 result.2 result.3) }
 {
     let (year, week, weekday) = to_iso_week_date(clamped_number(date));
-    if is_julian_day(date) {
-        (year, week, weekday, OK as u8)
-    } else {
-        (NO_VALUE, 0, 0, INVALID_DATE as u8)
-    }
+    let is_day = is_julian_day(date);
+    (
+        if is_day { year } else { NO_VALUE },
+        if is_day { week } else { 0 },
+        if is_day { weekday } else { 0 },
+        if is_day { OK as u8 } else { INVALID_DATE as u8 },
+    )
 }
 
 /// Returns the weekday of a date, from 1 for Monday, and the status.

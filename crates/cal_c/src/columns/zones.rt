@@ -63,9 +63,9 @@ pub extern "C" fn fots_zone_instants(
 
 /// A zone and a policy, or what is wrong with them.
 #[derive(Drop)]
-struct Resolver<'a> {
-    zone: Option<UncheckedZone<'a>>,
-    policy: Option<Policy>,
+pub(super) struct Resolver<'a> {
+    pub(super) zone: Option<UncheckedZone<'a>>,
+    pub(super) policy: Option<Policy>,
 }
 
 /// Returns the row of the offset at a Unix time. Tries the span of the row before first.

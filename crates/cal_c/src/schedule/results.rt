@@ -6,13 +6,14 @@ ghost use Rattle.cal_c.specs.Schedule.{period_ok, period_error, year_fraction_ok
 use crate::status::OK;
 use cal_schedule::{Period, YearFraction};
 
-/// A period of years, months and days, all of one sign.
+/// A period of years, months, weeks and days, all of one sign.
 #[repr(C)]
 #[derive(Clone, Copy, Debug)]
 pub struct PeriodResult {
     pub status: i32,
     pub years: i32,
     pub months: i32,
+    pub weeks: i32,
     pub days: i32,
 }
 
@@ -55,6 +56,7 @@ impl PeriodResult {
             status: OK,
             years: period.years(),
             months: period.months(),
+            weeks: period.weeks(),
             days: period.days(),
         }
     }
@@ -66,6 +68,7 @@ impl PeriodResult {
             status,
             years: i32::MIN,
             months: i32::MIN,
+            weeks: i32::MIN,
             days: i32::MIN,
         }
     }

@@ -3,14 +3,18 @@ ghost use Rattle.std.specs.Prelude.{◌≡◌, pos, neg_ℤ, ◌*ℤ◌, ◌<ℤ
 ghost use Rattle.cal_schedule.specs.Period.{months_of};
 ghost use Rattle.cal_schedule.specs.Until.{IsGreatest, IsLeast, IsPeriodUntil, IsMonthsUpTo, IsMonthsBackTo};
 ghost use Rattle.cal_c.specs.Results.{number_error};
-ghost use Rattle.cal_c.specs.Schedule.{period_error, IsNumberWith, IsPeriodWith};
-ghost use Rattle.cal_c.specs.Values.{IsJulianDay, day_of};
+ghost use Rattle.cal_schedule.specs.Units.{IsUntilBy};
+ghost use Rattle.cal_schedule.specs.declared.unit.CalendarUnit.{CalendarUnit};
+ghost use Rattle.cal_c.specs.Schedule.{period_error, unit_number, IsNumberWith, IsPeriodWith, IsUnit};
+ghost use Rattle.cal_c.specs.Values.{need◌else◌then◌, IsJulianDay, day_of};
 
 use crate::results::NumberResult;
 use crate::schedule::results::PeriodResult;
-use crate::status::INVALID_DATE;
+use crate::schedule::units::valid_unit;
+use crate::status::{INVALID_DATE, INVALID_UNIT};
 use crate::values::valid_date;
-use cal_schedule::{months_until, period_until, years_until};
+use cal_schedule::{CalendarUnit, months_until, period_until, period_until_by, years_until};
+use cal_time::Date;
 
 /// Returns the whole months from `date` to `other`, truncated toward zero: as many as possible
 /// without passing `other`. From 2451575, 2000-01-31, to 2451604, 2000-02-29, it is 1.
@@ -68,4 +72,28 @@ pub extern "C" fn fots_date_period_until(date: i32, other: i32) -> PeriodResult
     let date = or_error!(PeriodResult, valid_date(date), INVALID_DATE);
     let other = or_error!(PeriodResult, valid_date(other), INVALID_DATE);
     PeriodResult::ok(period_until(date, other))
+}
+
+/// Returns the period from `date` to `other` with a unit as the largest of its parts: 1 is a day, 2
+/// a week, 3 a month and 4 a quarter, which both count months, and 5 a year. Weeks come only with 2.
+/// From 2451575, 2000-01-31, to 2451971, 2001-03-02, it is 13 months and 2 days by 3.
+#[unsafe(no_mangle)]
+pub extern "C" fn fots_date_period_until_by(date: i32, other: i32, unit: u32) -> PeriodResult
+    ensures { need IsJulianDay date else result ≡ period_error INVALID_DATE then
+        need IsJulianDay other else result ≡ period_error INVALID_DATE then
+        need IsUnit unit else result ≡ period_error INVALID_UNIT then
+        (its : CalendarUnit) × (unit_number its ≡ unit)
+        × IsPeriodWith (IsUntilBy its (day_of date) (day_of other)) result }
+{
+    let date = or_error!(PeriodResult, valid_date(date), INVALID_DATE);
+    let other = or_error!(PeriodResult, valid_date(other), INVALID_DATE);
+    let unit = or_error!(PeriodResult, valid_unit(unit), INVALID_UNIT);
+    period_by_unit(date, other, unit)
+}
+
+/// Returns the result of a period by a unit.
+fn period_by_unit(date: Date, other: Date, unit: CalendarUnit) -> PeriodResult
+    ensures { IsPeriodWith (IsUntilBy unit date other) result }
+{
+    PeriodResult::ok(period_until_by(date, other, unit))
 }

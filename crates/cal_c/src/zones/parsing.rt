@@ -43,7 +43,9 @@ fn zone_status(kind: ZoneErrorKind) -> i32
         ZoneErrorKind::NoType => MISSING_LOCAL_TYPE,
         ZoneErrorKind::TypeIndex => INVALID_TYPE_INDEX,
         ZoneErrorKind::Offset | ZoneErrorKind::Daylight => INVALID_LOCAL_TYPE,
-        ZoneErrorKind::NameIndex | ZoneErrorKind::NotAscii => INVALID_ABBREVIATION,
+        ZoneErrorKind::NameIndex | ZoneErrorKind::NotAscii | ZoneErrorKind::NameEnd => {
+            INVALID_ABBREVIATION
+        }
         ZoneErrorKind::Name => INVALID_ABBREVIATION,
         ZoneErrorKind::Timeline(error) => timeline_status(error),
         ZoneErrorKind::Newline => MISSING_NEWLINE,

@@ -16,38 +16,37 @@ impl Time {
     pub fn as_hms(self) -> (u8, u8, u8)
         ensures { result ≡ hms_of self }
     {
-        (self.hour(), self.minute(), self.second())
+        let seconds = self.seconds_since_midnight();
+        let minutes = seconds / 60;
+        (
+            (minutes / 60) as u8,
+            (minutes % 60) as u8,
+            (seconds % 60) as u8,
+        )
     }
 
     /// Returns the hour, minute, second and millisecond: 1, 2, 3 and 4 for 1:02:03.0049.
     pub fn as_hms_milli(self) -> (u8, u8, u8, u16)
         ensures { result ≡ hms_milli_of self }
     {
-        (
-            self.hour(),
-            self.minute(),
-            self.second(),
-            self.millisecond(),
-        )
+        let (hour, minute, second) = self.as_hms();
+        (hour, minute, second, self.millisecond())
     }
 
     /// Returns the hour, minute, second and microsecond: 1, 2, 3 and 4005 for 1:02:03.004005.
     pub fn as_hms_micro(self) -> (u8, u8, u8, u32)
         ensures { result ≡ hms_micro_of self }
     {
-        (
-            self.hour(),
-            self.minute(),
-            self.second(),
-            self.microsecond(),
-        )
+        let (hour, minute, second) = self.as_hms();
+        (hour, minute, second, self.microsecond())
     }
 
     /// Returns the hour, minute, second and nanosecond: 1, 2, 3 and 4005006 for 1:02:03.004005006.
     pub fn as_hms_nano(self) -> (u8, u8, u8, u32)
         ensures { result ≡ hms_nano_of self }
     {
-        (self.hour(), self.minute(), self.second(), self.nanosecond())
+        let (hour, minute, second) = self.as_hms();
+        (hour, minute, second, self.nanosecond())
     }
 
     /// Returns the whole seconds since midnight in 32 bits, which makes the next divisions cheap.
@@ -62,7 +61,7 @@ impl Time {
         ensures value { result ≡ hour_of self }
         ensures in_range { IsTime self }
     {
-        (self.seconds_since_midnight() / 3_600) as u8
+        (self.nanoseconds / NANOSECONDS_PER_HOUR) as u8
     }
 
     /// Returns the minute of the hour, from 0 to 59. For 1:02:03.004005006 it is 2.

@@ -19,10 +19,11 @@ use cal_units::{Cycle, Month};
 
 /// The leap mark plus the days before each month, and at the end plus the days of the year. The
 /// entries of a common year begin at 0. The entries of a leap year begin at 16, because the leap
-/// mark is 16 times 32. The zeros between them aren't used.
-const MONTH_STARTS: [u16; 29] = [
+/// mark is 16 times 32. The zeros aren't used; with those at the end, a compiler sees that every
+/// quotient of 10 bits by 32 has an entry, and one after it.
+const MONTH_STARTS: [u16; 33] = [
     0, 31, 59, 90, 120, 151, 181, 212, 243, 273, 304, 334, 365, 0, 0, 0, 512, 543, 572, 603, 633,
-    664, 694, 725, 756, 786, 817, 847, 878,
+    664, 694, 725, 756, 786, 817, 847, 878, 0, 0, 0, 0,
 ];
 
 /// The leap mark plus the days before each month, in a common year and in a leap year. Each quarter

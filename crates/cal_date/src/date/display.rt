@@ -15,6 +15,9 @@ impl Date {
     /// is above 9999. The month and the day have two digits each. The text has at most 13 bytes,
     /// all ASCII.
     #[tactic(auto, using(cal_units::proofs::TextLengths::text_lengths))]
+    // Inlined, because rustc moves a text that a function returns, and the processor waits before it
+    // reads bytes just written as one number.
+    #[inline(always)]
     pub fn text(self) -> ShortText
         ensures value { result ≡ text self }
         ensures max_length { length result ≤ 13 }

@@ -3,6 +3,7 @@ ghost use Rattle.std.specs.Prelude.{◌≡◌, ◌<◌, length, slice_index, Som
 ghost use Rattle.cal_time.specs.Counted.{IsRising};
 ghost use Rattle.cal_time.specs.Date.{julian_day_at, IsDate};
 
+use crate::workdays::WeekdayMarks;
 use cal_date::day_number::day_number;
 use cal_time::{Date, is_rising};
 use std::marker::Model;
@@ -44,6 +45,14 @@ impl<'a> Workdays<'a> {
         } else {
             None
         }
+    }
+
+    /// Returns the marks, counted.
+    pub(super) fn week(&self) -> WeekdayMarks
+        ensures value { result ≡ self.now.marks }
+        ensures rising { IsRising julian_day_at self.now.holidays }
+    {
+        WeekdayMarks::new(self.marks)
     }
 
     /// Returns the number of holidays.

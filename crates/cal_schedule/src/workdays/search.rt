@@ -1,13 +1,13 @@
 //! Finding and counting working days by whole weeks and the holidays between them.
-ghost use Rattle.std.specs.Prelude.{◌≡◌, ℕ, ◌+◌, ◌<◌, ◌≤◌, length, slice_get, IfSome, MatchOption, true};
+ghost use Rattle.std.specs.Prelude.{◌≡◌, ◌+◌, ◌^◌, ◌<◌, ◌≤◌, length, slice_get, IfSome, pos, ◌-ℤ◌, ◌≤ℤ◌, true};
 ghost use Rattle.cal_time.specs.Counted.{IsRising};
 ghost use Rattle.cal_time.specs.Date.{last_day, julian_day_at, IsDate};
 ghost use Rattle.cal_time.specs.IsoWeekDate.{count_before};
-ghost use Rattle.cal_schedule.specs.Workdays.{is_holiday, is_marked, is_workday, workdays_from, workdays_before, workdays_within};
-ghost use Rattle.cal_schedule.specs.WorkdaysSplit.{IsSplit, IsNthFrom, IsNthBefore};
+ghost use Rattle.cal_schedule.specs.Workdays.{is_holiday, is_workday, workdays_from, workdays_before, workdays_within};
+ghost use Rattle.cal_schedule.specs.WorkdaysSplit.{IsMarkedBefore, IsSplit};
 
-use crate::workdays::Workdays;
-use cal_date::day_number::date_from_number;
+use crate::workdays::{WeekdayMarks, Workdays};
+use cal_date::day_number::to_date;
 use cal_time::Date;
 
 impl Workdays<'_> {
@@ -42,63 +42,55 @@ impl Workdays<'_> {
         ensures value { result ≡ length (workdays_within self.now from to) }
         ensures max { result ≤ to }
     {
+        let week = self.week();
         let (start, end) = (self.holidays_before(from), self.holidays_before(to));
         let mut held = 0;
         for index in start..end {
-            held += u32::from(self.is_marked(self.holiday(index)));
+            held += u32::from(week.is_marked(self.holiday(index)));
         }
-        self.marked_before(to) - self.marked_before(from) - held
+        week.marked_before(to) - week.marked_before(from) - held
     }
 
-    /// Returns the marked days before the working day after n others, counted from a day on: the
-    /// marked days before this day, n more, and one for each marked holiday in between.
-    fn marked_before_nth_from(&self, from: u32, n: u32) -> u64
-        ensures value { (x : ℕ) → is_marked self.now x ≡ true
-            → count_before (is_marked self.now) x ≡ result → IsNthFrom self.now from n x }
-        ensures max { result ≤ from + n + last_day + 1 }
+    /// Returns the number of marked days before the working day with n others from a day on before
+    /// it: the marked days before this day, n more, and one for each marked holiday in between.
+    fn marked_before_nth_from(&self, week: &WeekdayMarks, from: u32, n: u32) -> i64
+        requires week { week.now ≡ self.now.marks }
+        requires range { from ≤ last_day + 1 }
+        ensures value { IsMarkedBefore self.now (pos (count_before (is_workday self.now) from + n)) result }
+        ensures max { result ≤ℤ pos (2 ^ 60) }
     {
         let start = self.holidays_before(from);
-        let mut before = u64::from(self.marked_before(from)) + u64::from(n);
+        let mut before = i64::from(week.marked_before(from)) + i64::from(n);
         for index in start..self.holiday_count() {
             let holiday = self.holiday(index);
-            if u64::from(self.marked_before(holiday)) > before {
+            if i64::from(week.marked_before(holiday)) > before {
                 return before;
             }
-            before += u64::from(self.is_marked(holiday));
+            before += i64::from(week.is_marked(holiday));
         }
         before
     }
 
-    /// Returns the marked days before the working day with n others between it and a day: one less
-    /// for each marked holiday in between. Returns `None` if there is no such day.
-    fn marked_before_nth_back(&self, to: u32, n: u32) -> Option<u32>
-        requires { to ≤ last_day + 1 }
-        ensures value { MatchOption result (count_before (is_workday self.now) to ≤ n)
-            (λ before. (x : ℕ) → is_marked self.now x ≡ true
-            → count_before (is_marked self.now) x ≡ before → IsNthBefore self.now to n x) }
-        ensures max { IfSome result (λ before. before < to) }
+    /// Returns the number of marked days before the working day with n others between it and a day:
+    /// one less for each marked holiday in between. It is negative if there is no such day.
+    fn marked_before_nth_back(&self, week: &WeekdayMarks, to: u32, n: u32) -> i64
+        requires week { week.now ≡ self.now.marks }
+        requires range { to ≤ last_day + 1 }
+        ensures value { IsMarkedBefore self.now (pos (count_before (is_workday self.now) to) -ℤ pos (n + 1)) result }
+        ensures max { result ≤ℤ pos (2 ^ 60) }
     {
-        let end = self.holidays_before(to);
-        let marked = self.marked_before(to);
-        if marked <= n {
-            return None;
-        }
-        let mut before = marked - n - 1;
-        let mut index = end;
+        let mut index = self.holidays_before(to);
+        let mut before = i64::from(week.marked_before(to)) - i64::from(n) - 1;
         while index > 0 {
             let holiday = self.holiday(index - 1);
-            if self.marked_before(holiday + 1) <= before {
-                return Some(before);
+            let without = before - i64::from(week.is_marked(holiday));
+            if i64::from(week.marked_before(holiday)) <= without {
+                return before;
             }
-            if self.is_marked(holiday) {
-                if before == 0 {
-                    return None;
-                }
-                before -= 1;
-            }
+            before = without;
             index -= 1;
         }
-        Some(before)
+        before
     }
 
     /// Returns the working day at index n of those from a day on, or `None` past the range.
@@ -108,10 +100,8 @@ impl Workdays<'_> {
         ensures found { IfSome result (λ day.
             (is_workday self.now day ≡ true) × (from ≤ day) × IsDate day) }
     {
-        if self.marked_in_week(7) == 0 {
-            return None;
-        }
-        date_from_number(self.nth_marked(self.marked_before_nth_from(from, n)))
+        let week = self.week();
+        some_date(week.nth_marked(self.marked_before_nth_from(&week, from, n)))
     }
 
     /// Returns the working day at index n of those before a day, from the nearest back, or `None`.
@@ -121,12 +111,18 @@ impl Workdays<'_> {
         ensures found { IfSome result (λ day.
             (is_workday self.now day ≡ true) × (day < to) × IsDate day) }
     {
-        if self.marked_in_week(7) == 0 {
-            return None;
-        }
-        match self.marked_before_nth_back(to, n) {
-            Some(before) => date_from_number(self.nth_marked(u64::from(before))),
-            None => None,
-        }
+        let week = self.week();
+        some_date(week.nth_marked(self.marked_before_nth_back(&week, to, n)))
+    }
+}
+
+/// Returns the date with a number, if there is one.
+fn some_date(number: Option<u32>) -> Option<Date>
+    requires { IfSome number IsDate }
+    ensures { result ≡ number }
+{
+    match number {
+        Some(number) => Some(to_date(number)),
+        None => None,
     }
 }

@@ -3,7 +3,7 @@
 //! A proof knows only the clauses, so a second result would leave the line of its call open.
 ghost use Rattle.std.specs.Prelude.{◌≡◌};
 
-use cal_schedule::{DayCount, Period, YearFraction};
+use cal_schedule::{CalendarUnit, DayCount, Period, YearFraction};
 use cal_time::error::ComponentRange;
 use cal_time::{Date, Month, Weekday};
 
@@ -50,6 +50,30 @@ fn period_until(from: Date, to: Date) -> Twice<Period>
     ensures { result.0 ≡ result.1 }
 {
     twice!(cal_schedule::period_until(from, to))
+}
+
+fn period_until_by(from: Date, to: Date, unit: CalendarUnit) -> Twice<Period>
+    ensures { result.0 ≡ result.1 }
+{
+    twice!(cal_schedule::period_until_by(from, to, unit))
+}
+
+fn step_of(start: Date, period: Period, date: Date) -> Twice<Option<i32>>
+    ensures { result.0 ≡ result.1 }
+{
+    twice!(cal_schedule::step_of(start, period, date))
+}
+
+fn first_of(date: Date, unit: CalendarUnit) -> Twice<Date>
+    ensures { result.0 ≡ result.1 }
+{
+    twice!(cal_schedule::first_of(date, unit))
+}
+
+fn last_of(date: Date, unit: CalendarUnit) -> Twice<Option<Date>>
+    ensures { result.0 ≡ result.1 }
+{
+    twice!(cal_schedule::last_of(date, unit))
 }
 
 fn first_of_quarter(date: Date) -> Twice<Date>

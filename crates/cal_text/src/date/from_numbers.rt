@@ -13,6 +13,9 @@ use cal_time::error::ComponentRange;
 use cal_time::{Cycle, Date, Month, Weekday};
 
 /// Returns the date with the numbers of the form, or the error of the first component out of range.
+// Inlined, so that the caller has the result in registers: in memory it is written by parts, and the
+// processor waits before it reads them as one number.
+#[inline(always)]
 pub(crate) fn date_from_numbers(form: DateNumbers) -> Result<Date, ComponentRange>
     requires { DigitsFit form }
     ensures every { (n : ℕ) → IsDate n → IsOnDay form n → result ≡ Ok n }

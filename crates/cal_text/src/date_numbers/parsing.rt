@@ -10,6 +10,9 @@ use crate::scanner::Scanner;
 use crate::year::scan_year;
 
 /// Returns the form of the text, or the position at which the text stops matching the forms.
+// Inlined, so that the caller has the result in registers: in memory it is written by parts, and the
+// processor waits before it reads them as one number.
+#[inline(always)]
 pub(crate) fn parse_numbers(text: &[u8]) -> Result<DateNumbers, usize>
     ensures every { (form : DateNumbers) → HasForm text.now form → result ≡ Ok form }
     ensures value { IfOk result (HasForm text.now) }

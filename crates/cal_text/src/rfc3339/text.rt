@@ -72,11 +72,12 @@ fn push_time(text: &mut ShortText, time: Time)
         ++ codes ":" ++ digits_at_least 2 (second_of time) }
     ensures length { length text.new ≡ length text.old + 8 }
 {
-    text.push_two_digits(u32::from(time.hour()));
+    let (hour, minute, second) = time.as_hms();
+    text.push_two_digits(u32::from(hour));
     text.push(":");
-    text.push_two_digits(u32::from(time.minute()));
+    text.push_two_digits(u32::from(minute));
     text.push(":");
-    text.push_two_digits(u32::from(time.second()));
+    text.push_two_digits(u32::from(second));
 }
 
 /// Appends the offset from UTC.

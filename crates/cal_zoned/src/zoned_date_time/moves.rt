@@ -5,6 +5,7 @@ ghost use Rattle.cal_datetime.specs.DateTime.{date_at, with_date, with_time};
 ghost use Rattle.cal_schedule.specs.Period.{days_of, months_of, IsDaysLater};
 ghost use Rattle.cal_zone.specs.Local.{Shows};
 ghost use Rattle.cal_zone.specs.declared.local_time_error.LocalTimeError.TheVariants.{OutOfRange};
+ghost use Rattle.cal_zoned.specs.Moves.{IsMovedTo};
 ghost use Rattle.cal_zoned.specs.Period.{IsExact, IsMovedThen, IsPeriodLater};
 ghost use Rattle.cal_zoned.specs.Resolved.{IsKept, IsResolved};
 ghost use Rattle.cal_zoned.specs.Zoned.{instant_in, IsSeen};
@@ -59,6 +60,27 @@ impl<'z> ZonedDateTime<'z> {
         ensures { IsKept policy self.now (with_date self.now.moment.local date) result }
     {
         self.with_local(self.local().replace_date(date), policy)
+    }
+
+    /// Moves to another date by the calendar, such as the next Friday or the next working day. The
+    /// time of day stays, and the policy says what it means on the new date. Moved to its own date,
+    /// the date-time stays as it is, also in the second half of a fold.
+    ///
+    /// In Berlin 2024-03-30 2:30 moved to 2024-03-31 is 3:30 +02:00:00 by [`Policy::Compatible`].
+    ///
+    /// # Errors
+    ///
+    /// Returns the errors of [`ZonedDateTime::from_local`].
+    pub fn moved_to(&self, date: Date, policy: Policy) -> Result<Self, LocalTimeError>
+        ensures { IsMovedTo policy self.now date result }
+    {
+        if self.date() == date {
+            return Ok(ZonedDateTime {
+                zone: self.zone,
+                moment: self.moment,
+            });
+        }
+        Self::from_local(self.local().replace_date(date), self.zone, policy)
     }
 
     /// Adds a period. The years and the months move the date that the clocks show, then the weeks
@@ -130,7 +152,7 @@ impl<'z> ZonedDateTime<'z> {
 }
 
 /// Returns `true` if a period has no years, months, weeks and days.
-fn is_exact(period: Period) -> bool
+pub(crate) fn is_exact(period: Period) -> bool
     ensures { IsTrue result ↔ IsExact period }
 {
     period.whole_months() == 0 && period.whole_days() == 0

@@ -1,33 +1,32 @@
 //! Working days by their ranks: the rank of a day is the number of working days before it.
-ghost use Rattle.std.specs.Prelude.{◌≡◌, ℕ, ◌+◌, ◌^◌, ◌<◌, ◌≤◌, Ok, Err, get_or, length, slice_index, IfSome, MatchOption, pos, neg_ℤ, ◌≤ℤ◌, true};
+ghost use Rattle.std.specs.Prelude.{◌≡◌, ◌+◌, ◌<◌, ◌≤◌, Ok, Err, length, slice_index, IfSome, pos, neg_ℤ, ◌<ℤ◌, ◌≤ℤ◌};
 ghost use Rattle.cal_time.specs.Date.{last_day, IsDate};
 ghost use Rattle.cal_time.specs.IsoWeekDate.{count_before};
-ghost use Rattle.cal_schedule.specs.Workdays.{is_marked, is_workday, nth_workday, WorkWeek};
-ghost use Rattle.cal_schedule.specs.WorkdaysSplit.{IsSplit, marked_count};
-ghost use Rattle.cal_c.specs.CheckedWorkdays.{holidays_of, week_of, HasLimits, IsChecked, HavePassed, IsDayOfRank, NoDayOfRank};
+ghost use Rattle.cal_schedule.specs.Workdays.{is_workday, nth_workday};
+ghost use Rattle.cal_schedule.specs.WorkdaysSplit.{marked_count, HavePassed, IsRanked, IsSplit};
+ghost use Rattle.cal_c.specs.CheckedWorkdays.{holidays_of, week_of, HasLimits, IsChecked};
 ghost use Rattle.cal_c.specs.Values.{dates_in, max_dates};
-ghost use Rattle.cal_c.specs.Weekmasks.{workdays_between, IsWeekmask};
+ghost use Rattle.cal_c.specs.Weekmasks.{weekmask_in, workdays_between, IsWeekmask};
 
-use crate::day_number::{LAST_DAY_NUMBER, wrapped_number};
+use crate::day_number::wrapped_number;
 use crate::schedule::workdays::checked_workdays::{CheckedWorkdays, MAX};
 use crate::schedule::workdays::checking::valid_weekmask;
 use crate::status::{INVALID_WEEKMASK, TOO_MANY_HOLIDAYS};
+use cal_schedule::WeekdayMarks;
 use std::marker::Model;
 
 /// The working days of a struct, with the marks of a week counted. Contracts see the struct.
 #[derive(Debug, Drop)]
 pub struct RankedWorkdays<'a> {
-    /// The number of marks before each index of a week.
-    marked_in_week: [u32; 8],
+    week: WeekdayMarks,
     workdays: &'a CheckedWorkdays,
 }
 
 impl<'a> Model for RankedWorkdays<'a> {
-    ghost use Rattle.std.specs.Prelude.{◌≡◌, ℕ, ◌≤◌, get_or, length};
-    ghost use Rattle.cal_time.specs.IsoWeekDate.{count_before};
-    ghost use Rattle.cal_schedule.specs.Workdays.{is_marked};
-    ghost use Rattle.cal_c.specs.CheckedWorkdays.{week_of, HasLimits};
+    ghost use Rattle.std.specs.Prelude.{◌≡◌, length};
+    ghost use Rattle.cal_c.specs.CheckedWorkdays.{HasLimits};
     ghost use Rattle.cal_c.specs.Values.{max_dates};
+    ghost use Rattle.cal_c.specs.Weekmasks.{weekmask_in};
     ghost use Rattle.cal_c.specs.declared.schedule.workdays.checked_workdays.CheckedWorkdays.{CheckedWorkdays};
 
     ghost Value = { CheckedWorkdays };
@@ -35,19 +34,7 @@ impl<'a> Model for RankedWorkdays<'a> {
     ghost view = { λ r. r.workdays.now };
 
     ghost invariant = { λ r. HasLimits r.workdays.now × (length r.workdays.now.holidays ≡ max_dates)
-        × ((i : ℕ) → i ≤ 7 → get_or r.marked_in_week i 0 ≡ count_before (is_marked (week_of r.workdays.now)) i) };
-}
-
-/// Returns the number of marks before each index of a week.
-fn marks_before(marks: [bool; 7]) -> [u32; 8]
-    ensures { (w : WorkWeek) → w.marks ≡ marks → (i : ℕ) → i ≤ 7
-        → get_or result i 0 ≡ count_before (is_marked w) i }
-{
-    let mut before = [0; 8];
-    for index in 0..7 {
-        before[index + 1] = before[index] + u32::from(marks[index]);
-    }
-    before
+        × (r.week ≡ weekmask_in r.workdays.now.weekmask) };
 }
 
 impl<'a> RankedWorkdays<'a> {
@@ -63,18 +50,16 @@ impl<'a> RankedWorkdays<'a> {
             return Err(TOO_MANY_HOLIDAYS);
         }
         Ok(RankedWorkdays {
-            marked_in_week: marks_before(marks),
+            week: WeekdayMarks::new(marks),
             workdays,
         })
     }
 
-    /// Returns the number of marked weekdays before an index of the week.
-    fn marked_in_week(&self, index: usize) -> u32
-        requires { index ≤ 7 }
-        ensures value { result ≡ count_before (is_marked (week_of self.now)) index }
-        ensures max { result ≤ index }
+    /// Returns the marks of the weekmask.
+    fn week(&self) -> &WeekdayMarks
+        ensures { result.now ≡ weekmask_in self.now.weekmask }
     {
-        self.marked_in_week[index]
+        &self.week
     }
 
     /// Returns the number of holidays.
@@ -95,47 +80,13 @@ impl<'a> RankedWorkdays<'a> {
     }
 
     /// Returns the number of holidays with a marked weekday before an index.
-    fn marked_holidays(&self, index: usize) -> u64
+    fn marked_holidays(&self, index: usize) -> i64
         requires { index ≤ self.now.holidays_length }
-        ensures value { IsChecked self.now → result ≡ marked_count (week_of self.now) index }
-        ensures max { result < 65536 }
+        ensures value { IsChecked self.now → result ≡ pos (marked_count (week_of self.now) index) }
+        ensures range { (pos 0 ≤ℤ result) × (result <ℤ pos 65536) }
     {
         let workdays = self.workdays;
-        u64::from(workdays.marked_before[index])
-    }
-
-    /// Returns the number of days with a marked weekday before a day.
-    fn marked_before(&self, day: u32) -> u32
-        ensures value { result ≡ count_before (is_marked (week_of self.now)) day }
-        ensures max { result ≤ day }
-    {
-        day / 7 * self.marked_in_week(7) + self.marked_in_week((day % 7) as usize)
-    }
-
-    /// Returns the index of the marked weekday with n marks before it.
-    fn nth_marked_weekday(&self, n: u32) -> usize
-        requires { n < count_before (is_marked (week_of self.now)) 7 }
-        ensures marked { is_marked (week_of self.now) result ≡ true }
-        ensures value { count_before (is_marked (week_of self.now)) result ≡ n }
-        ensures range { result < 7 }
-    {
-        for index in 0..7 {
-            if self.marked_in_week(index + 1) > n {
-                return index;
-            }
-        }
-        unreachable!()
-    }
-
-    /// Returns the number of the day with a marked weekday and n such days before it.
-    fn nth_marked(&self, n: u64) -> u64
-        requires some { 0 < count_before (is_marked (week_of self.now)) 7 }
-        requires fits { n < 2 ^ 60 }
-        ensures marked { is_marked (week_of self.now) result ≡ true }
-        ensures value { count_before (is_marked (week_of self.now)) result ≡ n }
-    {
-        let in_week = u64::from(self.marked_in_week(7));
-        n / in_week * 7 + self.nth_marked_weekday((n % in_week) as u32) as u64
+        i64::from(workdays.marked_before[index])
     }
 
     /// Returns the number of holidays before a day.
@@ -163,19 +114,19 @@ impl<'a> RankedWorkdays<'a> {
         ensures max { result ≤ℤ pos (last_day + 1) }
     {
         let holidays = self.marked_holidays(self.holidays_before(day));
-        i64::from(self.marked_before(day)) - holidays as i64
+        i64::from(self.week().marked_before(day)) - holidays
     }
 
     /// Returns the number of holidays whose rank is at most `rank`.
-    fn holidays_passed(&self, rank: u64) -> usize
-        requires { rank ≤ 2 ^ 32 }
+    fn holidays_passed(&self, rank: i64) -> usize
+        requires { (neg_ℤ (pos 4294967296) ≤ℤ rank) × (rank ≤ℤ pos 4294967296) }
         ensures passed { IsChecked self.now → HavePassed (week_of self.now) rank result }
         ensures max { result ≤ self.now.holidays_length }
     {
         let (mut low, mut high) = (0, self.holiday_count());
         while low < high {
             let middle = low + (high - low) / 2;
-            let marked = u64::from(self.marked_before(self.holiday(middle)));
+            let marked = i64::from(self.week().marked_before(self.holiday(middle)));
             if marked <= rank + self.marked_holidays(middle) {
                 low = middle + 1;
             } else {
@@ -187,24 +138,12 @@ impl<'a> RankedWorkdays<'a> {
 
     /// Returns the number of the working day with a rank, or `None` if the range has none.
     pub(super) fn day_of_rank(&self, rank: i64) -> Option<u32>
-        requires { rank ≤ℤ pos 4294967296 }
-        ensures value { IsChecked self.now → MatchOption result (NoDayOfRank (week_of self.now) rank)
-            (IsDayOfRank (week_of self.now) rank) }
+        requires { (neg_ℤ (pos 4294967296) ≤ℤ rank) × (rank ≤ℤ pos 4294967296) }
+        ensures value { IsChecked self.now → IsRanked (is_workday (week_of self.now)) rank result }
         ensures range { IfSome result IsDate }
     {
-        if rank < 0 {
-            return None;
-        }
-        if self.marked_in_week(7) == 0 {
-            return None;
-        }
-        let rank = rank as u64;
         let holidays = self.marked_holidays(self.holidays_passed(rank));
-        let day = self.nth_marked(rank + holidays);
-        if day > u64::from(LAST_DAY_NUMBER) {
-            return None;
-        }
-        Some(day as u32)
+        self.week().nth_marked(rank + holidays)
     }
 
     /// Returns `true` for a working day.

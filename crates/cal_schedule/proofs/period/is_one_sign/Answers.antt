@@ -1,5 +1,5 @@
-use Rattle.std.proofs.Common.{inl, inr, rules, sym, ◌∙◌}
-use Rattle.std.specs.Prelude.{◌⊎◌, IsTrue}
+use Rattle.std.proofs.Common.{inl, inr, sym, ◌∙◌}
+use Rattle.std.specs.Prelude.{IsTrue}
 use Rattle.std.proofs.lemmas.Int.{to_z-of_z}
 use Rattle.cal_schedule.proofs.Periods.{false_true}
 use Rattle.cal_schedule.proofs.period.is_one_sign.Goals as goal

@@ -1,5 +1,5 @@
 use Rattle.std.proofs.Common.{◌∙◌, ap, sym, refl}
-use Rattle.std.specs.Prelude.{◌≡◌, ℕ, ℤ, Ok, pos}
+use Rattle.std.specs.Prelude.{◌≡◌, ℕ, Ok, pos}
 use Rattle.std.proofs.lemmas.Int.{to_z-of_z}
 use Rattle.cal_schedule.proofs.Periods.{false_true, no_value, one_days_later}
 use Rattle.cal_schedule.proofs.period_moves.nth_period.Goals as goal

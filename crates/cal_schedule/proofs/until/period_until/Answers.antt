@@ -1,4 +1,4 @@
-use Rattle.std.proofs.Common.{◌<◌, ap, sym, ◌∙◌, subst, rules, w32, FitsSigned, ◌≤ℤ◌, pos, neg_ℤ}
+use Rattle.std.proofs.Common.{sym, subst, rules, w32, FitsSigned, ◌≤ℤ◌, pos, neg_ℤ}
 use Rattle.std.proofs.lemmas.Int.{to_z-of_z}
 use Rattle.cal_schedule.specs.Period.{Parts}
 use Rattle.cal_schedule.proofs.Periods.{until_sign}

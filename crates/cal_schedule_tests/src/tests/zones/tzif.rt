@@ -370,6 +370,7 @@ fn errors_of_types_and_changes(rt: HostRuntime) {
     check_byte(rt, 270, 2, ZoneErrorKind::Daylight, 270);
     check_byte(rt, 271, 22, ZoneErrorKind::NameIndex, 271);
     check_byte(rt, 296, 200, ZoneErrorKind::NotAscii, 296);
+    check_byte(rt, 317, b'T', ZoneErrorKind::NameEnd, 318);
     check_byte(rt, 247, 5, ZoneErrorKind::TypeIndex, 247);
     let error = TimelineError::Change(ChangeError::NotRising(0));
     check_byte(rt, 95, 0, ZoneErrorKind::Timeline(error), 95);

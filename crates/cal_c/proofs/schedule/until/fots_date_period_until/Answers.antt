@@ -1,4 +1,4 @@
-use Rattle.std.proofs.Common.{pos, neg_ℤ, ◌≤ℤ◌, sym, subst}
+use Rattle.std.proofs.Common.{pos, neg_ℤ, ◌≤ℤ◌, ap, sym, subst}
 use Rattle.std.proofs.lemmas.Int.{to_z-of_z}
 use Rattle.cal_schedule.specs.Period.{months_of, Parts}
 use Rattle.cal_schedule.specs.Until.{IsGreatest, IsLeast, IsPeriodUntil, IsMonthsUpTo, IsMonthsBackTo}
@@ -15,7 +15,7 @@ returns-clause-value c = λ h k.
     let to = simp to_z-of_z at c.in-Some-valid_date.ensures in
     let Has : Parts → Type 0 = IsPeriodUntil (day_of c.args.date) (day_of c.args.other) in
     let found = rw (at.1, to.1) at c.period_until.ensures.value in
-    subst (IsPeriodWith Has) (sym c.ok.ensures) (period-with Has c.period_until.result found.only found)
+    subst (IsPeriodWith Has) (sym c.ok.ensures) (period-with Has c.period_until.result (ap (λ q. q.exact) found.only) found)
 
 pub returns-clause-value_forward : goal.returns-clause-value_forward
 returns-clause-value_forward c = λ h k e.
@@ -25,7 +25,7 @@ returns-clause-value_forward c = λ h k e.
     let to = simp to_z-of_z at c.in-Some-valid_date.ensures in
     let Has : Parts → Type 0 = λ p. IsGreatest (IsMonthsUpTo (day_of c.args.date) (day_of c.args.other)) (months_of p) in
     let found = (rw (at.1, to.1) at c.period_until.ensures.value_forward) (not_after _ _ h k e) in
-    subst (IsPeriodWith Has) (sym c.ok.ensures) (period-with Has c.period_until.result c.period_until.ensures.value.only found)
+    subst (IsPeriodWith Has) (sym c.ok.ensures) (period-with Has c.period_until.result (ap (λ q. q.exact) c.period_until.ensures.value.only) found)
 
 pub returns-clause-value_backward : goal.returns-clause-value_backward
 returns-clause-value_backward c = λ h k e.
@@ -35,7 +35,7 @@ returns-clause-value_backward c = λ h k e.
     let to = simp to_z-of_z at c.in-Some-valid_date.ensures in
     let Has : Parts → Type 0 = λ p. IsLeast (IsMonthsBackTo (day_of c.args.date) (day_of c.args.other)) (months_of p) in
     let found = (rw (at.1, to.1) at c.period_until.ensures.value_backward) (before _ _ k h e) in
-    subst (IsPeriodWith Has) (sym c.ok.ensures) (period-with Has c.period_until.result c.period_until.ensures.value.only found)
+    subst (IsPeriodWith Has) (sym c.ok.ensures) (period-with Has c.period_until.result (ap (λ q. q.exact) c.period_until.ensures.value.only) found)
 
 pub returns-clause-forward : goal.returns-clause-forward
 returns-clause-forward c = λ h k e.

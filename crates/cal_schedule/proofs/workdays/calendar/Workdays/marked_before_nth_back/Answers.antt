@@ -1,79 +1,71 @@
-use Rattle.std.proofs.Common.{◌≡◌, ◌+◌, ◌-◌, ◌<◌, ap, sym, ◌∙◌, arith, true, false, refl, length, get_or}
+use Rattle.std.proofs.Common.{◌≡◌, ◌+◌, ◌-◌, ap, ◌∙◌, refl, arith, get_or, pos, ◌-ℤ◌, ◌≤ℤ◌}
+use Rattle.std.specs.Int.{from_bool}
+use Rattle.std.proofs.lemmas.Int.{ints}
 use Rattle.cal_time.specs.IsoWeekDate.{count_before}
-use Rattle.cal_schedule.specs.Workdays.{is_marked}
+use Rattle.cal_schedule.specs.Workdays.{is_marked, is_workday}
 use Rattle.cal_schedule.specs.WorkdaysSplit.{marked_count}
-use Rattle.cal_schedule.specs.Ranks.{count-next}
-use Rattle.cal_schedule.proofs.WorkdaysWeeks.{rises, held-next}
-use Rattle.cal_schedule.proofs.WorkdaysSearch.{passed-back, found-back, none-back_few, none-back_held, back-passed}
+use Rattle.cal_schedule.specs.Ranks.{count-rises, bit-most}
+use Rattle.cal_schedule.proofs.WorkdaysWeeks.{rises, ranks}
+use Rattle.cal_schedule.proofs.WorkdaysSearch.{step, passed-more, left-less}
 use Rattle.cal_schedule.proofs.workdays.calendar.Workdays.marked_before_nth_back.Goals as goal
-use Rattle.cal_schedule.proofs.workdays.calendar.Workdays.marked_before_nth_back.Goals.{then-is_marked+else-before-eq0, else-is_marked}
 
-pub returns-then-marked-n-clause-value : goal.returns-then-marked-n-clause-value
-returns-then-marked-n-clause-value c =
-    let end = c.holidays_before-end.ensures in
-    none-back_few c.args.self.now (rises _ end.rising) _ c.args.to c.args.n end.split (omega arith)
-
-pub returns-then-marked_before-before-clause-value : goal.returns-then-marked_before-before-clause-value
-returns-then-marked_before-before-clause-value c = λ x on e.
+pub loop-index-init : goal.loop-index-init
+loop-index-init c =
     let w = c.args.self.now in
-    let end = c.holidays_before-end.ensures in
-    let r = rises w.holidays end.rising in
-    let loop = c.loop-index in
-    let after = ap (λ day. count_before (is_marked w) (day + 1)) c.holiday-holiday.ensures.value in
-    found-back w r _ loop.index c.args.to c.args.n loop.before x end.split loop.invariant.within loop.invariant.number loop.invariant.most loop.invariant.passed
-    (λ j h. passed-back w r (loop.index - 1) x (omega (arith, end.split.most)) (omega (arith, after)) on j (omega arith)) on e
+    let split = c.holidays_before-index.ensures.split in
+    let to = c.marked_before.ensures.value ∙ ap (λ m. count_before (is_marked m) c.args.to) c.requires.week in
+    record {
+      number = omega (arith, ints, to, ranks w (rises _ c.holidays_before-index.ensures.rising) _ c.args.to split);
+      within = split.most;
+      left = λ j low high. omega (arith, ints, count-rises (is_workday w) c.args.to (get_or w.holidays j 0) (split.after j low high));
+      most = omega (arith, ints, c.marked_before.ensures.max);
+    }
 
-pub returns-then-before-eq0-clause-value : goal.returns-then-before-eq0-clause-value
-returns-then-before-eq0-clause-value c =
+pub holiday-holiday-requires : goal.holiday-holiday-requires
+holiday-holiday-requires c = omega (arith, c.loop-index.invariant.within)
+
+pub overflow_sub-without : goal.overflow_sub-without
+overflow_sub-without c = omega (arith, ints, c.loop-index.invariant.number, c.loop-index.invariant.most, bit-most c.is_marked.result (from_bool c.is_marked.result) refl)
+
+pub returns-then-from-without-clause-value : goal.returns-then-from-without-clause-value
+returns-then-from-without-clause-value c =
     let w = c.args.self.now in
-    let end = c.holidays_before-end.ensures in
-    let loop = c.loop-index in
-    let one : loop.index - 1 + 1 ≡ loop.index = omega arith in
-    let on : is_marked w (get_or w.holidays (loop.index - 1) 0) ≡ true =
-    ap (is_marked w) (sym c.holiday-holiday.ensures.value) ∙ sym c.is_marked.ensures ∙ c.if-is_marked.true in
-    none-back_held w (rises w.holidays end.rising) _ (loop.index - 1) c.args.to c.args.n end.split (omega (arith, end.split.most))
-    (omega (arith, ap (marked_count w) one)) on
+    let r = rises w.holidays c.holidays_before-index.ensures.rising in
+    let index = c.loop-index.index in
+    let kept = c.loop-index.invariant in
+    let one : index - 1 + 1 ≡ index = omega arith in
+    let here = step w _ r c.requires.week (index - 1) _ _ _ (omega (arith, kept.within)) c.holiday-holiday.ensures.value c.marked_before-in-loop-index.ensures.value c.is_marked.ensures in
+    let last : pos (count_before (is_workday w) (get_or w.holidays (index - 1) 0)) ≤ℤ (pos (count_before (is_workday w) c.args.to) -ℤ pos (c.args.n + 1)) =
+    omega (arith, ints, here.0, here.1, kept.number, ap (marked_count w) one) in (
+      index,
+      record { most = kept.within; before = λ j h. passed-more w r (index - 1) _ (omega (arith, kept.within)) last j (omega arith); after = kept.left },
+      omega (arith, ints, kept.number),
+    )
+
+pub returns-then-from-without-clause-max : goal.returns-then-from-without-clause-max
+returns-then-from-without-clause-max c = omega (arith, ints, c.loop-index.invariant.most)
 
 pub loop-index-preserved : goal.loop-index-preserved
 loop-index-preserved c =
     let w = c.args.self.now in
-    let end = c.holidays_before-end.ensures in
-    let loop = c.loop-index in
-    let i = loop.index - 1 in
-    let one : i + 1 ≡ loop.index = omega arith in
-    let all = ap (marked_count w) one in
-    let low : i < length w.holidays = omega (arith, end.split.most) in
-    let number = c.holiday-holiday.ensures.value in
-    let here : loop.before < count_before (is_marked w) (get_or w.holidays i 0 + 1) =
-    omega (arith, ap (λ day. count_before (is_marked w) (day + 1)) number) in
-    elim c.if-is_marked.branch [
-      | then-is_marked+else-before-eq0 b ↦
-          let on : true ≡ is_marked w (get_or w.holidays i 0) = sym b.if-is_marked.true ∙ c.is_marked.ensures ∙ ap (is_marked w) number in
-          let step = count-next (is_marked w) (get_or w.holidays i 0) true 1 on refl in
-          let held = held-next w i true 1 low on refl in
-          record {
-            number = omega arith;
-            most = omega arith;
-            within = omega arith;
-            passed = back-passed w i _ loop.before _ 1 step (omega arith) here (λ j a h. loop.invariant.passed j (omega arith) h);
-          }
-      | else-is_marked b ↦
-          let off : false ≡ is_marked w (get_or w.holidays i 0) = sym b.if-is_marked.false ∙ c.is_marked.ensures ∙ ap (is_marked w) number in
-          let step = count-next (is_marked w) (get_or w.holidays i 0) false 0 off refl in
-          let held = held-next w i false 0 low off refl in
-          record {
-            number = omega arith;
-            most = omega arith;
-            within = omega arith;
-            passed = back-passed w i _ loop.before _ 0 step (omega arith) here (λ j a h. loop.invariant.passed j (omega arith) h);
-          }
-    ]
+    let r = rises w.holidays c.holidays_before-index.ensures.rising in
+    let index = c.loop-index.index in
+    let kept = c.loop-index.invariant in
+    let one : index - 1 + 1 ≡ index = omega arith in
+    let here = step w _ r c.requires.week (index - 1) _ _ _ (omega (arith, kept.within)) c.holiday-holiday.ensures.value c.marked_before-in-loop-index.ensures.value c.is_marked.ensures in
+    record {
+      number = omega (arith, ints, kept.number, here.1, ap (marked_count w) one);
+      within = omega (arith, kept.within);
+      left = left-less w r (index - 1) _ (omega (arith, ints, here.0, here.1, kept.number, ap (marked_count w) one));
+      most = omega (arith, ints, kept.number, kept.most, bit-most c.is_marked.result (from_bool c.is_marked.result) refl);
+    }
 
 pub returns-clause-value : goal.returns-clause-value
-returns-clause-value c = λ x on e.
-    let w = c.args.self.now in
-    let end = c.holidays_before-end.ensures in
-    let r = rises w.holidays end.rising in
-    let loop = c.loop-index in
-    found-back w r _ loop.index c.args.to c.args.n loop.before x end.split loop.invariant.within loop.invariant.number loop.invariant.most loop.invariant.passed
-    (λ j h. absurd (omega arith)) on e
+returns-clause-value c = (
+  c.loop-index.index,
+  record { most = c.loop-index.invariant.within; before = λ j h. absurd (omega arith); after = c.loop-index.invariant.left },
+  omega (arith, ints, c.loop-index.invariant.number),
+)
+
+pub returns-clause-max : goal.returns-clause-max
+returns-clause-max c = omega (arith, ints, c.loop-index.invariant.most)

@@ -1,20 +1,21 @@
-use Rattle.std.proofs.Common.{sym, ◌∙◌}
-use Rattle.cal_schedule.proofs.WorkdaysSearch.{day-back, found-day_back, none-day_back, no_marks-back}
+use Rattle.std.proofs.Common.{◌+◌, pos, ◌-ℤ◌, refl, ◌∙◌, rules, FitsSigned, w64}
+use Rattle.std.proofs.lemmas.Int.{to_z-of_z}
+use Rattle.cal_time.specs.IsoWeekDate.{count_before}
+use Rattle.cal_schedule.specs.Workdays.{is_workday}
+use Rattle.cal_schedule.specs.WorkdaysSplit.{IsRanked}
+use Rattle.cal_schedule.proofs.WorkdaysWeeks.{rises}
+use Rattle.cal_schedule.proofs.WorkdaysSearch.{ranked, back-rank}
 use Rattle.cal_schedule.proofs.workdays.calendar.Workdays.nth_before.Goals as goal
+use Rattle.cal_schedule.proofs.workdays.calendar.Workdays.nth_before.Goals.{After-some_date}
 
-pub returns-then-marked_in_week-eq0-clause-value : goal.returns-then-marked_in_week-eq0-clause-value
-returns-then-marked_in_week-eq0-clause-value c =
-    no_marks-back c.args.self.now c.args.to c.args.n (sym c.marked_in_week.ensures.value ∙ c.if-marked_in_week-eq0.true)
+found : (c : After-some_date) → IsRanked (is_workday c.args.self.now) (pos (count_before (is_workday c.args.self.now) c.args.to) -ℤ pos (c.args.n + 1)) c.nth_marked.result
+found c =
+    let before = c.marked_before_nth_back in
+    let fits : FitsSigned w64 before.result = search rules in
+    ranked c.args.self.now _ (rises _ c.week-week.ensures.rising) _ _ _ c.week-week.ensures.value before.ensures.value (simp to_z-of_z at c.nth_marked.ensures)
 
-pub returns-in-None-clause-value : goal.returns-in-None-clause-value
-returns-in-None-clause-value c = none-day_back c.args.self.now c.args.to c.args.n c.in-None.ensures.value
+pub returns-clause-value : goal.returns-clause-value
+returns-clause-value c = c.some_date.ensures ∙ (back-rank c.args.self.now c.args.to c.args.n _ _ c.requires refl (found c)).0
 
-pub returns-in-Some-clause-value : goal.returns-in-Some-clause-value
-returns-in-Some-clause-value c =
-    day-back c.args.self.now c.args.to c.args.n c.nth_marked.result _ c.requires
-    (c.in-Some.ensures.value c.nth_marked.result c.nth_marked.ensures.marked (cc)) c.date_from_number.ensures
-
-pub returns-in-Some-clause-found : goal.returns-in-Some-clause-found
-returns-in-Some-clause-found c =
-    found-day_back c.args.self.now c.args.to c.args.n c.nth_marked.result _
-    (c.in-Some.ensures.value c.nth_marked.result c.nth_marked.ensures.marked (cc)) c.date_from_number.ensures
+pub returns-clause-found : goal.returns-clause-found
+returns-clause-found c = rw c.some_date.ensures (back-rank c.args.self.now c.args.to c.args.n _ _ c.requires refl (found c)).1

@@ -4,10 +4,9 @@ use Rattle.std.proofs.lemmas.List.{length-set, length-map, get_or-map, take-set,
 use Rattle.cal_schedule.specs.Ranks.{bit-most}
 use Rattle.cal_schedule.specs.Workdays.{is_marked}
 use Rattle.cal_schedule.specs.WorkdaysSplit.{marked_count}
-use Rattle.cal_schedule.proofs.WorkdaysWeeks.{held-next, marked-is}
+use Rattle.cal_schedule.proofs.WorkdaysWeeks.{held-next, marked-is, set-next}
 use Rattle.cal_c.specs.Values.{dates_in, day_of}
 use Rattle.cal_c.specs.Weekmasks.{weekmask_in, work_week, AreHolidays, IsWeekmask}
-use Rattle.cal_c.proofs.CheckedHolidays.{set-next}
 use Rattle.cal_c.proofs.schedule.workdays.checked_workdays.CheckedWorkdays.from_valid.Goals as goal
 
 pub overflow_add-marked : goal.overflow_add-marked
@@ -27,9 +26,9 @@ loop-index-preserved c =
     let its = simp to_z-of_z at c.wrapped_number.ensures in
     let day = its (c.requires.holidays.1.dates index (pos 0) low) in
     let at : get_or (dates_in hs) index 0 ≡ day_of (get_or hs index (pos 0)) = get_or-map day_of hs index (pos 0) 0 low in
-    let mark : get_or c.args.marks (c.wrapped_number.result % 7) false ≡ is_marked w (get_or (dates_in hs) index 0) =
+    let mark : get_or c.args.marks (c.wrapped_number.result % 7) false ≡ is_marked w.marks (get_or (dates_in hs) index 0) =
     ap (λ m. get_or m (c.wrapped_number.result % 7) false) c.requires.weekmask.1 ∙ ap (λ n. get_or (weekmask_in c.args.weekmask) (n % 7) false) (day ∙ sym at)
-    ∙ sym (marked-is w (get_or (dates_in hs) index 0)) in
+    ∙ sym (marked-is w.marks (get_or (dates_in hs) index 0)) in
     let next = held-next w index _ _ (omega (arith, length-map hs day_of)) mark c.from-marked.ensures in
     let sum : c.loop-index.marked + c.from-marked.result ≡ marked_count w (index + 1) = omega (arith, next, kept.marked) in
     record {

@@ -1,10 +1,11 @@
-use Rattle.std.proofs.Common.{◌+◌, ◌-◌, ◌/◌, ◌<◌, ap, arith, length}
+use Rattle.std.proofs.Common.{◌+◌, ◌-◌, ◌/◌, ◌<◌, ap, ◌∙◌, arith, length}
+use Rattle.std.proofs.lemmas.Int.{ints, to_z-of_z}
 use Rattle.cal_time.specs.IsoWeekDate.{count_before}
 use Rattle.cal_schedule.specs.Workdays.{is_marked}
 use Rattle.cal_schedule.proofs.WorkdaysWeeks.{rises}
 use Rattle.cal_c.specs.CheckedWorkdays.{holidays_of, week_of}
 use Rattle.cal_c.specs.Values.{dates_in}
-use Rattle.cal_c.proofs.CheckedHolidays.{rank-at, passed-more, left-less}
+use Rattle.cal_schedule.proofs.WorkdaysSearch.{rank-at, passed-more, left-less}
 use Rattle.cal_c.proofs.schedule.workdays.ranks.RankedWorkdays.holidays_passed.Goals as goal
 
 pub loop-low-init : goal.loop-low-init
@@ -22,14 +23,14 @@ loop-low-preserved-then-marked-rank c =
     let w = week_of c.args.self.now in
     let days = dates_in (holidays_of c.args.self.now) in
     let middle = c.loop-low.low + (c.loop-low.high - c.loop-low.low) / 2 in
+    let marked = c.marked_before.ensures.value ∙ ap (λ m. count_before (is_marked m) c.holiday.result) c.week.ensures in
     let low : middle < length days = omega (arith, c.loop-low.invariant.most, c.holiday_count-high.ensures.value, c.holiday_count-high.ensures.length) in
     record {
       order = omega arith;
       most = c.loop-low.invariant.most;
       before = λ checked.
           let r = rises days checked.holidays.rising in
-          let at = ap (count_before (is_marked w)) (c.holiday.ensures checked) in
-          passed-more w r middle c.args.rank low (omega (arith, rank-at w r middle low, at, c.marked_before.ensures.value, c.from-marked.ensures, c.marked_holidays.ensures.value checked));
+          passed-more w r middle _ low (omega (arith, ints, rank-at w r middle low, marked, ap (count_before (is_marked w.marks)) (c.holiday.ensures checked), c.from-marked.ensures, c.marked_holidays.ensures.value checked));
       after = c.loop-low.invariant.after;
     }
 
@@ -38,6 +39,7 @@ loop-low-preserved c =
     let w = week_of c.args.self.now in
     let days = dates_in (holidays_of c.args.self.now) in
     let middle = c.loop-low.low + (c.loop-low.high - c.loop-low.low) / 2 in
+    let marked = c.marked_before.ensures.value ∙ ap (λ m. count_before (is_marked m) c.holiday.result) c.week.ensures in
     let low : middle < length days = omega (arith, c.loop-low.invariant.most, c.holiday_count-high.ensures.value, c.holiday_count-high.ensures.length) in
     record {
       order = omega arith;
@@ -45,13 +47,16 @@ loop-low-preserved c =
       before = c.loop-low.invariant.before;
       after = λ checked.
           let r = rises days checked.holidays.rising in
-          let at = ap (count_before (is_marked w)) (c.holiday.ensures checked) in
-          left-less w r middle c.args.rank (omega (arith, rank-at w r middle low, at, c.marked_before.ensures.value, c.from-marked.ensures, c.marked_holidays.ensures.value checked));
+          left-less w r middle _ (omega (arith, ints, rank-at w r middle low, marked, ap (count_before (is_marked w.marks)) (c.holiday.ensures checked), c.from-marked.ensures, c.marked_holidays.ensures.value checked));
     }
 
 pub returns-clause-passed : goal.returns-clause-passed
-returns-clause-passed c = λ checked. record {
-  most = omega (arith, c.loop-low.invariant.most, c.holiday_count-high.ensures.value, c.holiday_count-high.ensures.length);
-  before = c.loop-low.invariant.before checked;
-  after = λ j most low. c.loop-low.invariant.after checked j (omega arith) low;
-}
+returns-clause-passed c = λ checked.
+    let f = c.ranges.rank in
+    let before = simp to_z-of_z at c.loop-low.invariant.before checked in
+    let after = simp to_z-of_z at c.loop-low.invariant.after checked in
+    record {
+      most = omega (arith, c.loop-low.invariant.most, c.holiday_count-high.ensures.value, c.holiday_count-high.ensures.length);
+      before = before;
+      after = λ j most low. after j (omega arith) low;
+    }
