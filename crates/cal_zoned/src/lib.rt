@@ -6,8 +6,8 @@
 mod day;
 pub mod laws;
 mod period;
-mod until;
 pub mod unchecked;
+mod until;
 mod zoned_date_time;
 
 pub use day::start_of_day;

@@ -133,10 +133,7 @@ pub fn later(
     ensures { InOrder zone.now
         → IsSeen zone.now (instant moment +ℤ duration) (result_in zone.now result) }
 {
-    found_at(
-        nanoseconds_of(moment) + duration.whole_nanoseconds(),
-        zone,
-    )
+    found_at(nanoseconds_of(moment) + duration.whole_nanoseconds(), zone)
 }
 
 /// Subtracts a duration from the instant of a date-time.
@@ -148,10 +145,7 @@ pub fn earlier(
     ensures { InOrder zone.now
         → IsSeen zone.now (instant moment -ℤ duration) (result_in zone.now result) }
 {
-    found_at(
-        nanoseconds_of(moment) - duration.whole_nanoseconds(),
-        zone,
-    )
+    found_at(nanoseconds_of(moment) - duration.whole_nanoseconds(), zone)
 }
 
 /// Resolves a local date-time by a policy, and then adds a duration.

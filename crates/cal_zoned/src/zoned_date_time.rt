@@ -177,11 +177,7 @@ impl<'z> ZonedDateTime<'z> {
 
 /// Returns the local date-time some seconds and nanoseconds after 1970-01-01 0:00 UTC at an offset,
 /// or `None` if it is out of range.
-pub(crate) fn local_date_time(
-    seconds: i64,
-    past: i32,
-    offset: UtcOffset,
-) -> Option<PlainDateTime>
+pub(crate) fn local_date_time(seconds: i64, past: i32, offset: UtcOffset) -> Option<PlainDateTime>
     requires { (pos 0 ≤ℤ past) × (past <ℤ pos second) }
     ensures { let local = unix_epoch +ℤ (seconds +ℤ offset) *ℤ pos second +ℤ past
         in SomeIff result (IsDateTime local) local }

@@ -1,6 +1,5 @@
 use Rattle.std.proofs.Common.{◌≡◌, ◌∙◌, ap, arith, w64, ℤ}
 use Rattle.std.proofs.lemmas.Int.{ints, to_z-of_z}
-
 use Rattle.cal_zoned.proofs.ZoneResults.{kept_here, not_kept}
 use Rattle.cal_zoned.proofs.unchecked.kept.Goals as goal
 
