@@ -86,8 +86,8 @@ def _file_of(key: str) -> bytes:
 class Zone:
     """Zone(key): a time zone of the IANA database, such as `Europe/Berlin`.
 
-    Its file comes from the folder in the environment variable TZDIR or from /usr/share/zoneinfo, else
-    from the package `tzdata`, if it is installed. `LookupError` if there is no such file, and
+    Its file comes from the folder in the environment variable TZDIR or from /usr/share/zoneinfo,
+    else from the package `tzdata`, if it is installed. `LookupError` if there is no such file, and
     `ZoneError` if it isn't valid. An instant is an `OffsetDateTime` or Unix seconds. `key` is
     the name of the zone, or its POSIX text.
 
