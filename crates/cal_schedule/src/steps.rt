@@ -10,7 +10,7 @@ use cal_time::Date;
 use std::marker::Model;
 
 /// Returns the step that a date is in, if a period is repeated from a start: the greatest `n` for
-/// which [`nth_period`](crate::nth_period) isn't after the date. In steps of a month from
+/// which `nth_period` isn't after the date. In steps of a month from
 /// 31 January 2024, 28 February is in step 0 and 29 February in step 1.
 ///
 /// Returns `None` if the date is before the start, and if the period has an exact duration or isn't
