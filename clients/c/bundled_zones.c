@@ -1,5 +1,5 @@
-/* Checks the zones in a program: the first argument is a folder without files, and the second one that
- * of the files from which they were made. */
+/* Checks the zones in a program: the first argument is a folder with only Zulu, a file of Berlin, and
+ * the second one the folder of the files from which they were made. */
 #define _POSIX_C_SOURCE 200809L
 #include "fotsevindre_zones.h"
 #include "testing.h"
@@ -24,6 +24,7 @@ int main(int count, char **arguments)
     }
     check(fots_zone_named("Berlin").error == FOTS_ZONE_FILE && fots_zone_named("Europe").error == FOTS_ZONE_FILE, "no zone", 0, 0);
     check(fots_zone_offset(fots_zone_named("Europe/Berlin").zone, 1711846800).offset.seconds == 7200, "Berlin", 0, 0);
+    check(fots_zone_offset(fots_zone_named("Zulu").zone, 1711846800).offset.seconds == 7200, "a file comes first", 0, 0);
     snprintf(path, sizeof path, "%s/tzdata.zi", arguments[2]);
     file = fopen(path, "r");
     if (file) {

@@ -1,4 +1,4 @@
-// Checks the zones in a program, where TZDIR is a folder without files.
+// Checks the zones in a program, where TZDIR is a folder with only Zulu, a file of Berlin.
 #include <cstdio>
 
 #include "fotsevindre.hpp"
@@ -9,6 +9,7 @@ int main()
 {
     const Zone &berlin = Zone::named("Europe/Berlin");
     bool holds = berlin.abbreviation_at(1711846799) == "CET" && berlin.abbreviation_at(1711846800) == "CEST" && &berlin == &Zone::named("Europe/Berlin");
+    holds = holds && Zone::named("Zulu").abbreviation_at(1711846800) == "CEST";
     for (std::size_t k = 0; k < fots_bundled_zone_count; k++) {
         Zone::named(fots_bundled_zones[k].name);
     }
