@@ -30,6 +30,9 @@
 #endif
 
 #include "fotsevindre.h"
+#ifdef FOTSEVINDRE_ZONE_DATA
+#include "fotsevindre_zone_data.h"
+#endif
 
 namespace fotsevindre {
 
@@ -188,6 +191,25 @@ inline std::filesystem::path file_of_zone(const std::string &name)
     }
     const char *const folder = std::getenv("TZDIR");
     return std::filesystem::path(folder && *folder ? folder : "/usr/share/zoneinfo") / name;
+}
+
+// Returns the bytes of the file of a zone by its name, or if it can't be read of the zone in the program.
+inline std::string bytes_of_zone(const std::string &name)
+{
+    const std::filesystem::path path = file_of_zone(name);
+#ifdef FOTSEVINDRE_ZONE_DATA
+    try {
+        return bytes_of_file(path);
+    } catch (const std::system_error &thrown) {
+        const fots_bundled_zone *const zone = fots_bundled_zone_named(name.c_str());
+        if (!zone || thrown.code() == std::errc::invalid_argument || thrown.code() == std::errc::file_too_large) {
+            throw;
+        }
+        return std::string(reinterpret_cast<const char *>(zone->bytes), zone->length);
+    }
+#else
+    return bytes_of_file(path);
+#endif
 }
 
 // Compares by a key.
@@ -1113,7 +1135,8 @@ public:
     // std::system_error if that isn't a regular file of at most 65536 bytes that can be read.
     static Zone from_file(const std::filesystem::path &path) { return from_bytes(detail::bytes_of_file(path)); }
     // Returns the zone with a name, such as "Europe/Berlin": of its file in the folder that the
-    // variable TZDIR names, or else in /usr/share/zoneinfo. It is read once and kept. Throws a
+    // variable TZDIR names, or else in /usr/share/zoneinfo, or with FOTSEVINDRE_ZONE_DATA in the
+    // program. It is read once and kept. Throws a std::system_error like from_file, and a
     // std::invalid_argument for another name than of letters, digits and _-+/, from a letter on.
     static const Zone &named(const std::string &name)
     {
@@ -1122,7 +1145,7 @@ public:
         static std::map<std::string, Zone> &zones = *new std::map<std::string, Zone>;
         const std::lock_guard<std::mutex> lock(mutex);
         const auto found = zones.find(name);
-        return found != zones.end() ? found->second : zones.emplace(name, from_file(detail::file_of_zone(name))).first->second;
+        return found != zones.end() ? found->second : zones.emplace(name, from_bytes(detail::bytes_of_zone(name))).first->second;
     }
     // Creates the zone of the bytes of a TZif file.
     static Zone from_bytes(std::string bytes)

@@ -3,8 +3,9 @@
  * memory and keeps state. It needs POSIX, and GCC or Clang.
  *
  * The file of a zone is in the folder that the variable TZDIR names, or else in
- * /usr/share/zoneinfo. Each source file that includes this header reads it once, and keeps the zone
- * until the program ends. Any thread can make any call. */
+ * /usr/share/zoneinfo. If it can't be read, FOTSEVINDRE_ZONE_DATA takes the zone from the program, as
+ * fotsevindre_zone_data.h says. Each source file that includes this header reads a file once, and
+ * keeps the zone until the program ends. Any thread can make any call. */
 #ifndef FOTSEVINDRE_ZONES_H
 #define FOTSEVINDRE_ZONES_H
 
@@ -15,6 +16,9 @@
 #include <sys/stat.h>
 
 #include "fotsevindre.h"
+#ifdef FOTSEVINDRE_ZONE_DATA
+#include "fotsevindre_zone_data.h"
+#endif
 
 /* The maximum size of a file, in bytes. The files of the time zone database have below 4000. */
 #define FOTS_MAX_ZONE_BYTES 65536
@@ -73,6 +77,21 @@ static inline int32_t fots_read_zone_file(const char *path, uint8_t *bytes, size
     return !is_read ? FOTS_ZONE_FILE : *length > FOTS_MAX_ZONE_BYTES ? FOTS_ZONE_TOO_LONG : FOTS_ZONE_NAMED;
 }
 
+/* Copies the bytes of a zone in the program, if its file can't be read. */
+static inline void fots_read_bundled_zone(const char *name, uint8_t *bytes, size_t *length, int32_t *error)
+{
+#ifdef FOTSEVINDRE_ZONE_DATA
+    const fots_bundled_zone *const zone = *error == FOTS_ZONE_FILE ? fots_bundled_zone_named(name) : NULL;
+    if (zone && zone->length <= FOTS_MAX_ZONE_BYTES) {
+        *length = zone->length;
+        memcpy(bytes, zone->bytes, *length);
+        *error = FOTS_ZONE_NAMED;
+    }
+#else
+    (void)name, (void)bytes, (void)length, (void)error;
+#endif
+}
+
 /* Returns a zone of the list with this name, or NULL. */
 static inline const fots_zone *fots_kept_zone_named(const fots_kept_zone *kept, const char *name)
 {
@@ -101,6 +120,7 @@ static inline fots_kept_zone *fots_read_named_zone(const char *name, fots_named_
     bytes = (uint8_t *)path + path_size;
     snprintf(path, path_size, "%s/%s", zones, name);
     result->error = fots_read_zone_file(path, bytes, &length);
+    fots_read_bundled_zone(name, bytes, &length, &result->error);
     if (result->error == FOTS_ZONE_NAMED) {
         result->status = fots_zone_from_file(bytes, length).status;
         result->error = result->status == FOTS_OK ? FOTS_ZONE_MEMORY : FOTS_ZONE_INVALID;

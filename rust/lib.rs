@@ -44,6 +44,8 @@ include!(concat!(env!("OUT_DIR"), "/library.rs"));
 #[cfg(doc)]
 include!(concat!(env!("OUT_DIR"), "/definitions.rs"));
 
+#[cfg(feature = "bundled-zones")]
+mod bundled_zones;
 pub mod columns;
 mod duration;
 mod errors;

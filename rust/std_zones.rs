@@ -1,6 +1,8 @@
 //! Time zones by name, from the files of the system.
 
 use crate::Zone;
+#[cfg(feature = "bundled-zones")]
+use crate::bundled_zones::bundled;
 use crate::error::ZoneError;
 use std::boxed::Box;
 use std::collections::BTreeMap;
@@ -64,7 +66,8 @@ impl Zone<'static> {
     /// Returns the zone with a name, such as `Europe/Berlin`.
     ///
     /// The file is in the folder that the variable `TZDIR` names, or else in `/usr/share/zoneinfo`.
-    /// It is read once, and the zone is kept until the program ends.
+    /// It is read once, and the zone is kept until the program ends. If the file can't be read, the feature
+    /// `bundled-zones` has the zone of the machine that built the crate.
     ///
     /// # Errors
     ///
@@ -87,12 +90,24 @@ impl Zone<'static> {
         }
         let folder = env::var_os("TZDIR").filter(|folder| !folder.is_empty());
         let folder = folder.unwrap_or_else(|| OsString::from(FOLDER));
-        let bytes = read(&Path::new(&folder).join(name))?;
-        // Only the bytes of a zone are kept.
-        Zone::parse(&bytes).map_err(NamedZoneError::Zone)?;
-        let zone = Self::parse(Box::leak(bytes.into_boxed_slice())).map_err(NamedZoneError::Zone)?;
+        let bytes = match read(&Path::new(&folder).join(name)) {
+            Err(NamedZoneError::File(error)) => bundled(name).ok_or(NamedZoneError::File(error))?,
+            found => {
+                let bytes = found?;
+                // Only the bytes of a zone are kept.
+                Zone::parse(&bytes).map_err(NamedZoneError::Zone)?;
+                Box::leak(bytes.into_boxed_slice())
+            }
+        };
+        let zone = Self::parse(bytes).map_err(NamedZoneError::Zone)?;
         Ok(zones.entry(name.into()).or_insert(Box::leak(Box::new(zone))))
     }
+}
+
+/// Returns nothing, as the crate has no zones without the feature `bundled-zones`.
+#[cfg(not(feature = "bundled-zones"))]
+fn bundled(_: &str) -> Option<&'static [u8]> {
+    None
 }
 
 /// Returns `true` if the file of a zone with this name is in the folder of the zones.

@@ -8,6 +8,7 @@ mod face;
 mod members;
 mod methods;
 mod strip;
+mod zones;
 
 use definitions::Definitions;
 use std::env;
@@ -15,6 +16,7 @@ use std::fs;
 use std::path::PathBuf;
 use std::process::ExitCode;
 use strip::{Edits, Fault, Options, Source};
+use zones::Zones;
 
 /// The libraries, as modules of the crate.
 const CRATES: [&str; 14] = [
@@ -56,6 +58,9 @@ fn write() -> Result<(), Fault> {
     let change = |source: &Source, edits: &mut Edits| face::change(source, &definitions, edits);
     let options = Options { crates: &CRATES, standard: "core", has_tests: false, more: Some(&change) };
     strip::write_crates(&crates, &out, &options)?;
+    if env::var_os("CARGO_FEATURE_BUNDLED_ZONES").is_some() {
+        Zones::read(&Zones::folder())?.write(&out)?;
+    }
     let pages = out.join("definitions.rs");
     fs::write(&pages, definitions.written()).map_err(|error| Fault::at_file(&pages, &error))
 }

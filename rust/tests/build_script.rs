@@ -23,10 +23,15 @@ mod members;
 mod methods;
 #[path = "../build/strip/mod.rs"]
 mod strip;
+#[allow(dead_code)]
+#[path = "../build/zones.rs"]
+mod zones;
 
 use definitions::Definitions;
+use std::fs;
 use std::path::Path;
 use strip::{Edits, Fault, Kind, Options, Source, translated};
+use zones::Zones;
 
 fn source(text: &str) -> Result<Source, Fault> {
     Source::new(Path::new("cal_date/src/lib.rt").to_path_buf(), "cal_date", text.to_string())
@@ -279,4 +284,36 @@ fn contracts_link_to_definitions() {
     assert!(rust.contains(&clause) && !rust.contains("<code>ensures closed"), "{rust}");
     let pages = definitions.written();
     assert!(pages.contains("n is a day \\\\*of\\\\* the range.") && pages.contains("<a id=\\\"IsDate\\\"></a>"), "{pages}");
+}
+
+#[test]
+fn zones_of_a_folder() {
+    let folder = std::env::temp_dir().join(format!("fotsevindre-packed-{}", std::process::id()));
+    let error = |folder: &Path| Zones::read(folder).err().unwrap().to_string();
+    assert!(
+        error(&folder)
+            .ends_with(": no time zones for the feature bundled-zones; install tzdata, or set TZDIR to a folder of zones")
+    );
+    for name in ["Etc", "America/Indiana", "right"] {
+        fs::create_dir_all(folder.join(name)).unwrap();
+    }
+    fs::write(folder.join("zone.tab"), "TZif").unwrap();
+    assert!(error(&folder).contains("install tzdata"));
+    for name in ["Etc/GMT+1", "Etc/UTC", "UTC", "localtime", "right/UTC", "A.B"] {
+        fs::write(folder.join(name), "TZif").unwrap();
+    }
+    fs::write(folder.join("America/Indiana/Tell_City"), "TZif2").unwrap();
+    fs::write(folder.join("README"), "text").unwrap();
+    let zones = Zones::read(&folder).unwrap();
+    let names: Vec<&str> = zones.places.keys().map(String::as_str).collect();
+    assert_eq!(names, ["America/Indiana/Tell_City", "Etc/GMT+1", "Etc/UTC", "UTC"]);
+    assert_eq!(zones.places.into_values().collect::<Vec<_>>(), [(0, 5), (5, 9), (5, 9), (5, 9)]);
+    assert_eq!((zones.bytes.as_slice(), zones.version.as_str()), (&b"TZif2TZif"[..], "unknown"));
+    for (name, text, version) in
+        [("+VERSION", "2024a\n", "2024a"), ("tzdata.zi", "# version 2025b\nZ\n", "2025b"), ("tzdata.zi", "Z", "2024a")]
+    {
+        fs::write(folder.join(name), text).unwrap();
+        assert_eq!(Zones::read(&folder).unwrap().version, version);
+    }
+    fs::remove_dir_all(&folder).unwrap();
 }

@@ -68,26 +68,27 @@ def _seconds(moment: OffsetDateTime | SupportsIndex) -> int:
 
 
 def _file_of(key: str) -> bytes:
-    """Returns the bytes of the file of a zone, from the package tzdata or the system."""
+    """Returns the bytes of the file of a zone, from the system or the package tzdata."""
     parts = pathlib.PurePosixPath(key).parts
     if not key or any(part in ("..", "/") for part in parts):
         raise LookupError(f"invalid name of a time zone: {key!r}")
-    # A name with a zero byte or a lone surrogate is a ValueError.
+    path = pathlib.Path(os.environ.get("TZDIR") or "/usr/share/zoneinfo", *parts)
+    # A name with a zero byte or a lone surrogate is a ValueError. A pipe would wait.
+    with contextlib.suppress(OSError, ValueError):
+        if path.is_file():
+            return path.read_bytes()
     with contextlib.suppress(ImportError, OSError, ValueError):
         return importlib.resources.files("tzdata.zoneinfo").joinpath(*parts).read_bytes()
-    try:
-        return pathlib.Path(os.environ.get("TZDIR", "/usr/share/zoneinfo"), *parts).read_bytes()
-    except (OSError, ValueError):
-        raise LookupError(f"no time zone {key!r}") from None
+    raise LookupError(f"no time zone {key!r}")
 
 
 @dataclasses.dataclass(frozen=True, init=False, repr=False)
 class Zone:
     """Zone(key): a time zone of the IANA database, such as `Europe/Berlin`.
 
-    Its file comes from the package `tzdata`, if it is installed, else from the folder in the
-    environment variable TZDIR or from /usr/share/zoneinfo. `LookupError` if there is no such file,
-    and `ZoneError` if it isn't valid. An instant is an `OffsetDateTime` or Unix seconds. `key` is
+    Its file comes from the folder in the environment variable TZDIR or from /usr/share/zoneinfo,
+    else from the package `tzdata`, if it is installed. `LookupError` if there is no such file, and
+    `ZoneError` if it isn't valid. An instant is an `OffsetDateTime` or Unix seconds. `key` is
     the name of the zone, or its POSIX text.
 
     >>> berlin = Zone.from_posix("CET-1CEST,M3.5.0,M10.5.0/3")

@@ -4,21 +4,26 @@ system, and dateutil, if it is installed."""
 import copy
 import datetime
 import doctest
+import importlib
 import itertools
 import os
 import pathlib
 import pickle
 import random
+import shutil
 import struct
+import sys
+import tempfile
 import unittest
 import zoneinfo
+from unittest import mock
 
 try:
     from dateutil import rrule
 except ImportError:
     rrule = None
 
-from fotsevindre import Date, Frequency, LocalKind, OffsetDateTime, ParseRuleError, PlainDateTime, Policy, Recurrence, Time, Weekday, Zone, ZoneError
+from fotsevindre import Date, Frequency, LocalKind, OffsetDateTime, ParseRuleError, PlainDateTime, Policy, Recurrence, Time, Weekday, Zone, ZoneError, zones
 
 FOLDER = pathlib.Path(os.environ.get("TZDIR", "/usr/share/zoneinfo"))
 EPOCH = datetime.datetime(1970, 1, 1)
@@ -351,6 +356,36 @@ def changes_in(data):
     start = 44 + size(struct.unpack(">6I", data[20:44]), 4)
     counts = struct.unpack(">6I", data[start + 20:start + 44])
     return struct.unpack_from(f">{counts[3]}q", data, start + 44)
+
+
+class WithoutFiles(unittest.TestCase):
+    def test_package(self):
+        """The package tzdata, made of the files of the system, where the system has none."""
+        keys = zoneinfo.available_timezones()
+        with tempfile.TemporaryDirectory() as made:
+            empty, package = pathlib.Path(made, "empty"), pathlib.Path(made, "site", "tzdata")
+            empty.mkdir()
+            for key in keys:
+                path = package / "zoneinfo" / key
+                path.parent.mkdir(parents=True, exist_ok=True)
+                shutil.copy(FOLDER / key, path)
+            for folder in (package, package / "zoneinfo"):
+                (folder / "__init__.py").touch()
+            others = {name: module for name, module in sys.modules.items() if name.partition(".")[0] != "tzdata"}
+            with mock.patch.dict(os.environ, TZDIR=str(empty)), mock.patch.dict(sys.modules, others, clear=True):
+                with mock.patch.object(sys, "path", [path for path in sys.path if not pathlib.Path(path, "tzdata").exists()]):
+                    importlib.invalidate_caches()
+                    self.assertRaises(LookupError, Zone, "Europe/Berlin")
+                    sys.path.insert(0, str(package.parent))
+                    self.assertEqual([Zone("Europe/Berlin").abbreviation_at(instant) for instant in (1711846799, 1711846800)], ["CET", "CEST"])
+                    for key in keys:
+                        self.assertEqual(zones._file_of(key), (FOLDER / key).read_bytes(), key)
+                    for key in ("Europe/Berln", "Europe", "a\0b", "\ud800", "../Europe/Berlin"):
+                        self.assertRaises(LookupError, Zone, key)
+                    # A file of the system comes first, but not a pipe.
+                    shutil.copy(FOLDER / "Europe/Berlin", empty / "Zulu")
+                    os.mkfifo(empty / "GMT")
+                    self.assertEqual([Zone(key).abbreviation_at(1711846800) for key in ("Zulu", "GMT")], ["CEST", "GMT"])
 
 
 class AgainstZoneinfo(unittest.TestCase):
