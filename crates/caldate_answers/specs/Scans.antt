@@ -7,7 +7,7 @@ use Rattle.caldate_answers.specs.Offsets.{is_digit}
 use Rattle.caldate_answers.specs.Readers.{has_form}
 use Rattle.caldate_lines.specs.Room.{longest_text}
 use Rattle.caldate_answers.specs.Spellings.{is_sign}
-use Rattle.caldate_args.specs.Zones.{is_letter}
+use Rattle.caldate_answers.specs.Offsets.{is_letter}
 use Rattle.caldate_lines.specs.declared.on_invalid.OnInvalid.TheVariants as invalid
 use Rattle.caldate_answers.specs.declared.request.Filter.{Filter}
 use Rattle.caldate_lines.specs.declared.no_answer.NoAnswer.{NoAnswer}
