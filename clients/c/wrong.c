@@ -240,7 +240,9 @@ static void months(int32_t julian_day, uint32_t number, int32_t count)
     COMPONENT(no_range, fots_date_range_length(range), julian_day);
     COMPONENT(first_of(no_range, of_date(date_at(count))), fots_date_range_contains(range, date_at(count)), julian_day);
     COMPONENT(no_range, fots_date_range_overlaps(range, range), julian_day);
-    status_is(no_range, fots_date_range_share(range, range).status, 1, "share", julian_day, count);
+    fots_share_result share = fots_date_range_share(range, range);
+    status_is(no_range, share.status, share.status == FOTS_OK && share.common == share.days, "share", julian_day, count);
+    check(share.status == FOTS_OK || (share.common == 0 && share.days == 0), "no share", julian_day, count);
     int32_t no_days = first_of(no_range, julian_day == other.julian_day ? FOTS_RESULT_OUT_OF_RANGE : FOTS_OK);
     fots_date_range_result both = fots_date_range_intersection(range, range);
     status_is(no_days, both.status, both.range.start.julian_day != FOTS_NO_VALUE, "intersection", julian_day, count);

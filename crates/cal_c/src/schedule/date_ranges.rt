@@ -144,14 +144,11 @@ pub extern "C" fn fots_date_range_intersection(
 /// Returns how many days of a range are in another one, and how many days it has. For the ranges of
 /// 2451604 and 2451635, and of 2451625 and 2451665, they are 10 and 31.
 #[unsafe(no_mangle)]
-pub extern "C" fn fots_date_range_share(
-    range: DateRangeParts,
-    other: DateRangeParts,
-) -> ShareResult
+pub extern "C" fn fots_date_range_share(range: DateRangeParts, other: DateRangeParts) -> ShareResult
     ensures { need IsRange range else result ≡ share_error INVALID_RANGE then
         need IsRange other else result ≡ share_error INVALID_RANGE then
         result ≡ share_ok (common_days (range_in range) (range_in other))
-            (day_count (range_in range)) }
+        (day_count (range_in range)) }
 {
     let range = or_error!(ShareResult, valid_range(range), INVALID_RANGE);
     let other = or_error!(ShareResult, valid_range(other), INVALID_RANGE);
