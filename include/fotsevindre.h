@@ -693,7 +693,8 @@ fots_component_result fots_date_range_length(fots_date_range range);
 fots_date_range_result fots_date_range_intersection(fots_date_range range, fots_date_range other);
 
 /* Returns how many days of the range are in the other one, and how many days it has, for a price by
- * the day. FOTS_INVALID_RANGE. For March 2024 and the days from 2024-03-22 to 2024-05-01: 10, 31. */
+ * the day. FOTS_INVALID_RANGE. From 2024-03-01 to 2024-04-01, from 2024-03-22 to 2024-05-01: 10,
+ * 31. */
 fots_share_result fots_date_range_share(fots_date_range range, fots_date_range other);
 
 /* ---- working days

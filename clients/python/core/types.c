@@ -105,7 +105,8 @@ static fots_component_result core_date_range_overlaps(fots_date start, fots_date
 static fots_date_range_result core_date_range_intersection(fots_date start, fots_date end,
     fots_date first, fots_date last)
 {
-    return fots_date_range_intersection((fots_date_range){start, end}, (fots_date_range){first, last});
+    return fots_date_range_intersection((fots_date_range){start, end},
+        (fots_date_range){first, last});
 }
 
 static fots_share_result core_date_range_share(fots_date start, fots_date end,

@@ -89,8 +89,8 @@ class Days(Sequence[Date]):
 
 @dataclasses.dataclass(frozen=True, slots=True)
 class DateRange(Collection[Date]):
-    """The days from a date up to another, which isn't in the range. There may be none. An end before
-    the start raises `ValueError`.
+    """The days from a date up to another, which isn't in the range. There may be none. An end
+    before the start raises `ValueError`.
 
     >>> march = DateRange(Date(2024, 3, 1), Date(2024, 4, 1))
     >>> len(march), Date(2024, 4, 1) in march, march.share(DateRange(Date(2024, 3, 22), march.end))
