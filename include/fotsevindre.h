@@ -68,6 +68,12 @@ typedef struct fots_period {
     fots_duration duration;
 } fots_period;
 
+/* The days from `start` up to `end`, without `end`. There may be none. */
+typedef struct fots_date_range {
+    fots_date start;
+    fots_date end;
+} fots_date_range;
+
 /* In this order the fields take 16 bytes. */
 typedef struct fots_moment {
     fots_date date;
@@ -224,7 +230,8 @@ enum fots_status {
     FOTS_INVALID_PERIOD = 68, /* expected parts of one sign and a valid duration */
     FOTS_PERIOD_HAS_DURATION = 69, /* a date has no time of day, so a period of it has no duration */
     FOTS_WRONG_OFFSET = 70, /* the offset of the moment isn't that of the zone at its instant */
-    FOTS_INVALID_UNIT = 71 /* expected 1 (day) to 5 (year) */
+    FOTS_INVALID_UNIT = 71, /* expected 1 (day) to 5 (year) */
+    FOTS_INVALID_RANGE = 72 /* expected two dates, and no end before the start */
 };
 
 /* Returns the name of a status: the component, such as "day", or words such as "result out of
@@ -304,6 +311,7 @@ static inline const char *fots_status_name(int32_t status)
     case FOTS_PERIOD_HAS_DURATION: return "period has a duration";
     case FOTS_WRONG_OFFSET: return "wrong offset";
     case FOTS_INVALID_UNIT: return "invalid unit";
+    case FOTS_INVALID_RANGE: return "invalid range";
     default: return "unknown";
     }
 }
@@ -503,6 +511,17 @@ typedef struct fots_year_fraction_result {
     int64_t numerator; /* or INT64_MIN */
 } fots_year_fraction_result;
 
+typedef struct fots_date_range_result {
+    int32_t status;
+    fots_date_range range; /* or {{FOTS_NO_VALUE}, {FOTS_NO_VALUE}} */
+} fots_date_range_result;
+
+typedef struct fots_share_result {
+    int32_t status;
+    uint32_t common; /* the days in both ranges, or 0 */
+    uint32_t days; /* the days of the first range, or 0 */
+} fots_share_result;
+
 /* ---- version */
 
 /* Returns the version of the library: 1000000 * major + 1000 * minor + patch. 0.1.0 is 1000. */
@@ -658,6 +677,25 @@ fots_date_result fots_date_last_weekday_of_month(int32_t year, uint32_t month, u
  * FOTS_RESULT_OUT_OF_RANGE. For Friday and 2000-02-29: 2000-03-03 and 2000-02-25. */
 fots_date_result fots_date_on_or_after(fots_date date, uint32_t weekday);
 fots_date_result fots_date_on_or_before(fots_date date, uint32_t weekday);
+
+/* ---- ranges of days */
+
+/* Return 1 if the date is in the range, or if a day is in both ranges, else 0. FOTS_INVALID_RANGE.
+ * From 2024-03-01 to 2024-04-01: 2024-03-31 is in the range, and 2024-04-01 isn't. */
+fots_component_result fots_date_range_contains(fots_date_range range, fots_date date);
+fots_component_result fots_date_range_overlaps(fots_date_range range, fots_date_range other);
+
+/* Returns the number of days. FOTS_INVALID_RANGE. From 2024-03-01 to 2024-04-01: 31. */
+fots_component_result fots_date_range_length(fots_date_range range);
+
+/* Returns the days that are in both ranges. FOTS_INVALID_RANGE, and FOTS_RESULT_OUT_OF_RANGE if
+ * there are none. */
+fots_date_range_result fots_date_range_intersection(fots_date_range range, fots_date_range other);
+
+/* Returns how many days of the range are in the other one, and how many days it has, for a price by
+ * the day. FOTS_INVALID_RANGE. From 2024-03-01 to 2024-04-01, from 2024-03-22 to 2024-05-01: 10,
+ * 31. */
+fots_share_result fots_date_range_share(fots_date_range range, fots_date_range other);
 
 /* ---- working days
  *

@@ -635,6 +635,42 @@ private:
     fots_date value_;
 };
 
+// The days from a date up to another, which isn't in the range. There may be none.
+class DateRange {
+public:
+    // Creates a range, or throws FOTS_INVALID_RANGE if the end is before the start.
+    DateRange(Date start, Date end) : value_{start.c(), end.c()} { detail::value_or_throw(fots_date_range_length(value_)); }
+
+    Date start() const noexcept { return Date(value_.start, {}); }
+    Date end() const noexcept { return Date(value_.end, {}); }
+    std::uint32_t length() const { return detail::value_or_throw(fots_date_range_length(value_)).number; }
+    bool contains(Date date) const { return detail::value_or_throw(fots_date_range_contains(value_, date.c())).number == 1; }
+    // Returns whether a day is in both ranges.
+    bool overlaps(DateRange other) const { return detail::value_or_throw(fots_date_range_overlaps(value_, other.value_)).number == 1; }
+    // Returns the days that are in both ranges, if there are any.
+    std::optional<DateRange> intersection(DateRange other) const
+    {
+        const fots_date_range_result found = fots_date_range_intersection(value_, other.value_);
+        return detail::is_in_range(found) ? std::optional<DateRange>(DateRange(found.range)) : std::nullopt;
+    }
+    // Returns how many days of the range are in the other one, and how many days it has.
+    std::tuple<std::uint32_t, std::uint32_t> share(DateRange other) const
+    {
+        const fots_share_result found = detail::value_or_throw(fots_date_range_share(value_, other.value_));
+        return {found.common, found.days};
+    }
+
+    fots_date_range c() const noexcept { return value_; }
+
+    friend bool operator==(DateRange one, DateRange other) { return one.start() == other.start() && one.end() == other.end(); }
+    friend bool operator!=(DateRange one, DateRange other) { return !(one == other); }
+
+private:
+    explicit DateRange(fots_date_range value) noexcept : value_(value) {}
+
+    fots_date_range value_;
+};
+
 inline std::string to_string(Date date) { return date.calendar_text(); }
 inline std::ostream &operator<<(std::ostream &out, Date date) { return out << date.calendar_text(); }
 

@@ -82,6 +82,12 @@ static fots_duration any_fots_duration(void)
 }
 
 /* Mostly parts of one sign, and no duration in half of the draws. */
+static fots_date_range any_fots_date_range(void)
+{
+    const fots_date start = any_fots_date();
+    return (fots_date_range){start, {one_of(2) ? start.julian_day + number(0, 400) : any_fots_date().julian_day}};
+}
+
 static fots_period any_fots_period(void)
 {
     fots_period period;

@@ -73,6 +73,32 @@ static void months(void)
     check(fots_date_step_of(last, none, last).status == FOTS_RESULT_OUT_OF_RANGE, "the step of an empty period", 0, 0);
 }
 
+/* March 2024, the days from 22 March to 1 May, the end of March, and the leap day in its year. */
+static void ranges(void)
+{
+    const fots_date_range march = {day(2024, 3, 1), day(2024, 4, 1)}, later = {day(2024, 3, 22), day(2024, 5, 1)};
+    const fots_date_range empty = {day(2024, 4, 1), day(2024, 4, 1)}, inside = {day(2024, 3, 9), day(2024, 3, 9)}, backward = {march.end, march.start};
+    const fots_date_range year = {day(2024, 1, 1), day(2025, 1, 1)}, leap = {day(2024, 2, 29), day(2024, 3, 1)};
+    const struct {
+        fots_date_range range, other;
+        uint32_t overlaps, common, days;
+    } rows[] = {{march, later, 1, 10, 31}, {later, march, 1, 10, 40}, {march, empty, 0, 0, 31}, {empty, march, 0, 0, 0}, {march, inside, 0, 0, 31},
+        {leap, march, 0, 0, 1}, {year, leap, 1, 1, 366}, {year, year, 1, 366, 366}};
+    for (size_t row = 0; row < sizeof rows / sizeof rows[0]; row++) {
+        const fots_share_result share = fots_date_range_share(rows[row].range, rows[row].other);
+        check(share.status == FOTS_OK && share.common == rows[row].common && share.days == rows[row].days, "a share", (int32_t)row, (int32_t)share.common);
+        check(fots_date_range_length(rows[row].range).number == rows[row].days, "the days of a range", (int32_t)row, 0);
+        check(fots_date_range_overlaps(rows[row].range, rows[row].other).number == rows[row].overlaps, "a common day", (int32_t)row, 0);
+        const fots_date_range_result both = fots_date_range_intersection(rows[row].range, rows[row].other);
+        check(both.status == (rows[row].overlaps ? FOTS_OK : FOTS_RESULT_OUT_OF_RANGE), "the common days", (int32_t)row, both.status);
+    }
+    const fots_date_range both = fots_date_range_intersection(march, later).range;
+    check(both.start.julian_day == later.start.julian_day && both.end.julian_day == march.end.julian_day, "from 22 to 31 March", 0, 0);
+    check(fots_date_range_contains(march, day(2024, 3, 1)).number == 1 && fots_date_range_contains(march, day(2024, 3, 31)).number == 1, "in March", 0, 0);
+    check(fots_date_range_contains(march, day(2024, 2, 29)).number == 0 && fots_date_range_contains(march, march.end).number == 0, "not in March", 0, 0);
+    check(fots_date_range_length(backward).status == FOTS_INVALID_RANGE, "an end before the start", 0, 0);
+}
+
 static void ends(void)
 {
     const fots_date leap = day(2024, 2, 29);
@@ -990,6 +1016,7 @@ static void invalid_dates(void)
 int main(void)
 {
     months();
+    ranges();
     ends();
     day_counts();
     workdays();

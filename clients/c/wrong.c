@@ -235,6 +235,17 @@ static void months(int32_t julian_day, uint32_t number, int32_t count)
     fots_period step = {0, 1, 0, count < 0 ? -1 : 0, {0, 0}};
     int32_t no_period = first_of(wrong, count < 0 ? FOTS_INVALID_PERIOD : FOTS_OK);
     NUMBER(first_of(no_period, of_date(other)), fots_date_step_of(date, step, other), julian_day);
+    fots_date_range range = {date, other};
+    int32_t no_range = with_other != FOTS_OK || julian_day > other.julian_day ? FOTS_INVALID_RANGE : FOTS_OK;
+    COMPONENT(no_range, fots_date_range_length(range), julian_day);
+    COMPONENT(first_of(no_range, of_date(date_at(count))), fots_date_range_contains(range, date_at(count)), julian_day);
+    COMPONENT(no_range, fots_date_range_overlaps(range, range), julian_day);
+    fots_share_result share = fots_date_range_share(range, range);
+    status_is(no_range, share.status, share.status == FOTS_OK && share.common == share.days, "share", julian_day, count);
+    check(share.status == FOTS_OK || (share.common == 0 && share.days == 0), "no share", julian_day, count);
+    int32_t no_days = first_of(no_range, julian_day == other.julian_day ? FOTS_RESULT_OUT_OF_RANGE : FOTS_OK);
+    fots_date_range_result both = fots_date_range_intersection(range, range);
+    status_is(no_days, both.status, both.range.start.julian_day != FOTS_NO_VALUE, "intersection", julian_day, count);
     NUMBER(with_other, fots_date_months_until(date, other), julian_day);
     NUMBER(with_other, fots_date_years_until(date, other), julian_day);
     DATE(wrong, fots_date_add_months(date, count));

@@ -183,6 +183,12 @@ void schedule()
         && end.period_until_by(Date::parse("2025-03-02"), CalendarUnit::Week) == Period(0, 0, 56, 4), "a period by a unit");
     check(end.step_of(Period::from_months(1), leap) == 1 && end.step_of(Period::from_months(1), born) == std::nullopt
         && end.step_of(Period::from_days(0), leap) == std::nullopt, "the step of a date");
+    const DateRange march(Date::parse("2024-03-01"), Date::parse("2024-04-01")), later(Date::parse("2024-03-22"), Date::parse("2024-05-01"));
+    check(march.share(later) == std::tuple(10u, 31u) && march.length() == 31 && march.contains(march.start()) && !march.contains(march.end()), "a share");
+    check(march.overlaps(later) && march.intersection(later) == DateRange(later.start(), march.end()), "common days");
+    const DateRange touching(leap, march.start());
+    check(!march.overlaps(touching) && march.intersection(touching) == std::nullopt && touching != march, "no common days");
+    throws([&] { DateRange(march.end(), march.start()); }, FOTS_INVALID_RANGE, "invalid range", "an end before the start");
     check(leap.first_of_month() == Date::parse("2024-02-01") && leap.last_of_month() == leap, "the ends of the month");
     check(leap.first_of_quarter() == Date::parse("2024-01-01") && leap.last_of_quarter() == Date::parse("2024-03-31")
         && leap.quarter() == 1, "the quarter");

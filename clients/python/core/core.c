@@ -275,6 +275,9 @@ OF(iso_week_date, iso_week_date, Py_BuildValue("iIO", (int)result.year, (unsigne
     state->weekdays[result.weekday - 1]))
 OF(period, period, new_period(state, (fots_period){result.years, result.months, result.weeks,
     result.days, {0, 0}}))
+OF(date_range, date_range, Py_BuildValue("NN", new_date(state, result.range.start),
+    new_date(state, result.range.end)))
+OF(share, share, Py_BuildValue("II", (unsigned)result.common, (unsigned)result.days))
 OF(checked_period, checked_period, new_period(state, result.period))
 OF(year_fraction, year_fraction, PyObject_CallFunction(state->year_fraction, "LI",
     (long long)result.numerator, (unsigned)result.denominator))

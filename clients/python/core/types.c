@@ -83,6 +83,38 @@ static int32_t period_weeks(fots_period period) { return period.weeks; }
 static int32_t period_days(fots_period period) { return period.days; }
 static fots_duration period_duration(fots_period period) { return period.duration; }
 
+/* ---- ranges of days */
+
+static fots_component_result core_date_range_contains(fots_date start, fots_date end,
+    fots_date date)
+{
+    return fots_date_range_contains((fots_date_range){start, end}, date);
+}
+
+static fots_component_result core_date_range_length(fots_date start, fots_date end)
+{
+    return fots_date_range_length((fots_date_range){start, end});
+}
+
+static fots_component_result core_date_range_overlaps(fots_date start, fots_date end,
+    fots_date first, fots_date last)
+{
+    return fots_date_range_overlaps((fots_date_range){start, end}, (fots_date_range){first, last});
+}
+
+static fots_date_range_result core_date_range_intersection(fots_date start, fots_date end,
+    fots_date first, fots_date last)
+{
+    return fots_date_range_intersection((fots_date_range){start, end},
+        (fots_date_range){first, last});
+}
+
+static fots_share_result core_date_range_share(fots_date start, fots_date end,
+    fots_date first, fots_date last)
+{
+    return fots_date_range_share((fots_date_range){start, end}, (fots_date_range){first, last});
+}
+
 /* ---- date-times */
 
 static const fots_offset utc = {0};

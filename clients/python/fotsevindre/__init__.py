@@ -30,14 +30,14 @@ _core.setup(timedelta, _core.is_delta(timedelta(-1, 2, 3)), Weekday, _choices.Ca
 from . import calls as _calls, members as _members
 from .calls import *
 from .formats import Format
-from .schedules import Days, Recurrence, Rule, Workdays
+from .schedules import DateRange, Days, Recurrence, Rule, Workdays
 from .zones import Local, Zone, ZonedDateTime
 
 __version__ = "0.1.0"
 
 __all__ = [
-    "ComponentRange", "ContradictionError", "Days", "Format", "FormatError", "Local", "Month",
-    "ParseError", "ParseRuleError", "ParseRuleErrorKind", "Recurrence", "Rule", "Weekday",
+    "ComponentRange", "ContradictionError", "DateRange", "Days", "Format", "FormatError", "Local",
+    "Month", "ParseError", "ParseRuleError", "ParseRuleErrorKind", "Recurrence", "Rule", "Weekday",
     "Workdays", "YearFraction", "Zone", "ZonedDateTime", "ZoneError", "status_error",
 ]
 # A checker of types reads literals only; a test compares these names with calls.__all__.

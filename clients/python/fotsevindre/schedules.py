@@ -1,4 +1,4 @@
-"""Days that follow each other, working days and recurrences."""
+"""Days that follow each other, ranges of days, working days and recurrences."""
 
 from __future__ import annotations
 
@@ -9,7 +9,7 @@ import itertools
 import operator
 import re
 import struct
-from collections.abc import Callable, Iterable, Iterator, Sequence
+from collections.abc import Callable, Collection, Iterable, Iterator, Sequence
 from typing import Any, SupportsIndex, TypeGuard, overload
 
 from . import _core
@@ -85,6 +85,50 @@ class Days(Sequence[Date]):
 
     def __repr__(self) -> str:
         return f"{self[0]} to {self[-1]}" if len(self) else "no days"
+
+
+@dataclasses.dataclass(frozen=True, slots=True)
+class DateRange(Collection[Date]):
+    """The days from a date up to another, which isn't in the range. There may be none. An end
+    before the start raises `ValueError`.
+
+    >>> march = DateRange(Date(2024, 3, 1), Date(2024, 4, 1))
+    >>> len(march), Date(2024, 4, 1) in march, march.share(DateRange(Date(2024, 3, 22), march.end))
+    (31, False, (10, 31))
+    """
+
+    start: Date
+    end: Date
+
+    def __post_init__(self) -> None:
+        _core.date_range_length(check(self.start, Date), check(self.end, Date))
+
+    def __len__(self) -> int:
+        return _core.date_range_length(self.start, self.end)
+
+    def __iter__(self) -> Iterator[Date]:
+        julian_days = range(self.start.to_julian_day(), self.end.to_julian_day())
+        return map(Date.from_julian_day, julian_days)
+
+    def __contains__(self, date: object) -> bool:
+        return _is_date(date) and _core.date_range_contains(self.start, self.end, date)
+
+    def overlaps(self, other: DateRange) -> bool:
+        """Returns whether a day is in both ranges."""
+        return _core.date_range_overlaps(self.start, self.end, *_ends(other))
+
+    def intersection(self, other: DateRange) -> DateRange | None:
+        """Returns the days that are in both ranges, or None if there are none."""
+        ends = _core.date_range_intersection(self.start, self.end, *_ends(other))
+        return None if ends is None else DateRange(*ends)
+
+    def share(self, other: DateRange) -> tuple[int, int]:
+        """Returns how many days of the range are in the other one, and how many days it has."""
+        return _core.date_range_share(self.start, self.end, *_ends(other))
+
+
+def _ends(range_of_days: DateRange) -> tuple[Date, Date]:
+    return check(range_of_days, DateRange).start, range_of_days.end
 
 
 class Workdays(_core.Workdays):

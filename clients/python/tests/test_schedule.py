@@ -17,7 +17,7 @@ except ImportError:
     relativedelta = rrule = None
 
 from fotsevindre import (
-    CalendarUnit, ComponentRange, Convention, Date, DayCount, Frequency, Month, OffsetDateTime, ParseRuleError, ParseRuleErrorKind, Period, PlainDateTime, Recurrence,
+    CalendarUnit, ComponentRange, Convention, Date, DateRange, DayCount, Frequency, Month, OffsetDateTime, ParseRuleError, ParseRuleErrorKind, Period, PlainDateTime, Recurrence,
     Rule, SignedDuration, Time, Weekday, Workdays, Zone)
 
 
@@ -106,6 +106,25 @@ class Months(unittest.TestCase):
         self.assertEqual(Date.MIN.period_until_by(Date.MAX, CalendarUnit.Day), Period(days=(Date.MAX - Date.MIN).days))
         for call in (lambda: day(2024, 1, 1).period_until_by(day(2024, 1, 2), 1), lambda: day(2024, 1, 1).period_until_by(1, CalendarUnit.Day),
                 lambda: day(2024, 1, 1).period_until_by(day(2024, 1, 2), Frequency.Monthly)):
+            self.assertRaises(TypeError, call)
+
+    def test_ranges(self):
+        march, later = DateRange(day(2024, 3, 1), day(2024, 4, 1)), DateRange(day(2024, 3, 22), day(2024, 5, 1))
+        empty, year, leap = (DateRange(day(2024, 3, 9), day(2024, 3, 9)), DateRange(day(2024, 1, 1), day(2025, 1, 1)),
+            DateRange(day(2024, 2, 29), day(2024, 3, 1)))
+        for one, other, share in (
+            (march, later, (10, 31)), (later, march, (10, 40)), (march, empty, (0, 31)), (empty, march, (0, 0)), (leap, march, (0, 1)), (year, leap, (1, 366)),
+            (year, year, (366, 366)),
+        ):
+            both = set(one) & set(other)
+            self.assertEqual((one.share(other), one.share(other)[0], len(one)), (share, len(both), share[1]))
+            self.assertEqual((one.overlaps(other), set(one.intersection(other) or ())), (bool(both), both))
+            self.assertEqual({date for date in year if date in one}, set(one) & set(year))
+        self.assertEqual((march.intersection(later), march.intersection(leap)), (DateRange(later.start, march.end), None))
+        self.assertEqual((pickle.loads(pickle.dumps(march)), copy.copy(march)), (march, march))
+        self.assertEqual((len(DateRange(Date.MIN, Date.MAX)), list(DateRange(Date.MIN, Date.MIN))), ((Date.MAX - Date.MIN).whole_days(), []))
+        self.assertRaises(ValueError, DateRange, march.end, march.start)
+        for call in (lambda: DateRange(march.start, 1), lambda: march.share(1), lambda: march.overlaps(march.start), lambda: datetime.date(2024, 3, 1) in march):
             self.assertRaises(TypeError, call)
 
     def test_steps(self):

@@ -52,6 +52,9 @@ starts: Tuple[ZonedDateTime, SignedDuration, datetime.datetime] = (zone.start_of
 moved: Tuple[Date, PlainDateTime, Optional[Date], Date] = (
     day + Period(months=1), local + Period(duration=no_time), day.checked_add_period(Period(days=-1)), day.nth_period(Period(weeks=2), 3))
 period: Period = day.period_until(last)
+span: DateRange = DateRange(day, last)
+of_days: Tuple[bool, int, List[Date], Optional[DateRange], Tuple[int, int], bool] = (
+    day in span, len(span), list(span), span.intersection(span), span.share(span), span.overlaps(span))
 of_period: Tuple[int, SignedDuration] = (period.years + period.months + period.weeks + period.days, period.duration)
 weekly: Recurrence = Recurrence.from_parts(Frequency.Weekly, bymonth=Month.June, byweekday=[Weekday.Monday], wkst=Weekday.Sunday, until=moment)
 last_of_zone: Optional[OffsetDateTime] = weekly.until_moment
@@ -100,6 +103,7 @@ in_zone + 1  # refused
 in_zone < moment  # refused
 Period(days="1")  # refused
 Period(1)  # refused
+span.share(day)  # refused
 period < period  # refused
 ZonedDateTime(local, zone)  # refused
 ZonedDateTime.from_local(local, "Europe/Berlin")  # refused

@@ -1,5 +1,6 @@
 pub mod Counts
 pub mod Needs
+pub mod DateRanges
 pub mod Days
 pub mod Durations
 pub mod Rows

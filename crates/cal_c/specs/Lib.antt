@@ -19,6 +19,7 @@ pub mod Zoned
 pub mod Formats
 pub mod FormatTexts
 pub mod FormatParsing
+pub mod DateRanges
 pub mod FormatColumns
 pub mod OnePass
 pub mod TextSets

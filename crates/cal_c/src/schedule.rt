@@ -1,6 +1,8 @@
-//! Months and years, ends of periods, weekdays of months, day counts, working days, recurrences.
+//! Months and years, ends of periods, ranges of days, weekdays of months, day counts, working days,
+//! recurrences.
 
 mod date_list;
+mod date_ranges;
 mod months;
 mod period_ends;
 pub mod periods;

@@ -205,6 +205,9 @@ pub const WRONG_OFFSET: i32 = 70;
 /// The number is not a unit of the calendar.
 pub const INVALID_UNIT: i32 = 71;
 
+/// A date of the range is invalid, or its end is before its start.
+pub const INVALID_RANGE: i32 = 72;
+
 /// Returns the status of an error, by its component.
 pub fn error_status(error: ComponentRange) -> i32
     ensures { result ≡ component_status error.component }
