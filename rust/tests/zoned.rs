@@ -112,7 +112,8 @@ fn periods_between_local_date_times() {
     }
 }
 
-/// The documentation of `until` of Temporal, for `PlainDate` and `PlainDateTime`.
+/// `until` of Temporal, for `PlainDate` and `PlainDateTime`. The rows were written from memory of its
+/// documentation, and not compared with a run.
 #[test]
 fn periods_of_the_documentation() {
     let (from, to) = (reading("1995-12-07 3:24:30.0000035"), reading("2019-01-31 15:30:00"));
