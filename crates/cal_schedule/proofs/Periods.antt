@@ -1,9 +1,11 @@
 -- Days moved by periods.
-use Rattle.std.proofs.Common.{◌≡◌, ℕ, ◌≤◌, ◌<◌, sym, ◌∙◌, subst, arith, inl, inr, w32, FitsSigned}
+use Rattle.std.proofs.Common.{◌≡◌, ℕ, ◌≤◌, ◌<◌, sym, ap, ◌∙◌, subst, arith, inl, inr, w32, FitsSigned}
 use Rattle.std.proofs.lemmas.Int.{ints, by_lt_z}
 use Rattle.std.proofs.lemmas.Bool.{cases_lt}
-use Rattle.std.specs.Prelude.{◌≢◌, Bool, true, false, Result, Ok, Err, Option, Some, None, ℤ, pos, negsuc, neg_ℤ, ◌+ℤ◌, ◌*ℤ◌, ◌≤ℤ◌, IfSome}
-use Rattle.cal_time.specs.Date.{last_day, IsDate, julian_day_at}
+use Rattle.std.specs.Prelude.{◌≢◌, Bool, true, false, Result, Ok, Err, Option, Some, None, ℤ, pos, negsuc, neg_ℤ, ◌+ℤ◌, ◌*ℤ◌, ◌≤ℤ◌, IfSome, SomeIff}
+use Rattle.cal_time.specs.SignedDuration.{day, whole_days}
+use Rattle.cal_time.specs.Arithmetic.{clamped_date, IsDateNumber}
+use Rattle.cal_time.specs.Date.{last_day, IsDate}
 use Rattle.cal_schedule.specs.declared.period_error.PeriodError.{PeriodError}
 use Rattle.cal_schedule.specs.Months.{IsMonthsLater}
 use Rattle.cal_schedule.specs.Period.{date_period, days_of, months_of, AgreeInSign, IsDateAfter, IsDaysLater, IsOneSign, Parts}
@@ -34,15 +36,29 @@ months_fit n m months h i later =
     let b = IsMonthNumber-date m i in
     omega (arith, ints, a.not_before, a.not_after, b.not_before, b.not_after, later.month)
 
-pub julian_days : (m r : ℕ) (d s : ℤ) → s ≡ julian_day_at m → pos r ≡ pos m +ℤ d → s +ℤ d ≡ julian_day_at r
-julian_days m r d s e f = omega (arith, ints, e, f)
+-- whole days of a duration of days, added to a day
+whole : (d v : ℤ) → v ≡ d *ℤ pos day → whole_days v ≡ d
+whole d v e = ap whole_days e ∙ back d
+  where
+    back : (d : ℤ) → whole_days (d *ℤ pos day) ≡ d
+    back (pos a) = omega (arith, ints)
+    back (negsuc a) = omega (arith, ints)
 
-pub days_back : (m r : ℕ) (d s : ℤ) → s ≡ julian_day_at m → s +ℤ d ≡ julian_day_at r → pos r ≡ pos m +ℤ d
-days_back m r d s e f = omega (arith, ints, e, f)
+pub days_found : (r : Option ℕ) (n : ℕ) (d v : ℤ) → v ≡ d *ℤ pos day → SomeIff r (IsDateNumber (pos n +ℤ whole_days v)) (clamped_date (pos n +ℤ whole_days v))
+    → IfSome r (λ (k : ℕ). pos k ≡ pos n +ℤ whole_days v) → IfSome r (λ (k : ℕ). IsDate k × (pos k ≡ pos n +ℤ d))
+days_found None n d v e h f = tt
+days_found (Some k) n d v e h f =
+    let inside = h.0.not_after in
+    (omega (arith, ints, f, inside), f ∙ ap (λ (x : ℤ). pos n +ℤ x) (whole d v e))
 
-pub found_day : (r : Option ℕ) (n : ℕ) (d j t : ℤ) → j ≡ julian_day_at n → t ≡ j +ℤ d → IfSome r (λ (k : ℕ). IsDate k × (t ≡ julian_day_at k)) → IfSome r (λ (k : ℕ). IsDate k × (pos k ≡ pos n +ℤ d))
-found_day None n d j t e f h = tt
-found_day (Some k) n d j t e f h = (h.0, days_back n k d j e (sym f ∙ h.1))
+pub every_day : (r : Option ℕ) (n m : ℕ) (d v : ℤ) → v ≡ d *ℤ pos day → SomeIff r (IsDateNumber (pos n +ℤ whole_days v)) (clamped_date (pos n +ℤ whole_days v))
+    → IfSome r (λ (k : ℕ). pos k ≡ pos n +ℤ whole_days v) → IsDate m → pos m ≡ pos n +ℤ d → r ≡ Some m
+every_day None n m d v e h f inside is =
+    let w = whole d v e in
+    absurd (h (record { not_before = omega (arith, ints, w, is); not_after = omega (arith, ints, w, is, inside) }))
+every_day (Some k) n m d v e h f inside is =
+    let w = whole d v e in
+    ap (λ (x : ℕ). Some x) (omega (arith, ints, w, f, is))
 
 -- the day between is in the range, since months and days have one sign
 pub middle_in_range : (n r m : ℕ) (months days : ℤ) → AgreeInSign months days → IsDate n → IsDate r → IsMonthsLater n months m → pos r ≡ pos m +ℤ days → IsDate m

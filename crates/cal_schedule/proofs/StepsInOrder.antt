@@ -1,11 +1,11 @@
 -- The steps of a period are in order.
-use Rattle.std.proofs.Common.{◌≡◌, ℕ, ◌+◌, ◌*◌, ◌^◌, ◌<◌, ◌≤◌, refl, sym, subst, arith, inl, inr, ℤ, pos, negsuc, ◌+ℤ◌, ◌-ℤ◌, ◌*ℤ◌, ◌≤ℤ◌, ◌<ℤ◌, unsigned_abs}
+use Rattle.std.proofs.Common.{◌≡◌, ℕ, ◌≤◌, refl, sym, subst, arith, inl, inr, ℤ, pos, negsuc, ◌+ℤ◌, ◌*ℤ◌, ◌≤ℤ◌, ◌<ℤ◌, unsigned_abs}
 use Rattle.std.proofs.Math.Nat.{mul-le-mul_left}
-use Rattle.std.specs.Prelude.{Option, Some, None, IfSome}
+use Rattle.std.specs.Prelude.{Option, None}
 use Rattle.std.proofs.lemmas.Int.{ints, by_lt_z}
-use Rattle.cal_time.specs.Date.{last_day, IsDate}
-use Rattle.cal_schedule.specs.Months.{month_number_at, IsMonthNumber, IsMonthsLater}
-use Rattle.cal_schedule.specs.Period.{AgreeInSign, IsDaysLater, IsOneSign, Parts, days_of, months_of}
+use Rattle.cal_time.specs.Date.{IsDate}
+use Rattle.cal_schedule.specs.Months.{IsMonthsLater}
+use Rattle.cal_schedule.specs.Period.{IsDaysLater, IsOneSign, Parts, days_of, months_of}
 use Rattle.cal_schedule.specs.Steps.{IsGreatestStep, IsNextStep, IsPositive, IsStepUpTo, Series, YieldsStep}
 use Rattle.cal_schedule.proofs.MonthMoves.{IsMonthNumber-date}
 use Rattle.cal_schedule.proofs.Periods.{one_days_later, parts_agree}
@@ -93,6 +93,13 @@ found_step start t p n day date later step =
     let same = one_days_later start day step.day _ _ later step.later in
     let in_time = step.in_time in
     omega (arith, same, in_time)
+
+-- ---- the last step isn't after the day
+pub in_time : (start t : ℕ) (p : Parts) (n : ℤ) → IsGreatestStep start t p n → (r : ℕ) → IsDaysLater start (n *ℤ months_of p) (n *ℤ days_of p) r → r ≤ t
+in_time start t p n h r later =
+    let same = one_days_later start r h.holds.day _ _ later h.holds.later in
+    let within = h.holds.in_time in
+    omega (arith, same, within)
 
 -- ---- a period with a positive part is positive
 pub is_positive : (p : Parts) → IsOneSign p → (pos 0 <ℤ months_of p → IsPositive p) × (pos 0 <ℤ days_of p → IsPositive p)

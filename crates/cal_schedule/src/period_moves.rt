@@ -1,14 +1,14 @@
 //! Dates moved by periods.
-ghost use Rattle.std.specs.Prelude.{◌≡◌, ◌⊎◌, ◌<◌, ◌^◌, ℕ, pos, ◌+ℤ◌, ◌*ℤ◌, ◌≤ℤ◌, Some, IfSome, SomeIff, FitsSigned, unsigned_abs};
+ghost use Rattle.std.specs.Prelude.{◌≡◌, ◌⊎◌, ℕ, pos, ◌+ℤ◌, ◌*ℤ◌, ◌≤ℤ◌, Some, IfSome, SomeIff, FitsSigned};
 ghost use Rattle.std.specs.Int.{w32};
-ghost use Rattle.cal_time.specs.Date.{IsDate, julian_day_at};
+ghost use Rattle.cal_time.specs.Date.{IsDate};
 ghost use Rattle.cal_schedule.specs.Months.{IsMonthsLater};
 ghost use Rattle.cal_schedule.specs.Period.{days_of, months_of, IsDateAfter, IsDaysLater, AgreeInSign};
 
 use crate::months::checked_add_months;
 use crate::period::Period;
 use crate::period_error::PeriodError;
-use cal_time::Date;
+use cal_time::{Date, SignedDuration};
 
 /// Adds the years and the months of a period at once, and then its weeks and days. The day of the
 /// month stays, or becomes the last day of a shorter month. A month and a day after 31 January 2024
@@ -65,15 +65,13 @@ pub fn nth_date(start: Date, period: Period, n: i32) -> Option<Date>
 /// Returns the product of two numbers.
 fn product(a: i32, b: i64) -> i128
     ensures value { result ≡ a *ℤ b }
-    ensures range { unsigned_abs result < 2 ^ 100 }
 {
     i128::from(a) * i128::from(b)
 }
 
 /// Returns the date some months and then some days after a date, of one sign.
 pub(crate) fn moved(date: Date, months: i128, days: i128) -> Option<Date>
-    requires sign { AgreeInSign months days }
-    requires range { unsigned_abs days < 2 ^ 100 }
+    requires { AgreeInSign months days }
     ensures every { (r : ℕ) → IsDate r → IsDaysLater date months days r → result ≡ Some r }
     ensures value { IfSome result (λ r. IsDate r × IsDaysLater date months days r) }
 {
@@ -97,33 +95,28 @@ fn months_after(date: Date, months: i128) -> Option<Date>
     ensures in_range { IsDate date }
 {
     let _ = date.to_julian_day();
+    if months == 0 {
+        return Some(date);
+    }
     checked_add_months(date, narrow(months)?)
-}
-
-/// Returns the Julian day of a date.
-fn julian_day(date: Date) -> i128
-    ensures value { result ≡ julian_day_at date }
-    ensures range { unsigned_abs result < 400_000_000 }
-{
-    i128::from(date.to_julian_day())
 }
 
 /// Adds days to a date.
 fn day_after(date: Date, days: i128) -> Option<Date>
-    requires { unsigned_abs days < 2 ^ 100 }
     ensures every { (r : ℕ) → IsDate r → pos r ≡ pos date +ℤ days → result ≡ Some r }
     ensures value { IfSome result (λ r. IsDate r × (pos r ≡ pos date +ℤ days)) }
 {
-    date_of_julian_day(julian_day(date) + days)
+    let _ = date.to_julian_day();
+    if days == 0 {
+        return Some(date);
+    }
+    days_later(date, narrow(days)?)
 }
 
-/// Returns the date of a Julian day, or `None` if it is out of range.
-fn date_of_julian_day(julian_day: i128) -> Option<Date>
-    ensures every { (n : ℕ) → IsDate n → julian_day ≡ julian_day_at n → result ≡ Some n }
-    ensures value { IfSome result (λ n. IsDate n × (julian_day ≡ julian_day_at n)) }
+/// Adds days to a date, or subtracts them if the number is negative.
+fn days_later(date: Date, days: i32) -> Option<Date>
+    ensures every { (r : ℕ) → IsDate r → pos r ≡ pos date +ℤ days → result ≡ Some r }
+    ensures value { IfSome result (λ r. IsDate r × (pos r ≡ pos date +ℤ days)) }
 {
-    match Date::from_julian_day(narrow(julian_day)?) {
-        Ok(date) => Some(date),
-        Err(_) => None,
-    }
+    date.checked_add(SignedDuration::days(i64::from(days)))
 }

@@ -1,7 +1,8 @@
 //! Steps of a period from a start, and the step that a date is in.
-ghost use Rattle.std.specs.Prelude.{◌≡◌, ◌↔◌, ℕ, ◌-◌, ◌<◌, ◌≤◌, ◌^◌, pos, Some, IfSome, IsSome, IsTrue, SomeIff};
+ghost use Rattle.std.specs.Prelude.{◌≡◌, ◌↔◌, ℕ, ◌-◌, ◌<◌, ◌≤◌, ◌^◌, pos, ◌*ℤ◌, Some, IfSome, IsSome, IsTrue, SomeIff};
 ghost use Rattle.std.specs.Iterator.{at_most};
 ghost use Rattle.cal_time.specs.Date.{IsDate};
+ghost use Rattle.cal_schedule.specs.Period.{days_of, months_of, IsDaysLater};
 ghost use Rattle.cal_schedule.specs.Steps.{series, IsGreatestStep, IsNextStep, IsPositive, IsRepeated, IsStepUpTo, YieldsStep};
 
 use crate::period::Period;
@@ -17,6 +18,8 @@ use std::marker::Model;
 /// positive.
 pub fn step_of(start: Date, period: Period, date: Date) -> Option<i32>
     ensures value { IfSome result (IsGreatestStep start date period) }
+    ensures in_time { IfSome result (λ n. (r : ℕ)
+        → IsDaysLater start (n *ℤ months_of period) (n *ℤ days_of period) r → r ≤ date) }
     ensures some { IsSome result ↔ (start ≤ date × IsRepeated period) }
 {
     if date < start {

@@ -9,7 +9,7 @@ use Rattle.cal_schedule.proofs.period_moves.moved.Goals as goal
 pub returns-in_err-months_after-clause-every : goal.returns-in_err-months_after-clause-every
 returns-in_err-months_after-clause-every c r h later =
     let fits : FitsSigned w128 c.args.months = search rules in
-    let inside = middle_in_range c.args.date r later.middle c.args.months c.args.days c.requires.sign c.months_after.ensures.in_range h later.months_later later.days_later in
+    let inside = middle_in_range c.args.date r later.middle c.args.months c.args.days c.requires c.months_after.ensures.in_range h later.months_later later.days_later in
     absurd (no_value _ ((simp to_z-of_z at c.in_err-months_after.ensures.every) later.middle inside later.months_later))
 
 pub returns-clause-every : goal.returns-clause-every

@@ -7,8 +7,8 @@ use Rattle.cal_schedule.specs.Period.{AgreeInSign, IsDaysLater, days_of, months_
 use Rattle.cal_schedule.proofs.Periods.{multiples_agree}
 use Rattle.cal_schedule.proofs.period_moves.nth_date.Goals as goal
 
-pub moved-requires-clause-sign : goal.moved-requires-clause-sign
-moved-requires-clause-sign c =
+pub moved-requires : goal.moved-requires
+moved-requires c =
     let n = c.ranges.n in
     let a : FitsSigned w64 c.whole_months.result = search rules in
     let b : FitsSigned w64 c.whole_days.result = search rules in

@@ -1,4 +1,4 @@
-use Rattle.std.proofs.Common.{arith, ◌∙◌, sym, refl}
+use Rattle.std.proofs.Common.{arith, ◌∙◌, sym}
 use Rattle.std.proofs.lemmas.Int.{ints}
 use Rattle.cal_schedule.proofs.Periods.{false_true}
 use Rattle.cal_schedule.proofs.StepsInOrder.{first_step, last_one, no_step}

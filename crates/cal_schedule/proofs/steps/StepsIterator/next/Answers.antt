@@ -1,6 +1,6 @@
 use Rattle.std.proofs.Common.{◌+◌, refl, subst}
 use Rattle.cal_time.specs.Date.{IsDate}
-use Rattle.std.specs.Prelude.{◌≡◌, Some}
+use Rattle.std.specs.Prelude.{Some}
 use Rattle.cal_schedule.specs.Steps.{series, IsNextStep, Series, YieldsStep}
 use Rattle.cal_schedule.proofs.Periods.{no_value}
 use Rattle.cal_schedule.proofs.StepsInOrder.{no_next, past_end}
