@@ -23,8 +23,9 @@ from .zones import Zone
 # An int. One that doesn't fit the parameter in C becomes the nearest number, or one that the call
 # rejects by its name. One that must fit raises OverflowError.
 {Int,Fits} = SupportsIndex
-# The tuples that to_rule and to_zone in C take.
-{_Rule,_Zone} = tuple[Any, ...]
+# The tuple that to_rule in C takes, and the capsule that to_zone takes.
+_Rule = tuple[Any, ...]
+_Zone = Any
 
 class _Value:
     def __{lt,le,gt,ge}__(self, other: Self) -> bool: ...

@@ -1,41 +1,53 @@
 /* Time zones, for the file zones.py. */
 
-/* Takes the bytes of a zone, and whether they are a POSIX text. Returns the bytes of its parts. */
-static PyObject *core_zone_parts(PyObject *self, PyObject *const *given, Py_ssize_t count)
+static const char zone_name[] = "fotsevindre.zone";
+
+static void zone_free(PyObject *capsule) { PyMem_Free(PyCapsule_GetPointer(capsule, zone_name)); }
+
+/* Takes the bytes of a zone, and whether they are a POSIX text. Returns a capsule with the zone,
+ * which has its bytes after it. */
+static PyObject *core_zone_new(PyObject *self, PyObject *const *given, Py_ssize_t count)
 {
     char *bytes;
     Py_ssize_t length;
-    if (!is_count("zone_parts", count, 2) || PyBytes_AsStringAndSize(given[0], &bytes, &length)) {
+    if (!is_count("zone_new", count, 2) || PyBytes_AsStringAndSize(given[0], &bytes, &length)) {
         return NULL;
     }
+    fots_zone *zone = PyMem_Malloc(sizeof *zone + (size_t)length);
+    if (!zone) {
+        return PyErr_NoMemory();
+    }
+    zone->bytes_length = (size_t)length;
+    zone->bytes = memcpy(zone + 1, bytes, (size_t)length);
     fots_zone_parts_result result = given[1] == Py_True ?
-        fots_zone_posix_parts(bytes, (size_t)length) :
-        fots_zone_file_parts((const uint8_t *)bytes, (size_t)length);
-    return !result.status ? Py_BuildValue("y#", &result.parts, (Py_ssize_t)sizeof result.parts) :
-        raise_position(state_of_module(self), result.status, result.position, 0);
+        fots_zone_posix_parts((const char *)zone->bytes, (size_t)length) :
+        fots_zone_file_parts(zone->bytes, (size_t)length);
+    zone->parts = result.parts;
+    PyObject *made = result.status ?
+        raise_position(state_of_module(self), result.status, result.position, 0) :
+        PyCapsule_New(zone, zone_name, zone_free);
+    if (!made) {
+        PyMem_Free(zone);
+    }
+    return made;
 }
 
-/* Converts a tuple: the bytes of a zone, those of its parts, and for readings a policy. */
-static int to_zone_and_policy(PyObject *tuple, fots_zone *zone, uint32_t *policy)
+/* Converts a capsule with a zone. */
+static int to_zone(const State *Py_UNUSED(state), PyObject *object, fots_zone *zone)
 {
-    const char *parts;
-    Py_ssize_t size;
-    if (!PyArg_ParseTuple(tuple, "y#y#|I", &zone->bytes, &zone->bytes_length, &parts, &size,
-            policy)) {
-        return 0;
+    const fots_zone *found = PyCapsule_GetPointer(object, zone_name);
+    if (found) {
+        *zone = *found;
     }
-    if ((size_t)size != sizeof zone->parts) {
-        PyErr_SetString(PyExc_TypeError, "expected the parts of a zone");
-        return 0;
-    }
-    memcpy(&zone->parts, parts, sizeof zone->parts);
-    return 1;
+    return found != NULL;
 }
 
-static int to_zone(const State *Py_UNUSED(state), PyObject *tuple, fots_zone *zone)
+/* Converts a capsule, or a tuple of one and a policy. */
+static int to_zone_and_policy(PyObject *object, fots_zone *zone, uint32_t *policy)
 {
-    uint32_t policy;
-    return to_zone_and_policy(tuple, zone, &policy);
+    PyObject *capsule = object;
+    return (!PyTuple_Check(object) || PyArg_ParseTuple(object, "OI", &capsule, policy)) &&
+        to_zone(NULL, capsule, zone);
 }
 
 /* The offset, whether this is daylight saving time, and where the abbreviation is in the bytes. */

@@ -5,10 +5,12 @@ from __future__ import annotations
 import contextlib
 import dataclasses
 import datetime
+import functools
 import importlib.resources
 import operator
 import os
 import pathlib
+import re
 import zoneinfo
 from typing import Any, Callable, Generic, SupportsIndex, TypeVar, overload
 
@@ -21,6 +23,11 @@ from .errors import ParseError, ZoneError, check
 from .formats import Format
 
 _P = TypeVar("_P")
+
+# The names of files that the folder of the zones has, and the bytes that a file has at most, as in
+# fotsevindre_zones.h.
+_KEY = re.compile("[A-Za-z][A-Za-z0-9_+/-]*")
+_MAX_BYTES = 65536
 
 
 @dataclasses.dataclass(frozen=True)
@@ -36,7 +43,7 @@ class Local:
     instants: tuple[int, ...]
     offset_before: UtcOffset
     offset_after: UtcOffset
-    _zone: tuple[bytes, bytes] = dataclasses.field(repr=False, compare=False)
+    _zone: Any = dataclasses.field(repr=False, compare=False)
 
     def compatible(self) -> OffsetDateTime:
         """Returns the date-time that RFC 5545 and most calendars mean: in a gap the reading moved
@@ -67,19 +74,27 @@ def _seconds(moment: OffsetDateTime | SupportsIndex) -> int:
     return operator.index(moment)
 
 
+def _read(path: Any) -> bytes | None:
+    """Returns the bytes of a regular file, or `None`. A pipe would wait."""
+    with contextlib.suppress(OSError):
+        if path.is_file():
+            return bytes(path.read_bytes())
+    return None
+
+
 def _file_of(key: str) -> bytes:
     """Returns the bytes of the file of a zone, from the system or the package tzdata."""
-    parts = pathlib.PurePosixPath(key).parts
-    if not key or any(part in ("..", "/") for part in parts):
+    if not _KEY.fullmatch(key):
         raise LookupError(f"invalid name of a time zone: {key!r}")
-    path = pathlib.Path(os.environ.get("TZDIR") or "/usr/share/zoneinfo", *parts)
-    # A name with a zero byte or a lone surrogate is a ValueError. A pipe would wait.
-    with contextlib.suppress(OSError, ValueError):
-        if path.is_file():
-            return path.read_bytes()
-    with contextlib.suppress(ImportError, OSError, ValueError):
-        return importlib.resources.files("tzdata.zoneinfo").joinpath(*parts).read_bytes()
-    raise LookupError(f"no time zone {key!r}")
+    data = _read(pathlib.Path(os.environ.get("TZDIR") or "/usr/share/zoneinfo", key))
+    if data is None:
+        with contextlib.suppress(ImportError):
+            data = _read(importlib.resources.files("tzdata.zoneinfo").joinpath(*key.split("/")))
+    if data is None:
+        raise LookupError(f"no time zone {key!r}")
+    if len(data) > _MAX_BYTES:
+        raise LookupError(f"the file of the time zone {key!r} has more than {_MAX_BYTES} bytes")
+    return data
 
 
 @dataclasses.dataclass(frozen=True, init=False, repr=False)
@@ -87,9 +102,10 @@ class Zone:
     """Zone(key): a time zone of the IANA database, such as `Europe/Berlin`.
 
     Its file comes from the folder in the environment variable TZDIR or from /usr/share/zoneinfo,
-    else from the package `tzdata`, if it is installed. `LookupError` if there is no such file, and
-    `ZoneError` if it isn't valid. An instant is an `OffsetDateTime` or Unix seconds. `key` is
-    the name of the zone, or its POSIX text.
+    else from the package `tzdata`, if it is installed. It is read once: the same key gives the same
+    object until `clear_cache`. `LookupError` if there is no such regular file of at most 65536
+    bytes, and `ZoneError` if it isn't valid. An instant is an `OffsetDateTime` or Unix seconds.
+    `key` is the name of the zone, or its POSIX text.
 
     >>> berlin = Zone.from_posix("CET-1CEST,M3.5.0,M10.5.0/3")
     >>> OffsetDateTime.from_unix_timestamp(1711846800).in_zone(berlin)
@@ -99,30 +115,38 @@ class Zone:
     """
 
     key: str
-    _zone: tuple[bytes, bytes]
+    _data: bytes
     _is_posix: bool
+    _zone: Any = dataclasses.field(compare=False)
 
-    def __init__(self, key: str) -> None:
-        self._set(check(key, str), _file_of(key), False)
+    def __new__(cls, key: str) -> Zone:
+        """Returns the zone of a key, which is read once."""
+        return _named(cls, check(key, str))
 
-    def _set(self, key: str, data: bytes, is_posix: bool) -> Zone:
+    @staticmethod
+    def clear_cache() -> None:
+        """Forgets the zones that were read, so that `Zone(key)` reads their files again."""
+        _named.cache_clear()
+
+    @classmethod
+    def _of(cls, key: str, data: bytes, is_posix: bool) -> Zone:
         try:
-            # The bytes, and what the library found in them.
-            zone = (data, _core.zone_parts(data, is_posix))
+            zone = _core.zone_new(data, is_posix)
         except ParseError as error:
             raise ZoneError(error.position, "unexpected end") from None
-        vars(self).update(key=key, _zone=zone, _is_posix=is_posix)
-        return self
+        made = super().__new__(cls)
+        vars(made).update(key=key, _data=data, _is_posix=is_posix, _zone=zone)
+        return made
 
     @classmethod
     def from_file(cls, data: bytes, key: str = "") -> Zone:
         """Creates the zone of the bytes of a TZif file, or raises `ZoneError`."""
-        return cls.__new__(cls)._set(key, bytes(memoryview(data)), False)
+        return cls._of(key, bytes(memoryview(data)), False)
 
     @classmethod
     def from_posix(cls, text: str) -> Zone:
         """Creates the zone of a POSIX text, such as CET-1CEST,M3.5.0,M10.5.0/3."""
-        return cls.__new__(cls)._set(text, text.encode("utf-8", "surrogatepass"), True)
+        return cls._of(text, text.encode("utf-8", "surrogatepass"), True)
 
     def offset_at(self, moment: OffsetDateTime | SupportsIndex) -> UtcOffset:
         """Returns the offset at an instant."""
@@ -135,7 +159,7 @@ class Zone:
     def abbreviation_at(self, moment: OffsetDateTime | SupportsIndex) -> str:
         """Returns the abbreviation at an instant, such as CEST."""
         _, _, start, length = _core.zone_local_type(self._zone, _seconds(moment))
-        return self._zone[0][start:start + length].decode()
+        return self._data[start:start + length].decode()
 
     def next_change(self, moment: OffsetDateTime | SupportsIndex) -> int | None:
         """Returns the Unix time of the first change after an instant, or `None`."""
@@ -199,19 +223,25 @@ class Zone:
         times, in seconds or `datetime64`."""
         return calls._zoned_starts_of_day(seconds, self._zone)
 
-    def _by(self, policy: Policy) -> tuple[Any, ...]:
-        return (*self._zone, int(check(policy, Policy)))
+    def _by(self, policy: Policy) -> tuple[Any, int]:
+        return self._zone, int(check(policy, Policy))
 
     def __str__(self) -> str:
         return self.key
 
     def __repr__(self) -> str:
-        return f"Zone({self.key!r})"
+        maker = ".from_posix" if self._is_posix else ""
+        return f"Zone{maker}({self.key!r})"
 
     def __reduce__(self) -> tuple[Any, ...]:
         if self._is_posix:
             return type(self).from_posix, (self.key,)
-        return type(self).from_file, (self._zone[0], self.key)
+        return type(self).from_file, (self._data, self.key)
+
+
+@functools.cache
+def _named(kind: type[Zone], key: str) -> Zone:
+    return kind._of(key, _file_of(key), False)
 
 
 class _Part(Generic[_P]):

@@ -375,17 +375,27 @@ class WithoutFiles(unittest.TestCase):
             with mock.patch.dict(os.environ, TZDIR=str(empty)), mock.patch.dict(sys.modules, others, clear=True):
                 with mock.patch.object(sys, "path", [path for path in sys.path if not pathlib.Path(path, "tzdata").exists()]):
                     importlib.invalidate_caches()
+                    self.addCleanup(Zone.clear_cache)
+                    Zone.clear_cache()
                     self.assertRaises(LookupError, Zone, "Europe/Berlin")
                     sys.path.insert(0, str(package.parent))
                     self.assertEqual([Zone("Europe/Berlin").abbreviation_at(instant) for instant in (1711846799, 1711846800)], ["CET", "CEST"])
                     for key in keys:
                         self.assertEqual(zones._file_of(key), (FOLDER / key).read_bytes(), key)
-                    for key in ("Europe/Berln", "Europe", "a\0b", "\ud800", "../Europe/Berlin"):
+                    for key in ("Europe/Berln", "Europe", "a\0b", "\ud800", "../Europe/Berlin", "", "/etc/localtime", "Europe/../Zulu", "zone.tab", "1", "Europe/Berlin "):
                         self.assertRaises(LookupError, Zone, key)
                     # A file of the system comes first, but not a pipe.
                     shutil.copy(FOLDER / "Europe/Berlin", empty / "Zulu")
                     os.mkfifo(empty / "GMT")
+                    Zone.clear_cache()
                     self.assertEqual([Zone(key).abbreviation_at(1711846800) for key in ("Zulu", "GMT")], ["CEST", "GMT"])
+                    # It is read once.
+                    (empty / "Zulu").unlink()
+                    self.assertIs(Zone("Zulu"), Zone("Zulu"))
+                    Zone.clear_cache()
+                    self.assertEqual(Zone("Zulu").abbreviation_at(0), "UTC")
+                    (empty / "Large").write_bytes((FOLDER / "Europe/Berlin").read_bytes().ljust(65537))
+                    self.assertRaises(LookupError, Zone, "Large")
 
 
 class AgainstZoneinfo(unittest.TestCase):
