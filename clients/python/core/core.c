@@ -3,6 +3,7 @@
 #include <stdio.h>
 #include <stdlib.h>
 #include <string.h>
+#include <time.h>
 
 #ifndef Py_LIMITED_API
 #define Py_LIMITED_API 0x030A0000
@@ -31,12 +32,6 @@ typedef struct WorkdaysObject {
     fots_workdays workdays;
 } WorkdaysObject;
 
-typedef struct Delta {
-    PyObject_HEAD
-    Py_hash_t hash;
-    int days, seconds, microseconds;
-} Delta;
-
 /* A period whose parts were checked. */
 typedef struct fots_checked_period_result {
     int32_t status;
@@ -54,11 +49,14 @@ typedef struct fots_checked_period_result {
 #define MOMENT(object) (VALUE(object)->moment)
 #define WORKDAYS(object) (&((WorkdaysObject *)(object))->workdays)
 
-/* What a module has in one interpreter: the types in the order of types.pyi, and then the arguments
- * of setup. All fields are pointers to objects. */
+/* What a module has in one interpreter: the types in the order of types.pyi, two other types, and
+ * then the arguments of setup. All fields are pointers to objects. */
 typedef struct State {
-    PyTypeObject *date, *time, *offset, *duration, *period, *plain, *moment, *workdays, *timedelta;
-    PyObject *has_delta; /* True if a timedelta is a Delta, which the limited API doesn't promise */
+    PyTypeObject *date, *time, *offset, *duration, *period, *plain, *moment, *workdays;
+    PyTypeObject *unit, *iso_calendar_date;
+    PyTypeObject *other_date, *other_time, *other_date_time, *timedelta, *tzinfo;
+    PyObject *timezone;
+    PyObject *has_layouts; /* True if datetime has the layouts of standard.c */
     PyObject *weekday, *calendar_unit, *convention, *day_count, *year_fraction, *status_error;
     PyObject *months[12], *weekdays[7];
 } State;
@@ -97,6 +95,43 @@ static int is_count(const char *name, Py_ssize_t count, Py_ssize_t expected)
             PyExc_TypeError, "%s() takes %zd arguments (%zd given)", name, expected, count);
     }
     return count == expected;
+}
+
+/* Takes the arguments of a constructor or of `replace`: at most so many by position, the others by
+ * name, and the first ones are required. Those that aren't given stay NULL. */
+static int take_arguments(const char *function, PyObject *arguments, PyObject *named,
+    const char *const *names, Py_ssize_t positional, Py_ssize_t required, PyObject **given)
+{
+    Py_ssize_t count = PyTuple_Size(arguments), position = 0;
+    PyObject *name, *value;
+    if (count > positional) {
+        PyErr_Format(PyExc_TypeError, "%s() takes at most %zd positional arguments (%zd given)",
+            function, positional, count);
+        return 0;
+    }
+    for (Py_ssize_t index = 0; index < count; index++) {
+        given[index] = PyTuple_GetItem(arguments, index);
+    }
+    while (named && PyDict_Next(named, &position, &name, &value)) {
+        Py_ssize_t index = 0;
+        while (names[index] && PyUnicode_CompareWithASCIIString(name, names[index])) {
+            index++;
+        }
+        if (!names[index] || given[index]) {
+            PyErr_Format(PyExc_TypeError, names[index] ? "%s() got '%U' twice" :
+                "%s() got an unexpected keyword argument '%U'", function, name);
+            return 0;
+        }
+        given[index] = value;
+    }
+    for (Py_ssize_t index = 0; index < required; index++) {
+        if (!given[index]) {
+            PyErr_Format(PyExc_TypeError, "%s() missing required argument '%s'", function,
+                names[index]);
+            return 0;
+        }
+    }
+    return 1;
 }
 
 #define TO_VALUE(name, field) \

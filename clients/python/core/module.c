@@ -1,7 +1,9 @@
 /* The module fotsevindre._core, which the package fotsevindre sets up. Each interpreter has its
  * own. */
 #include "core.c"
+#include "standard.c"
 #include "types.c"
+#include "texts.c"
 #include "operators.c"
 #include "workdays.c"
 #include "formats.c"
@@ -9,22 +11,11 @@
 #include "recurrence.c"
 #include "columns.c"
 
-/* Returns whether a timedelta of -1 days, 2 seconds and 3 microseconds is a Delta. */
-static PyObject *core_is_delta(PyObject *Py_UNUSED(self), PyObject *object)
-{
-    const Delta *delta = (const Delta *)object;
-    PyObject *size = PyObject_GetAttrString((PyObject *)Py_TYPE(object), "__basicsize__");
-    int is_delta = size && PyLong_AsLong(size) == sizeof(Delta) && delta->days == -1 &&
-        delta->seconds == 2 && delta->microseconds == 3;
-    Py_XDECREF(size);
-    return size ? PyBool_FromLong(is_delta) : NULL;
-}
-
 /* Takes what is in Python, in the order of State. */
 static PyObject *core_setup(PyObject *self, PyObject *given)
 {
     State *state = PyModule_GetState(self);
-    PyObject **fields = (PyObject **)&state->timedelta, **end = (PyObject **)(state + 1);
+    PyObject **fields = (PyObject **)&state->other_date, **end = (PyObject **)(state + 1);
     if (!is_count("setup", PyTuple_Size(given), end - fields)) {
         return NULL;
     }
@@ -79,7 +70,11 @@ static int execute(PyObject *module)
             return -1;
         }
     }
-    return 0;
+    make_formats();
+    state->unit = (PyTypeObject *)PyType_FromModuleAndSpec(module, &unit_spec, NULL);
+    state->iso_calendar_date = PyStructSequence_NewType(&iso_calendar_description);
+    return !state->unit || !state->iso_calendar_date || PyModule_AddObjectRef(module,
+        "IsoCalendarDate", (PyObject *)state->iso_calendar_date) ? -1 : 0;
 }
 
 /* Does something with each field of the state of a module. */

@@ -2,11 +2,33 @@
 
 /* ---- order and hashes */
 
+/* Raises TypeError for a value of datetime, with which no value here is equal: its hash is another
+ * one, so a set of both couldn't find either. Python asks other values themselves. */
+static PyObject *not_compared(PyObject *self, PyObject *other)
+{
+    const State *state = state_of(self);
+    if (!PyObject_TypeCheck(other, state->other_date) &&
+        !PyObject_TypeCheck(other, state->other_time) &&
+        !PyObject_TypeCheck(other, state->timedelta) && !PyObject_TypeCheck(other, state->tzinfo)) {
+        return new_reference(Py_NotImplemented);
+    }
+    PyObject *own = PyObject_GetAttrString((PyObject *)Py_TYPE(self), "__name__");
+    PyObject *name = PyObject_GetAttrString((PyObject *)Py_TYPE(other), "__name__");
+    if (own && name) {
+        PyErr_Format(PyExc_TypeError, "can't compare %U with %U; convert one of them first, such as "
+            "with Date.from_date, OffsetDateTime.from_datetime or SignedDuration.from_timedelta",
+            own, name);
+    }
+    Py_XDECREF(own);
+    Py_XDECREF(name);
+    return NULL;
+}
+
 #define COMPARE(name, value, other_value) \
     static PyObject *name(PyObject *self, PyObject *other, int operation) \
     { \
         if (Py_TYPE(other) != Py_TYPE(self)) { \
-            return new_reference(Py_NotImplemented); \
+            return not_compared(self, other); \
         } \
         Py_RETURN_RICHCOMPARE(value, other_value, operation); \
     }
@@ -20,7 +42,7 @@ COMPARE(moment_compare, fots_moment_compare(MOMENT(self), MOMENT(other)).number,
 static PyObject *period_compare(PyObject *self, PyObject *other, int operation)
 {
     if (Py_TYPE(other) != Py_TYPE(self) || (operation != Py_EQ && operation != Py_NE)) {
-        return new_reference(Py_NotImplemented);
+        return not_compared(self, other);
     }
     fots_period one = PERIOD(self), two = PERIOD(other);
     int is_equal = one.years == two.years && one.months == two.months && one.weeks == two.weeks &&
@@ -49,7 +71,13 @@ static uint64_t number_of_period(fots_period period)
     return (months * 1000003 + days) * 1000003 + number_of(period.duration);
 }
 
-/* A date-time has the number of its instant. */
+/* The same number for the same instant. It wraps around. */
+static uint64_t number_of_moment(fots_moment moment)
+{
+    return (uint64_t)moment.date.julian_day * UINT64_C(86400000000000) + moment.time -
+        (uint64_t)moment.offset.seconds * 1000000000;
+}
+
 #define HASH(name, number, kind) \
     static Py_hash_t name(PyObject *self) { return mixed(number, kind); }
 HASH(date_hash, (uint64_t)DATE(self).julian_day, 0)
@@ -57,8 +85,8 @@ HASH(time_hash, TIME(self), 1)
 HASH(offset_hash, (uint64_t)OFFSET(self).seconds, 2)
 HASH(duration_hash, number_of(DURATION(self)), 3)
 HASH(period_hash, number_of_period(PERIOD(self)), 6)
-HASH(plain_hash, number_of(fots_moment_unix_time(MOMENT(self)).duration), 4)
-HASH(moment_hash, number_of(fots_moment_unix_time(MOMENT(self)).duration), 5)
+HASH(plain_hash, number_of_moment(MOMENT(self)), 4)
+HASH(moment_hash, number_of_moment(MOMENT(self)), 5)
 
 /* ---- addition and subtraction */
 
@@ -70,38 +98,30 @@ static const State *state_of_value(PyObject *object)
     return PyType_GetSlot(type, Py_tp_dealloc) == (void *)value_free ? state_of_type(type) : NULL;
 }
 
-/* Converts a SignedDuration or a timedelta. Returns 0 for another object, and after an error. Other
- * types than the usual timedelta, such as that of pandas, convert it in Python. */
+/* Converts a SignedDuration or a timedelta. Returns 0 for another object, and after an error. */
 static int to_move(const State *state, PyObject *object, fots_duration *by)
 {
-    const Delta *delta = (const Delta *)object;
     if (Py_TYPE(object) == state->duration) {
         *by = DURATION(object);
         return 1;
     }
-    if (Py_TYPE(object) == state->timedelta && state->has_delta == Py_True) {
-        int is_negative = delta->days < 0 && delta->microseconds;
-        by->seconds = (int64_t)delta->days * 86400 + delta->seconds + is_negative;
-        by->nanoseconds = 1000 * (delta->microseconds - 1000000 * is_negative);
-        return 1;
-    }
-    if (!PyObject_TypeCheck(object, state->timedelta)) {
-        return 0;
-    }
-    PyObject *type = (PyObject *)state->duration;
-    PyObject *value = PyObject_CallMethod(type, "from_timedelta", "O", object);
-    *by = value ? DURATION(value) : *by;
-    Py_XDECREF(value);
-    return value != NULL;
+    return PyObject_TypeCheck(object, state->timedelta) && read_delta(state, object, by);
 }
 
 /* The sum or the difference of a value and a duration, by the start of the names of the calls. */
 #define MOVED(call, value) (back ? fots_##call##_sub(value, by) : fots_##call##_add(value, by))
 
-/* Moves a date, or a date-time without an offset, by a period. */
-static PyObject *moved_by_period(const State *state, PyObject *self, fots_period period)
+/* Moves a date, or a date-time without an offset, by a period, forward or back. */
+static PyObject *moved_by_period(const State *state, PyObject *self, fots_period period, int back)
 {
     PyTypeObject *type = Py_TYPE(self);
+    if (back) {
+        fots_checked_period_result opposite = period_negative(period);
+        if (opposite.status) {
+            return raise_status(state, opposite.status);
+        }
+        period = opposite.period;
+    }
     return type == state->date ? of_date(state, fots_date_add_period(DATE(self), period)) :
         type == state->plain ? of_moment(state, type, plain_add_period(MOMENT(self), period)) :
         new_reference(Py_NotImplemented);
@@ -139,7 +159,7 @@ static PyObject *value_add(PyObject *self, PyObject *other)
 {
     const State *state = state_of_value(self);
     if (state && Py_TYPE(other) == state->period) {
-        return moved_by_period(state, self, PERIOD(other));
+        return moved_by_period(state, self, PERIOD(other), 0);
     }
     return state ? moved(state, self, other, 0) : moved(state_of(other), other, self, 0);
 }
@@ -150,6 +170,9 @@ static PyObject *value_subtract(PyObject *self, PyObject *other)
     PyTypeObject *type = Py_TYPE(self);
     if (!state) {
         return new_reference(Py_NotImplemented);
+    }
+    if (Py_TYPE(other) == state->period) {
+        return moved_by_period(state, self, PERIOD(other), 1);
     }
     if (type != Py_TYPE(other) || type == state->duration) {
         return moved(state, self, other, 1);
@@ -188,4 +211,43 @@ static PyObject *duration_multiply(PyObject *self, PyObject *other)
     return state_of_value(self) ? scaled(self, other, 0) : scaled(other, self, 0);
 }
 
-static PyObject *duration_divide(PyObject *self, PyObject *other) { return scaled(self, other, 1); }
+/* Does an operation of ints with the nanoseconds of two durations. */
+static PyObject *of_nanoseconds(PyObject *self, PyObject *other,
+    PyObject *(*operation)(PyObject *, PyObject *))
+{
+    const State *state = state_of_value(self);
+    if (!state || Py_TYPE(self) != state->duration || Py_TYPE(other) != state->duration) {
+        return new_reference(Py_NotImplemented);
+    }
+    if (!sign_of(DURATION(other))) {
+        return PyErr_Format(PyExc_ZeroDivisionError, "division of a duration by zero");
+    }
+    PyObject *number = duration_whole_nanoseconds(self, NULL);
+    PyObject *divisor = duration_whole_nanoseconds(other, NULL);
+    PyObject *made = number && divisor ? operation(number, divisor) : NULL;
+    Py_XDECREF(number);
+    Py_XDECREF(divisor);
+    return made;
+}
+
+static PyObject *duration_divide(PyObject *self, PyObject *other)
+{
+    return Py_TYPE(other) == Py_TYPE(self) ? of_nanoseconds(self, other, PyNumber_TrueDivide) :
+        scaled(self, other, 1);
+}
+
+static PyObject *duration_floor_divide(PyObject *self, PyObject *other)
+{
+    return of_nanoseconds(self, other, PyNumber_FloorDivide);
+}
+
+/* The rest is nearer to zero than the second duration, so it is in the range. */
+static PyObject *duration_remainder(PyObject *self, PyObject *other)
+{
+    PyObject *rest = of_nanoseconds(self, other, PyNumber_Remainder);
+    if (!rest || rest == Py_NotImplemented) {
+        return rest;
+    }
+    PyObject *made = PyObject_CallMethod((PyObject *)Py_TYPE(self), "nanoseconds_i128", "N", rest);
+    return made;
+}

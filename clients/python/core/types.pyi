@@ -8,12 +8,12 @@ import datetime
 import functools
 import operator
 from datetime import timedelta
-from typing import Any, Callable, ClassVar, Iterable, SupportsIndex, overload
+from typing import Any, Callable, ClassVar, Iterable, NamedTuple, SupportsIndex, overload
 
 from typing_extensions import Self
 
 from .choices import CalendarUnit, Convention, DayCount
-from .conversions import CLOCKS, OFFSET, parts_of, whole_microseconds
+from .conversions import instant_of, parts_of
 from .enums import Month, Weekday, YearFraction
 from .errors import check
 from .formats import Format
@@ -27,19 +27,24 @@ from .zones import Zone
 _Rule = tuple[Any, ...]
 _Zone = Any
 
+class IsoCalendarDate(NamedTuple):
+    "An ISO week date, whose weekday is from 1 (Monday) to 7 (Sunday)."
+    {year,week,weekday}: int
+
 class _Value:
     def __{lt,le,gt,ge}__(self, other: Self) -> bool: ...
     def __hash__(self) -> int: ...
-    def __str__(self) -> str: ...
+    def {__str__,__repr__}(self) -> str: ...
+    def isoformat(self) -> str: "Returns the text, like str."
+    def __copy__(self) -> Self: ...
+    def __deepcopy__(self, memo: Any) -> Self: ...
+    def __reduce__(self) -> tuple[Any, ...]: ...
 
     def __format__(self, specification: str) -> str:
         "Formats by a format, which has a percent sign, or else the text of the value."
         if "%" in specification and not isinstance(self, SignedDuration):
             return self.strftime(specification)
         return format(str(self), specification)
-
-    def __reduce__(self) -> tuple[Any, ...]:
-        return type(self).parse, (self.isoformat(),)
 
 class _Moved:
     def checked_{add,sub}(self, duration) -> Self | None:
@@ -58,8 +63,6 @@ class _Formatted:
 
 class _DateParts:
     def __radd__(self, other: timedelta) -> Self: ...
-    @overload
-    def __sub__(self, other: {Self,SignedDuration | timedelta}) -> {SignedDuration,Self}: ...
     year: int = "The year, from -999999 to 999999."
     month: Month = "The Month."
     day: int = "The day of the month, from 1 to 31."
@@ -67,6 +70,9 @@ class _DateParts:
     iso_week: int = "The week of the ISO week date, from 1 to 53."
     {sunday,monday}_based_week: int = "The {Sundays,Mondays} of the year up to the day, 0 to 53."
     def weekday(self) -> Weekday: "Returns the Weekday."
+    def isoweekday(self) -> int: "Returns the number of the weekday, from 1 (Monday) to 7 (Sunday)."
+    def isocalendar(self) -> IsoCalendarDate:
+        "Returns ISO year, week and weekday, from 1 (Monday) to 7 (Sunday)."
     def to_calendar_date(self) -> tuple[int, Month, int]:
         "Returns the year, the Month and the day of the month."
     def to_ordinal_date(self) -> tuple[int, int]: "Returns the year and the ordinal."
@@ -77,8 +83,16 @@ class _DateParts:
 class _Shifted:
     @overload
     def __add__(self, other: {SignedDuration | timedelta,Period}) -> Self: ...
+    @overload
+    def __sub__(self, other: {Self,SignedDuration | timedelta | Period}) -> {SignedDuration,Self}: ...
     def checked_add_period(self, period) -> Self | None:
         "Returns the value plus a Period like +, or None out of range."
+
+class _MonthMoves:
+    def checked_add_{months,years}(self, number) -> Self | None:
+        "Adds {}, and takes the last day of a shorter month; returns None out of range."
+    def add_{months,years}(self, number) -> Self:
+        "Adds {}, and takes the last day of a shorter month; OverflowError out of range."
 
 class _TimeParts:
     hour: int = "The hour, from 0 to 23."
@@ -93,18 +107,8 @@ class _TimeParts:
         "Replaces all below the second by {milliseconds,microseconds,nanoseconds}."
     def truncate_to_{hour,minute,second,millisecond,microsecond}(self) -> Self:
         "Sets all below the {} to zero."
-    def {__str__,__repr__}(self) -> str:
-        return self.strftime(CLOCKS[type(self)][self.nanosecond > 0])
 
-    def isoformat(self) -> str:
-        "Returns the text that `datetime` has, with nine digits if there are nanoseconds."
-        below = self.nanosecond
-        clock = "%T" if not below else "%T.%N" if below % 1000 else "%T.%f"
-        if isinstance(self, OffsetDateTime):
-            clock += "%::z" if self.offset.seconds_past_minute() else "%:z"
-        return self.strftime(clock if isinstance(self, Time) else f"%FT{clock}")
-
-class Date(_Value, _DateParts, _Shifted, _Moved, _Formatted):
+class Date(_Value, _DateParts, _MonthMoves, _Shifted, _Moved, _Formatted):
     """Date(year, month, day): a day of the proleptic Gregorian calendar, from MIN, -999999-01-01,
     to MAX, 999999-12-31.
 
@@ -129,7 +133,7 @@ class Date(_Value, _DateParts, _Shifted, _Moved, _Formatted):
         "Parses 2024-02-29, 2024-060 or 2024-W09-4, or raises ParseError or ComponentRange."
     def parse_julian_day(text) -> Date: "Parses a Julian day, such as J2460370."
     quarter: int = "The quarter of the year, from 1 to 4."
-    def {isoformat,calendar_text}(self) -> str: "Returns the date, such as 2024-02-29, like str."
+    def calendar_text(self) -> str: "Returns the date, such as 2024-02-29, like str."
     def {ordinal,week}_text(self) -> str: "Returns the {} date, such as {2024-060,2024-W09-4}."
     def julian_text(self) -> str: "Returns the Julian day, such as J2460370."
     def {next,previous}_day(self) -> Date | None: "Returns the {} day, None {after MAX,before MIN}."
@@ -143,14 +147,8 @@ class Date(_Value, _DateParts, _Shifted, _Moved, _Formatted):
         "Returns the same, or None out of range and for 0."
     def replace(self, *, year=None, month=None, day=None) -> Date:
         "Replaces the components that are given by name: year, month, day."
-    def checked_add_{months,years}(self, number) -> Date | None:
-        "Adds {}, and takes the last day of a shorter month; returns None out of range."
-    def add_months(self, number) -> Date:
-        "Adds months, and takes the last day of a shorter month; OverflowError out of range."
     def saturating_add_months(self, number) -> Date:
         "Adds months like add_months, or returns the nearest end of the range."
-    def add_years(self, number) -> Date:
-        "Adds years; 29 February becomes the 28th in a common year; OverflowError out of range."
     def {months,years}_until(self, other: Date) -> int:
         "Returns the whole {} to the other day, such as an age; negative if that is earlier."
     def period_until(self, other: Date) -> Period: "Returns years, months and days to another day."
@@ -171,9 +169,9 @@ class Date(_Value, _DateParts, _Shifted, _Moved, _Formatted):
     def last_of_iso_week(self) -> Date | None: "Returns the Sunday of the ISO week, None past MAX."
     def on_or_{after,before}(self, weekday) -> Date | None:
         "Returns the {first day from this one on,last day up to this one} with a Weekday, or None."
-    def today() -> Date:
-        "Returns the date of the system's local clock."
-        return Date.from_date(datetime.date.today())
+    def today(zone: Zone | None = None) -> Date:
+        "Returns the current date by the clocks of a zone, or by the system's local clock."
+        return PlainDateTime.now(zone).date()
     def iter_to(self, end: Date) -> Days:
         """Returns the days from this one to `end`, both included, as a sequence; none if this one
         is later."""
@@ -181,25 +179,17 @@ class Date(_Value, _DateParts, _Shifted, _Moved, _Formatted):
 
     def from_date(date: datetime.date) -> Date:
         "Converts a `datetime.date`. Of a `datetime.datetime`, take its `date()`."
-        if isinstance(check(date, datetime.date), datetime.datetime):
-            raise TypeError("expected datetime.date, not datetime; use its date()")
-        return Date.from_calendar_date(date.year, date.month, date.day)
-
     def to_date(self) -> datetime.date:
         "Converts to a `datetime.date`, which has the years 1 to 9999, or raises `OverflowError`."
-        year, month, day = self.to_calendar_date()
-        if not 1 <= year <= 9999:
-            raise OverflowError(f"year {year} is out of range of datetime.date; expected 1 to 9999")
-        return datetime.date(year, month, day)
 
 class Time(_Value, _TimeParts, _Formatted):
-    """Time(hour=0, minute=0, second=0, nanosecond=0): a time of day, from MIDNIGHT to MAX,
+    """Time(hour=0, minute=0, second=0, *, nanosecond=0): a time of day, from MIDNIGHT to MAX,
     23:59:59.999999999.
 
     + and - with a SignedDuration wrap around midnight; times have a SignedDuration between them.
     """
-    {MIDNIGHT,MAX}: ClassVar[Time] = Time({0,23}, {0,59}, {0,59}, {0,999999999})
-    def __new__(cls, hour=0, minute=0, second=0, nanosecond=0) -> Time: ...
+    {MIDNIGHT,MAX}: ClassVar[Time] = Time({0,23}, {0,59}, {0,59}, nanosecond={0,999999999})
+    def __new__(cls, hour=0, minute=0, second=0, *, nanosecond=0) -> Time: ...
     def __add__(self, other: SignedDuration) -> Time: ...
     @overload
     def __sub__(self, other: {Time,SignedDuration}) -> {SignedDuration,Time}: ...
@@ -217,19 +207,10 @@ class Time(_Value, _TimeParts, _Formatted):
     def adjusting_{add,sub}(self, duration) -> tuple[int, Time]:
         """Returns a carry of -1, 0 or 1 days beyond whole days, and the time a duration
         {later,earlier}."""
-    def __reduce__(self) -> tuple[Any, ...]:
-        return Time.from_hms_nano, self.as_hms_nano()
-
     def from_time(time: datetime.time) -> Time:
         "Converts a `datetime.time` without a time zone, or raises `ValueError`."
-        if check(time, datetime.time).tzinfo is not None:
-            raise ValueError("expected a datetime.time without tzinfo")
-        return Time.from_hms_micro(time.hour, time.minute, time.second, time.microsecond)
-
     def to_time(self) -> datetime.time:
         "Converts to a `datetime.time`, or raises `ValueError` for nanoseconds."
-        microsecond = whole_microseconds(self.nanosecond, "datetime.time")
-        return datetime.time(self.hour, self.minute, self.second, microsecond)
 
 class UtcOffset(_Value, _Formatted):
     """UtcOffset(hours=0, minutes=0, seconds=0): an offset from UTC, from -25:59:59 to +25:59:59,
@@ -251,18 +232,8 @@ class UtcOffset(_Value, _Formatted):
     def is_{utc,positive,negative}(self) -> bool: "Returns whether it is {0,positive,negative}."
     def to_timezone(self) -> datetime.timezone:
         "Converts to a `datetime.timezone`, or raises `ValueError` from 24 hours on."
-        return datetime.timezone(timedelta(seconds=self.whole_seconds()))
-    def {__str__,__repr__}(self) -> str:
-        return self.strftime(OFFSET)
-    def __reduce__(self) -> tuple[Any, ...]:
-        return UtcOffset.from_whole_seconds, (self.whole_seconds(),)
-
     def from_timezone(timezone: datetime.timezone) -> UtcOffset:
         "Converts a `datetime.timezone`, or raises `ValueError` for parts of a second."
-        delta = check(timezone, datetime.timezone).utcoffset(None)
-        if delta.microseconds:
-            raise ValueError(f"expected an offset of whole seconds, not {delta}")
-        return UtcOffset.from_whole_seconds(delta // timedelta(seconds=1))
 
 class _Unit:
     def __get__(self, instance: None, owner: Any) -> Callable[[SupportsIndex], SignedDuration]: ...
@@ -278,6 +249,7 @@ class SignedDuration(_Value, _Moved):
     nanoseconds): a signed length of time.
 
     It has whole seconds in 64 bits and nanoseconds, and is exact. * and / take an int of 32 bits.
+    /, // and % also take a duration: its whole number of times is an int, and / a float.
     """
     {weeks,hours,minutes,milliseconds}: ClassVar[_Unit]
     {days,seconds,microseconds,nanoseconds}: ClassVar[_Part]
@@ -292,7 +264,10 @@ class SignedDuration(_Value, _Moved):
                 nanoseconds: Fits = 0) -> SignedDuration: ...
 
     def __{add,sub}__(self, other: SignedDuration) -> SignedDuration: ...
-    def __{mul,rmul,truediv}__(self, other: SupportsIndex) -> SignedDuration: ...
+    def __{mul,rmul}__(self, other: SupportsIndex) -> SignedDuration: ...
+    @overload
+    def __truediv__(self, other: {SupportsIndex,SignedDuration}) -> {SignedDuration,float}: ...
+    def __{floordiv,mod}__(self, other: SignedDuration) -> {int,SignedDuration}: ...
     def __{neg,abs}__(self) -> SignedDuration: ...
     def __bool__(self) -> bool: ...
     def new(seconds: Fits, nanoseconds: Fits) -> SignedDuration:
@@ -312,11 +287,11 @@ class SignedDuration(_Value, _Moved):
         "Returns the quotient truncated toward zero, or None for 0 and out of range."
     def saturating_mul(self, number: Fits) -> SignedDuration:
         "Returns the product with an int of 32 bits, or the nearest limit."
-    def __reduce__(self) -> tuple[Any, ...]:
-        return SignedDuration.new, (self.whole_seconds(), self.subsec_nanoseconds())
-    def whole_{nanoseconds,microseconds,milliseconds}(self) -> int:
+    def whole_nanoseconds(self) -> int: "Returns the whole nanoseconds, as an int of any size."
+    def total_seconds(self) -> float: "Returns the nearest float to the seconds."
+    def whole_{microseconds,milliseconds}(self) -> int:
         "Returns the whole {}, truncated toward zero, as an int of any size."
-        return self.whole_seconds() * {10**9,10**6,10**3} + self.subsec_{}()
+        return self.whole_seconds() * {10**6,10**3} + self.subsec_{}()
     def unsigned_abs(self) -> tuple[int, int]:
         "Returns the seconds and nanoseconds of the absolute value, as ints of any size."
         return abs(self.whole_seconds()), abs(self.subsec_nanoseconds())
@@ -339,14 +314,9 @@ class SignedDuration(_Value, _Moved):
 
     def from_timedelta(delta: datetime.timedelta) -> SignedDuration:
         "Converts a `datetime.timedelta`, exactly."
-        seconds, rest = divmod(check(delta, timedelta) // timedelta(microseconds=1), 10**6)
-        return SignedDuration.new(seconds, rest * 1000 + getattr(delta, "nanoseconds", 0))
-
     def to_timedelta(self) -> datetime.timedelta:
         """Converts to a `datetime.timedelta`. Raises `OverflowError` out of its range, and
         `ValueError` for nanoseconds."""
-        microseconds = whole_microseconds(self.subsec_nanoseconds(), "datetime.timedelta")
-        return timedelta(seconds=self.whole_seconds(), microseconds=microseconds)
 
 class Period:
     """Period(*, years, months, weeks, days, duration): how much later something is by the calendar
@@ -361,41 +331,47 @@ class Period:
 
     def __eq__(self, other: object) -> bool: ...
     def __hash__(self) -> int: ...
+    def __neg__(self) -> Period: ...
     {years,months,weeks,days}: int = "The {}, in 32 bits."
     duration: SignedDuration = "The exact duration."
     def {__str__,__repr__}(self) -> str:
-        return f"Period({', '.join(f'{name}={part}' for name, part in parts_of(self).items())})"
+        return f"Period({', '.join(f'{name}={part!r}' for name, part in parts_of(self).items())})"
     def __reduce__(self) -> tuple[Any, ...]:
         return functools.partial(Period, **parts_of(self)), ()
 
-class _DateTime(_Value, _DateParts, _TimeParts, _Moved, _Formatted):
+class _DateTime(_Value, _DateParts, _MonthMoves, _TimeParts, _Moved, _Formatted):
     def date(self) -> Date: "Returns the date."
     def time(self) -> Time: "Returns the time of day."
     def replace_date(self, date) -> Self: "Replaces the date."
     def replace_time(self, time) -> Self: "Replaces the time of day."
 
-    def replace(self, *, year=None, month=None, day=None, hour=None, minute=None, second=None,
-                nanosecond=None) -> Any:
-        "Replaces the components that are given by name."
-        date = self.date().replace(year=year, month=month, day=day)
-        time = self.time().replace(hour=hour, minute=minute, second=second, nanosecond=nanosecond)
-        return self.replace_date(date).replace_time(time)
-
     def to_datetime(self) -> datetime.datetime:
         """Converts to a `datetime.datetime`, with the `datetime.timezone` of the offset if there is
         one; errors like `Date.to_date`, `Time.to_time` and `UtcOffset.to_timezone`."""
-        zone = self.offset.to_timezone() if isinstance(self, OffsetDateTime) else None
-        return datetime.datetime.combine(self.date().to_date(), self.time().to_time(), zone)
 
 class PlainDateTime(_DateTime, _Shifted):
-    """PlainDateTime(date, time): a date and a time of day, from MIN to MAX.
+    """PlainDateTime(date, time), or PlainDateTime(year, month, day, hour=0, minute=0, second=0, *,
+    nanosecond=0): a date and a time of day, from MIN to MAX.
 
-    + and - with a SignedDuration or a timedelta are exact, and + with a Period moves the date and
-    then adds its duration; date-times have a SignedDuration between them.
+    + and - with a SignedDuration or a timedelta are exact, and with a Period move the date and then
+    by its duration; date-times have a SignedDuration between them.
     """
     {MIN,MAX}: ClassVar[PlainDateTime] = PlainDateTime(Date.{}, Time.{MIDNIGHT,MAX})
+    @overload
     def __new__(cls, date, time) -> PlainDateTime: ...
-    def new(date, time) -> PlainDateTime: "Creates the date-time of a date and a time."
+    @overload
+    def __new__(cls, year, month, day, hour=0, minute=0, second=0, *, nanosecond=0
+                ) -> PlainDateTime: ...
+    def {new,combine}(date, time) -> PlainDateTime: "Creates the date-time of a date and a time."
+    def replace(self, *, year=None, month=None, day=None, hour=None, minute=None, second=None,
+                nanosecond=None) -> PlainDateTime:
+        "Replaces the components that are given by name."
+    def now(zone: Zone | None = None) -> PlainDateTime:
+        """Returns the current date and time by the clocks of a zone, or by the system's local
+        clock."""
+        if zone is None:
+            return PlainDateTime.from_datetime(datetime.datetime.now())
+        return OffsetDateTime.now().in_zone(zone).local()
     def {parse,fromisoformat}(text) -> PlainDateTime:
         """Parses a date, T or a space, and a time, such as 2024-02-29T23:59:59.25; errors like
         Date.parse and Time.parse."""
@@ -405,22 +381,36 @@ class PlainDateTime(_DateTime, _Shifted):
 
     def from_datetime(value: datetime.datetime) -> PlainDateTime:
         "Converts a `datetime.datetime` without a time zone, or raises `ValueError`."
-        if check(value, datetime.datetime).tzinfo is not None:
-            raise ValueError("expected a datetime.datetime without tzinfo")
-        # The text of a time of pandas has nanoseconds, too.
-        return PlainDateTime.parse(value.isoformat())
 
 class OffsetDateTime(_DateTime):
-    """OffsetDateTime(date, time, offset): a date and a time of day at an offset from UTC.
+    """OffsetDateTime(date, time, offset), or OffsetDateTime(year, month, day, hour=0, minute=0,
+    second=0, *, nanosecond=0, offset): a date and a time of day at an offset from UTC.
 
     Values compare and hash by instant, regardless of offset. + and - with a SignedDuration or a
     timedelta keep the offset.
     """
     UNIX_EPOCH: ClassVar[OffsetDateTime] = OffsetDateTime(Date(1970, 1, 1), Time(), UtcOffset())
+    @overload
     def __new__(cls, date, time, offset) -> OffsetDateTime: ...
+    @overload
+    def __new__(cls, year, month, day, hour=0, minute=0, second=0, *, nanosecond=0, offset
+                ) -> OffsetDateTime: ...
+    def replace(self, *, year=None, month=None, day=None, hour=None, minute=None, second=None,
+                nanosecond=None, offset=None) -> OffsetDateTime:
+        "Replaces the components that are given by name."
+    def now(offset=UtcOffset()) -> OffsetDateTime:
+        "Returns the current date and time at an offset, at UTC by default."
+    def timestamp(self) -> float: "Returns the nearest float to the Unix time in seconds."
+    def fromtimestamp(timestamp: float, offset=UtcOffset()) -> OffsetDateTime:
+        """Creates the date-time of a Unix time in seconds at an offset, UTC by default. A float is
+        rounded to microseconds, as in `datetime`."""
+        return OffsetDateTime.from_unix_duration(instant_of(timestamp)).to_offset(offset)
     def __add__(self, other: SignedDuration | timedelta) -> OffsetDateTime: ...
+    @overload
+    def __sub__(self, other: {OffsetDateTime,SignedDuration | timedelta}
+                ) -> {SignedDuration,OffsetDateTime}: ...
     offset: UtcOffset = "The offset from UTC."
-    def new_in_offset(date, time, offset) -> OffsetDateTime:
+    def {new_in_offset,combine}(date, time, offset) -> OffsetDateTime:
         "Creates the date-time of a date, a time of day and an offset."
     def new_utc(date, time) -> OffsetDateTime:
         "Creates the date-time of a date and a time of day at UTC."
@@ -450,11 +440,6 @@ class OffsetDateTime(_DateTime):
 
     def from_datetime(value: datetime.datetime) -> OffsetDateTime:
         "Converts a `datetime.datetime` with an offset of whole seconds, or raises `ValueError`."
-        delta = check(value, datetime.datetime).utcoffset()
-        if delta is None:
-            raise ValueError("expected a datetime.datetime with a UTC offset")
-        offset = UtcOffset.from_timezone(datetime.timezone(delta))
-        return PlainDateTime.from_datetime(value.replace(tzinfo=None)).assume_offset(offset)
 
     def from_unix_timestamp_nanos(timestamp) -> OffsetDateTime:
         "Creates the date-time at UTC of Unix nanoseconds, or raises ComponentRange as timestamp."

@@ -6,7 +6,7 @@ of the compiled module `_core`.
 
     >>> from fotsevindre import Date, SignedDuration
     >>> Date(2024, 2, 29) + SignedDuration(days=366)
-    2025-03-01
+    Date(2025, 3, 1)
 
 A component out of range raises `ComponentRange`, an invalid text `ParseError` or `ParseRuleError`.
 If a result is out of range, calls named `checked_*`, and others that say so, return `None`, and
@@ -17,17 +17,21 @@ Values are immutable. They compare and hash by their number, date-times at an of
 `str` and `repr` are the same text.
 """
 
-from datetime import timedelta
+import datetime as _datetime
 
 from . import _core, choices as _choices
 from .enums import Month, Weekday, YearFraction
 from .errors import ComponentRange, ContradictionError, FormatError, ParseError, ParseRuleError
 from .errors import ParseRuleErrorKind, ZoneError, status_error
 
-_core.setup(timedelta, _core.is_delta(timedelta(-1, 2, 3)), Weekday, _choices.CalendarUnit,
+_core.setup(_datetime.date, _datetime.time, _datetime.datetime, _datetime.timedelta,
+    _datetime.tzinfo, _datetime.timezone,
+    _core.has_layouts(_datetime.date(2024, 2, 29), _datetime.time(1, 2, 3, 4),
+        _datetime.datetime(2024, 2, 29, 1, 2, 3, 4), _datetime.timedelta(-1, 2, 3)), Weekday, _choices.CalendarUnit,
     _choices.Convention, _choices.DayCount, YearFraction, status_error, *Month, *Weekday)
 
 from . import calls as _calls, members as _members
+from ._core import IsoCalendarDate
 from .calls import *
 from .formats import Format
 from .schedules import DateRange, Days, Recurrence, Rule, Workdays
@@ -36,7 +40,7 @@ from .zones import Local, Zone, ZonedDateTime
 __version__ = "0.1.0"
 
 __all__ = [
-    "ComponentRange", "ContradictionError", "DateRange", "Days", "Format", "FormatError", "Local",
+    "ComponentRange", "ContradictionError", "DateRange", "Days", "Format", "FormatError", "IsoCalendarDate", "Local",
     "Month", "ParseError", "ParseRuleError", "ParseRuleErrorKind", "Recurrence", "Rule", "Weekday",
     "Workdays", "YearFraction", "Zone", "ZonedDateTime", "ZoneError", "status_error",
 ]

@@ -1,12 +1,12 @@
-"""Formats and units of durations, for the members in Python that types.pyi declares."""
+"""Units of durations, and functions for the members in Python that types.pyi declares."""
 
 import functools
+import math
 import types
-from typing import Any, Callable, SupportsIndex
+from typing import Any
 
 from . import _core
-from ._core import OffsetDateTime, PlainDateTime, SignedDuration, Time
-from .formats import Format
+from ._core import SignedDuration
 
 
 def _member_of(kind: type, function: types.FunctionType) -> types.FunctionType:
@@ -34,45 +34,20 @@ class Members:
                     setattr(kind, name, copy if function is member else type(member)(copy))
 
 
-def whole_microseconds(nanoseconds: int, name: str) -> int:
-    if nanoseconds % 1000:
-        raise ValueError(
-            f"{name} has no nanoseconds; truncate {nanoseconds} ns to microseconds first")
-    return nanoseconds // 1000
-
-
 def parts_of(period: Any) -> dict[str, Any]:
     """Returns the parts of a `Period` that aren't zero, by their names."""
     names = ("years", "months", "weeks", "days", "duration")
     return {name: part for name in names if (part := getattr(period, name))}
 
 
-class _Unit:
-    """A class method of a unit. A duration has the numbers of a `timedelta` by these names, which
-    round down, so `(b - a).days == 1` is right."""
-
-    def __init__(self, name: str) -> None:
-        self.name = name
-        self.make: Callable[[SupportsIndex], SignedDuration] = getattr(_core, name)
-        self.__doc__ = self.make.__doc__
-
-    def __get__(self, duration: SignedDuration | None, _kind: object = None) -> Any:
-        if duration is None:
-            return self.make
-        seconds, nanoseconds = divmod(duration.whole_nanoseconds(), 10**9)
-        found = {"days": seconds // 86400, "seconds": seconds % 86400,
-            "microseconds": nanoseconds // 1000, "nanoseconds": nanoseconds % 1000}
-        if self.name not in found:
-            raise AttributeError(f"a SignedDuration has no {self.name}; use whole_{self.name}()")
-        return found[self.name]
+def instant_of(timestamp: float) -> SignedDuration:
+    """Returns the Unix time of seconds. A float is rounded to microseconds as in `datetime`."""
+    if isinstance(timestamp, float):
+        fraction, seconds = math.modf(timestamp)
+        return SignedDuration(seconds=int(seconds), microseconds=round(fraction * 1e6))
+    return SignedDuration(seconds=timestamp)
 
 
-for _name in "weeks days hours minutes seconds milliseconds microseconds nanoseconds".split():
-    setattr(SignedDuration, _name, _Unit(_name))
-
-OFFSET = Format("%::z")
-# The formats of `str` for a whole second, and for others.
-CLOCKS: dict[type, tuple[Format, Format]] = {
-    kind: (Format(f"{date}%-H:%M:%S.0{offset}"), Format(f"{date}%-H:%M:%S%.f{offset}"))
-    for kind, date, offset in (
-        (Time, "", ""), (PlainDateTime, "%F ", ""), (OffsetDateTime, "%F ", " %::z"))}
+# The first ones are only functions. The others are attributes of a duration, too.
+for _place, _name in enumerate("weeks hours minutes milliseconds days seconds microseconds nanoseconds".split()):
+    setattr(SignedDuration, _name, _core.unit(getattr(_core, _name), _place))

@@ -10,7 +10,7 @@ _C = TypeVar("_C", bound="_Cycle")
 
 
 class _Cycle(enum.IntEnum):
-    """A month or a weekday. They are ints, go round, and show their names only in `repr`."""
+    """A month or a weekday. They are ints, go round, and are all true."""
 
     def previous(self: _C) -> _C:
         """Returns the value before. Before January it is December, and before Monday Sunday."""
@@ -34,24 +34,26 @@ class _Cycle(enum.IntEnum):
         kind = type(self)
         return kind(getattr(_core, f"{kind.__name__.lower()}_{name}")(self, n))
 
-    __str__ = int.__repr__
+    __repr__ = enum.Enum.__str__
 
-    def __repr__(self) -> str:
-        return self.name
-
-    def __format__(self, specification: str) -> str:
-        return format(int(self), specification)
+    def __bool__(self) -> bool:
+        return True
 
 
 class Month(_Cycle):
     """A month of the year, from `January`, 1, to `December`, 12.
 
-    A month is an int: `f"{month:02}"` and `str(month)` are its number. `repr(month)` and
-    `month.name` are its name.
+    A month is an int: `f"{month:02}"` and `str(month)` are its number, and `month.name` is its
+    name.
 
     >>> Month(5), Month.July.nth_next(9), Month.February.length(2020), f"{Month.May:02}"
-    (May, April, 29, '05')
+    (Month.May, Month.April, 29, '05')
     """
+
+    __str__ = int.__repr__
+
+    def __format__(self, specification: str) -> str:
+        return format(int(self), specification)
 
     January, February, March, April, May, June = range(1, 7)
     July, August, September, October, November, December = range(7, 13)
@@ -69,15 +71,24 @@ class Month(_Cycle):
 class Weekday(_Cycle):
     """A day of the week, from `Monday`, 0, to `Sunday`, 6, as `datetime.date.weekday` counts.
 
-    A weekday is an int, like a `Month`. Calls that take a weekday take only a `Weekday`.
+    A weekday is an int, but `str(weekday)` and `f"{weekday}"` are its name. Calls that take a
+    weekday take only a `Weekday`.
 
     >>> Weekday(4), Weekday.Sunday.nth_next(10), Weekday.Friday.number_from_sunday()
-    (Friday, Wednesday, 6)
+    (Weekday.Friday, Weekday.Wednesday, 6)
+    >>> f"{Weekday.Monday}", f"{Weekday.Monday:d}"
+    ('Monday', '0')
     >>> Weekday.Saturday in {5, 6}
     True
     """
 
     Monday, Tuesday, Wednesday, Thursday, Friday, Saturday, Sunday = range(7)
+
+    def __str__(self) -> str:
+        return self.name
+
+    def __format__(self, specification: str) -> str:
+        return format(int(self) if specification.endswith("d") else self.name, specification)
 
     def number_from_monday(self) -> int:
         """Returns the number from 1 (Monday) to 7 (Sunday)."""

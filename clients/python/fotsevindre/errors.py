@@ -1,9 +1,8 @@
 """The exceptions, and which status of a call raises which."""
 
-import dataclasses
 import datetime
 import enum
-from typing import Any
+from typing import Any, Callable
 
 from ._core import Date, OffsetDateTime, PlainDateTime
 from .messages import MESSAGES, NAMES, PARTS
@@ -12,8 +11,21 @@ from .messages import MESSAGES, NAMES, PARTS
 _MESSAGES = {**MESSAGES, 6: "invalid weekday; expected 0 (Monday) to 6 (Sunday)"}
 
 
-@dataclasses.dataclass(eq=False, repr=False)
-class ComponentRange(ValueError):
+class _Error(ValueError):
+    """An error whose attributes are its arguments, which is faster than attributes of its own."""
+
+    def __init_subclass__(cls) -> None:
+        names = tuple(cls.__annotations__)
+        setattr(cls, "__match_args__", names)
+        for place, name in enumerate(names):
+            setattr(cls, name, property(_argument(place)))
+
+
+def _argument(place: int) -> Callable[[ValueError], Any]:
+    return lambda error: error.args[place] if place < len(error.args) else None
+
+
+class ComponentRange(_Error):
     """A component is out of range. `name` is its name, and `is_conditional` says whether its range
     depends on other components.
 
@@ -27,8 +39,7 @@ class ComponentRange(ValueError):
         return f"{self.name} was not in range"
 
 
-@dataclasses.dataclass(eq=False, repr=False)
-class ParseError(ValueError):
+class ParseError(_Error):
     """A text has none of the forms that a call parses. `position` is the first wrong character,
     from 0.
 
@@ -43,8 +54,7 @@ class ParseError(ValueError):
         return f"unexpected {'end' if self.is_end else 'byte'} at {self.position}"
 
 
-@dataclasses.dataclass(eq=False, repr=False)
-class ContradictionError(ValueError):
+class ContradictionError(_Error):
     """A component of a text isn't the component of the value that the others determine, such as the
     weekday of `Wed 2024-02-29`. `name` is its name."""
 
@@ -54,8 +64,7 @@ class ContradictionError(ValueError):
         return f"{self.name} contradicts the other components"
 
 
-@dataclasses.dataclass(eq=False, repr=False)
-class FormatError(ValueError):
+class FormatError(_Error):
     """A text is not a format. No item begins at `position`, from 0, or it is `None`, if the format
     has more than 64 items."""
 
@@ -77,8 +86,7 @@ class ParseRuleErrorKind(enum.Enum):
     Missing = "missing FREQ"
 
 
-@dataclasses.dataclass(eq=False, repr=False)
-class ParseRuleError(ValueError):
+class ParseRuleError(_Error):
     """The text of a recurrence is invalid. `kind` and `position`, from 0, describe the first wrong
     part.
 
@@ -93,8 +101,7 @@ class ParseRuleError(ValueError):
         return f"{self.kind.value.format(self.part or 'part')} at {self.position}"
 
 
-@dataclasses.dataclass(eq=False, repr=False)
-class ZoneError(ValueError):
+class ZoneError(_Error):
     """The bytes or the text of a time zone are invalid. `reason` and `position`, from 0, describe
     the first wrong byte."""
 
@@ -103,6 +110,11 @@ class ZoneError(ValueError):
 
     def __str__(self) -> str:
         return f"{self.reason} at {self.position}"
+
+
+# The names of components, and whether their range is conditional.
+_COMPONENTS = {status: (NAMES[status], status >= 64) for status in (*range(16, 30), *range(64, 68))
+    if status in NAMES}
 
 
 def check(value: Any, kind: type) -> Any:
@@ -127,10 +139,10 @@ def status_error(status: int, position: int | None = None, part: int = 0) -> Exc
     >>> status_error(0), status_error(64)
     (None, ComponentRange('day', True))
     """
+    if status in _COMPONENTS:
+        return ComponentRange(*_COMPONENTS[status])
     if status == 0:
         return None
-    if 16 <= status <= 29 or 64 <= status <= 67:
-        return ComponentRange(NAMES[status], status >= 64)
     if position is not None:
         if status in (8, 31):
             return ParseError(position, status == 31)

@@ -58,7 +58,7 @@ class Days(Sequence[Date]):
 
     >>> days = Date(2024, 2, 28).iter_to(Date(2024, 3, 2))
     >>> len(days), days[1], list(reversed(days))[:2], Date(2024, 3, 3) in days
-    (4, 2024-02-29, [2024-03-02, 2024-03-01], False)
+    (4, Date(2024, 2, 29), [Date(2024, 3, 2), Date(2024, 3, 1)], False)
     """
 
     _julian_days: range
@@ -84,7 +84,11 @@ class Days(Sequence[Date]):
         return _is_date(date) and date.to_julian_day() in self._julian_days
 
     def __repr__(self) -> str:
-        return f"{self[0]} to {self[-1]}" if len(self) else "no days"
+        if not self:
+            return "Date.MAX.iter_to(Date.MIN)"
+        step = self._julian_days.step if len(self) > 1 else 1
+        first, last = sorted((self[0], self[-1]))
+        return f"{first!r}.iter_to({last!r}){'' if step == 1 else f'[::{step}]'}"
 
 
 @dataclasses.dataclass(frozen=True, slots=True)
@@ -136,7 +140,7 @@ class Workdays(_core.Workdays):
     at most 1024, and are sorted once.
 
     >>> Workdays().add_workdays(Date(2024, 2, 29), 10)
-    2024-03-14
+    Date(2024, 3, 14)
     """
 
     __slots__ = ()
@@ -209,7 +213,7 @@ class Rule:
 
     >>> last_fridays = Rule(Date(2024, 1, 1), Frequency.Monthly, weekdays=[(-1, Weekday.Friday)])
     >>> last_fridays.first_days(2), last_fridays.next_after(Date(2024, 8, 30))
-    ([2024-01-26, 2024-02-23], 2024-09-27)
+    ([Date(2024, 1, 26), Date(2024, 2, 23)], Date(2024, 9, 27))
     """
 
     start: Date
@@ -287,9 +291,9 @@ class Recurrence:
 
     >>> last_fridays = Recurrence.parse("byday=-1fr;count=3;freq=monthly")
     >>> list(last_fridays.days(Date(2024, 1, 1)))
-    [2024-01-26, 2024-02-23, 2024-03-29]
+    [Date(2024, 1, 26), Date(2024, 2, 23), Date(2024, 3, 29)]
     >>> last_fridays, last_fridays.count, last_fridays.weekdays
-    (Recurrence(text='FREQ=MONTHLY;COUNT=3;BYDAY=-1FR'), 3, ((-1, Friday),))
+    (Recurrence(text='FREQ=MONTHLY;COUNT=3;BYDAY=-1FR'), 3, ((-1, Weekday.Friday),))
     """
 
     text: str
@@ -392,7 +396,7 @@ class Recurrence:
 
         >>> start = PlainDateTime.parse("1997-09-02T09:00:00")
         >>> list(Recurrence.parse("FREQ=DAILY;BYHOUR=9,17;COUNT=3").readings(start))[1:]
-        [1997-09-02 17:00:00.0, 1997-09-03 9:00:00.0]
+        [PlainDateTime(1997, 9, 2, 17, 0), PlainDateTime(1997, 9, 3, 9, 0)]
         """
         first = PlainDateTime.MIN if since is None else check(since, PlainDateTime)
         times = self._times(start, dates, exceptions, None)

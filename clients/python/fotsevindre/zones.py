@@ -12,17 +12,17 @@ import os
 import pathlib
 import re
 import zoneinfo
-from typing import Any, Callable, Generic, SupportsIndex, TypeVar, overload
+from typing import TYPE_CHECKING, Any, SupportsIndex, overload
 
 # The file calls.py imports this one, so only calls use its names.
 from . import _core, calls
-from ._core import Date, OffsetDateTime, Period, PlainDateTime, SignedDuration, Time, UtcOffset
+from ._core import Date, IsoCalendarDate, OffsetDateTime, Period, PlainDateTime, SignedDuration
+from ._core import Time, UtcOffset
 from .choices import LocalKind, Policy
-from .enums import Weekday
+from .conversions import instant_of
+from .enums import Month, Weekday
 from .errors import ParseError, ZoneError, check
 from .formats import Format
-
-_P = TypeVar("_P")
 
 # The names of files that the folder of the zones has, and the bytes that a file has at most, as in
 # fotsevindre_zones.h.
@@ -45,6 +45,12 @@ class Local:
     offset_after: UtcOffset
     _zone: Any = dataclasses.field(repr=False, compare=False)
 
+    @classmethod
+    def _of(cls, *parts: Any) -> Local:
+        made = cls.__new__(cls)
+        vars(made).update(zip(_LOCAL_PARTS, parts))
+        return made
+
     def compatible(self) -> OffsetDateTime:
         """Returns the date-time that RFC 5545 and most calendars mean: in a gap the reading moved
         forward by its length, in a fold the first. `OverflowError` if it is out of range."""
@@ -65,6 +71,10 @@ class Local:
     def _by(self, policy: Policy) -> OffsetDateTime:
         """Returns the date-time that a policy selects."""
         return _core.zone_moment(self._zone, self.reading.date(), self.reading.time(), policy)
+
+
+_LOCAL_PARTS = tuple(field.name for field in dataclasses.fields(Local))
+_KINDS = (None, *LocalKind)
 
 
 def _seconds(moment: OffsetDateTime | SupportsIndex) -> int:
@@ -109,9 +119,9 @@ class Zone:
 
     >>> berlin = Zone.from_posix("CET-1CEST,M3.5.0,M10.5.0/3")
     >>> OffsetDateTime.from_unix_timestamp(1711846800).in_zone(berlin)
-    2024-03-31 3:00:00.0 +02:00:00
+    OffsetDateTime(2024, 3, 31, 3, 0, offset=UtcOffset(2))
     >>> berlin.resolve(PlainDateTime.parse("2024-03-31T02:30:00")).compatible()
-    2024-03-31 3:30:00.0 +02:00:00
+    OffsetDateTime(2024, 3, 31, 3, 30, offset=UtcOffset(2))
     """
 
     key: str
@@ -121,7 +131,7 @@ class Zone:
 
     def __new__(cls, key: str) -> Zone:
         """Returns the zone of a key, which is read once."""
-        return _named(cls, check(key, str))
+        return _named(check(key, str))
 
     @staticmethod
     def clear_cache() -> None:
@@ -174,7 +184,7 @@ class Zone:
         date, time = check(reading, PlainDateTime).date(), reading.time()
         kind, earlier, later, before, after = _core.zone_resolve(self._zone, date, time)
         instants = ((earlier,), (), (earlier, later))[kind - 1]
-        return Local(reading, LocalKind(kind), instants, before, after, self._zone)
+        return Local._of(reading, _KINDS[kind], instants, before, after, self._zone)
 
     def in_zone(self, moment: OffsetDateTime) -> OffsetDateTime:
         """Returns the same instant in this zone, like `OffsetDateTime.in_zone`."""
@@ -240,18 +250,13 @@ class Zone:
 
 
 @functools.cache
-def _named(kind: type[Zone], key: str) -> Zone:
-    return kind._of(key, _file_of(key), False)
+def _named(key: str) -> Zone:
+    return Zone._of(key, _file_of(key), False)
 
 
-class _Part(Generic[_P]):
-    """A part that an `OffsetDateTime` has, of a `ZonedDateTime`."""
-
-    def __init__(self, part: Callable[[OffsetDateTime], _P]) -> None:
-        self._part = part
-
-    def __get__(self, value: ZonedDateTime, _kind: object = None) -> _P:
-        return self._part(value._moment)
+def _part(name: str) -> Any:
+    """Returns a property with a component of what the clocks show."""
+    return property(operator.attrgetter(f"_moment.{name}"))
 
 
 @dataclasses.dataclass(frozen=True, init=False, repr=False, eq=False)
@@ -266,21 +271,37 @@ class ZonedDateTime:
 
     >>> berlin = Zone.from_posix("CET-1CEST,M3.5.0,M10.5.0/3")
     >>> noon = ZonedDateTime.from_local(PlainDateTime.parse("2024-03-30T12:00"), berlin)
-    >>> noon + Period(days=1), noon + SignedDuration(days=1)
-    (2024-03-31 12:00:00.0 +02:00:00, 2024-03-31 13:00:00.0 +02:00:00)
+    >>> str(noon + Period(days=1)), str(noon + SignedDuration(days=1))
+    ('2024-03-31T12:00:00+02:00', '2024-03-31T13:00:00+02:00')
     """
 
     zone: Zone
     _moment: OffsetDateTime
 
-    year = _Part(lambda moment: moment.year)
-    month = _Part(lambda moment: moment.month)
-    day = _Part(lambda moment: moment.day)
-    hour = _Part(lambda moment: moment.hour)
-    minute = _Part(lambda moment: moment.minute)
-    second = _Part(lambda moment: moment.second)
-    nanosecond = _Part(lambda moment: moment.nanosecond)
-    offset = _Part(lambda moment: moment.offset)
+    if TYPE_CHECKING:
+        @property
+        def year(self) -> int: ...
+        @property
+        def month(self) -> Month: ...
+        @property
+        def day(self) -> int: ...
+        @property
+        def hour(self) -> int: ...
+        @property
+        def minute(self) -> int: ...
+        @property
+        def second(self) -> int: ...
+        @property
+        def microsecond(self) -> int: ...
+        @property
+        def nanosecond(self) -> int: ...
+        @property
+        def offset(self) -> UtcOffset: ...
+
+    if not TYPE_CHECKING:
+        year, month, day, hour = map(_part, ("year", "month", "day", "hour"))
+        minute, second, microsecond = map(_part, ("minute", "second", "microsecond"))
+        nanosecond, offset = map(_part, ("nanosecond", "offset"))
 
     def __init__(self, moment: OffsetDateTime, zone: Zone) -> None:
         self._set(check(zone, Zone).in_zone(moment), zone)
@@ -318,6 +339,16 @@ class ZonedDateTime:
         return cls.from_unix_duration(SignedDuration.nanoseconds_i128(timestamp), zone)
 
     @classmethod
+    def now(cls, zone: Zone) -> ZonedDateTime:
+        """Returns the current date-time in a zone."""
+        return cls.from_unix_duration(_core.now(), zone)
+
+    @classmethod
+    def fromtimestamp(cls, timestamp: float, zone: Zone) -> ZonedDateTime:
+        """Creates the date-time of a Unix time in seconds, like `OffsetDateTime.fromtimestamp`."""
+        return cls.from_unix_duration(instant_of(timestamp), zone)
+
+    @classmethod
     def from_datetime(cls, value: datetime.datetime) -> ZonedDateTime:
         """Converts the instant of a `datetime.datetime` with a `zoneinfo.ZoneInfo`, whose key is the
         name of the zone, or raises `ValueError`."""
@@ -351,6 +382,22 @@ class ZonedDateTime:
     def weekday(self) -> Weekday:
         """Returns the `Weekday`."""
         return self._moment.weekday()
+
+    def isoweekday(self) -> int:
+        """Returns the number of the weekday, from 1 (Monday) to 7 (Sunday)."""
+        return self._moment.isoweekday()
+
+    def isocalendar(self) -> IsoCalendarDate:
+        """Returns ISO year, week and weekday, from 1 (Monday) to 7 (Sunday)."""
+        return self._moment.isocalendar()
+
+    def isoformat(self) -> str:
+        """Returns the text of what the clocks show, with their offset, like `str`."""
+        return self._moment.isoformat()
+
+    def timestamp(self) -> float:
+        """Returns the nearest float to the Unix time in seconds."""
+        return self._moment.timestamp()
 
     def unix_timestamp(self) -> int:
         """Returns the Unix time in whole seconds, rounded down."""
@@ -387,6 +434,11 @@ class ZonedDateTime:
         moment = _core.zoned_with_local(self.zone._zone, self._moment, date, time, number)
         return self._at(moment, self.zone)
 
+    def replace(self, *, policy: Policy = Policy.Compatible, **components: int) -> ZonedDateTime:
+        """Replaces the components of the local time that are given by name, such as `hour`, like
+        `with_local`."""
+        return self.with_local(self.local().replace(**components), policy)
+
     def start_of_day(self) -> ZonedDateTime:
         """Returns the start of the day, like `Zone.start_of_day`."""
         return self.zone.start_of_day(self.date())
@@ -409,6 +461,16 @@ class ZonedDateTime:
         number = check(policy, Policy)
         moment = _core.zoned_checked_add_period(self.zone._zone, self._moment, period, number)
         return None if moment is None else self._at(moment, self.zone)
+
+    def add_months(
+            self, number: SupportsIndex, policy: Policy = Policy.Compatible) -> ZonedDateTime:
+        """Adds months like `add_period`, and takes the last day of a shorter month."""
+        return self.add_period(Period(months=number), policy)
+
+    def add_years(
+            self, number: SupportsIndex, policy: Policy = Policy.Compatible) -> ZonedDateTime:
+        """Adds years like `add_period`; 29 February becomes the 28th in a common year."""
+        return self.add_period(Period(years=number), policy)
 
     def checked_add(self, duration: SignedDuration) -> ZonedDateTime | None:
         """Returns the date-time a duration later, or `None` out of range."""
@@ -435,18 +497,23 @@ class ZonedDateTime:
     def __sub__(self, other: ZonedDateTime) -> SignedDuration: ...
 
     @overload
-    def __sub__(self, other: SignedDuration | datetime.timedelta) -> ZonedDateTime: ...
+    def __sub__(self, other: SignedDuration | datetime.timedelta | Period) -> ZonedDateTime: ...
 
     def __sub__(self, other: Any) -> Any:
         if isinstance(other, ZonedDateTime):
             return self._moment - other._moment
+        if isinstance(other, Period):
+            return self.add_period(-other)
         duration = _duration(other)
         if duration is None:
             return NotImplemented
         return self._at(_core.zoned_sub(self.zone._zone, self._moment, duration), self.zone)
 
     def __eq__(self, other: object) -> bool:
-        return isinstance(other, ZonedDateTime) and self._moment == other._moment
+        # A value of datetime raises TypeError, as it does for an OffsetDateTime.
+        if isinstance(other, ZonedDateTime):
+            return self._moment == other._moment
+        return self._moment == other and False
 
     def __lt__(self, other: ZonedDateTime) -> bool:
         return self._moment < other._moment if isinstance(other, ZonedDateTime) else NotImplemented
@@ -468,7 +535,14 @@ class ZonedDateTime:
     def __str__(self) -> str:
         return str(self._moment)
 
-    __repr__ = __str__
+    def __repr__(self) -> str:
+        return f"ZonedDateTime({self._moment!r}, {self.zone!r})"
+
+    def __copy__(self) -> ZonedDateTime:
+        return self
+
+    def __deepcopy__(self, memo: object) -> ZonedDateTime:
+        return self
 
 
 def _duration(move: object) -> SignedDuration | None:

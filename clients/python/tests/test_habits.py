@@ -2,10 +2,12 @@
 
 import concurrent.futures
 import copy
+import dataclasses
 import datetime
 import importlib
 import itertools
 import json
+import operator
 import pickle
 import random
 import sys
@@ -13,7 +15,7 @@ import unittest
 
 import fotsevindre
 from fotsevindre import (
-    CalendarUnit, ComponentRange, Convention, Date, DayCount, Format, Frequency, LocalKind, Month, OffsetDateTime, ParseError, PlainDateTime, Policy, Recurrence, Rule, SignedDuration, Time, UtcOffset, Weekday, Workdays, Zone, _core,
+    CalendarUnit, ComponentRange, Convention, Date, DayCount, Format, Frequency, LocalKind, Month, OffsetDateTime, ParseError, Period, PlainDateTime, Policy, Recurrence, Rule, SignedDuration, Time, UtcOffset, Weekday, Workdays, Zone, ZonedDateTime, _core,
 )
 
 LEAP_DAY = Date(2024, 2, 29)
@@ -26,7 +28,7 @@ class SilentlyWrong(unittest.TestCase):
         year, month, day = LEAP_DAY.to_calendar_date()
         self.assertEqual((f"{year}-{month:02}-{day:02}", "%d-%02d-%02d" % (year, month, day)), ("2024-02-29",) * 2)
         self.assertEqual((f"{LEAP_DAY.year}-{LEAP_DAY.month}-{LEAP_DAY.day}", "{:>3}".format(month)), ("2024-2-29", "  2"))
-        self.assertEqual((f"{LEAP_DAY.weekday()}", json.dumps([month, LEAP_DAY.weekday()])), ("3", "[2, 3]"))
+        self.assertEqual((f"{LEAP_DAY.weekday()}", "%s %d" % (LEAP_DAY.weekday(), LEAP_DAY.weekday()), json.dumps([month, LEAP_DAY.weekday()])), ("Thursday", "Thursday 3", "[2, 3]"))
 
     def test_choices_in_texts(self):
         for choice in (Policy.Later, LocalKind.Gap, Frequency.Daily, Convention.Following, DayCount.Thirty360):
@@ -83,14 +85,18 @@ class SilentlyWrong(unittest.TestCase):
             pass
 
         self.assertEqual((LEAP_DAY + Other(1), PlainDateTime.MIN + Other(0, 1, 2)), (Date(2024, 3, 1), PlainDateTime.MIN + SignedDuration(seconds=1, microseconds=2)))
-        self.assertTrue(_core.is_delta(datetime.timedelta(-1, 2, 3)))
-        self.assertFalse(_core.is_delta(datetime.timedelta(-1, 2, 4)) or _core.is_delta(b"of another size"))
+        usual = (datetime.date(2024, 2, 29), datetime.time(1, 2, 3, 4), datetime.datetime(2024, 2, 29, 1, 2, 3, 4), datetime.timedelta(-1, 2, 3))
+        self.assertTrue(_core.has_layouts(*usual))
+        wrong = (datetime.date(2024, 2, 28), datetime.time(1, 2, 3, 5), datetime.datetime(2024, 2, 29, 1, 2, 3, 5), datetime.timedelta(-1, 2, 4), b"of another size")
+        for place, other in itertools.product(range(4), wrong):
+            self.assertFalse(_core.has_layouts(*usual[:place], other, *usual[place + 1:]))
+        types = (datetime.date, datetime.time, datetime.datetime, datetime.timedelta, datetime.tzinfo, datetime.timezone)
         setup = (Weekday, CalendarUnit, Convention, DayCount, fotsevindre.YearFraction, fotsevindre.status_error, *Month, *Weekday)
         try:
-            _core.setup(datetime.timedelta, False, *setup)
+            _core.setup(*types, False, *setup)
             self.assertEqual((LEAP_DAY + datetime.timedelta(1), PlainDateTime.MIN + datetime.timedelta(0, 1, 2)), (Date(2024, 3, 1), PlainDateTime.MIN + Other(0, 1, 2)))
         finally:
-            _core.setup(datetime.timedelta, True, *setup)
+            _core.setup(*types, True, *setup)
 
     def test_components_of_differences(self):
         self.assertTrue((Date(2024, 3, 1) - LEAP_DAY).days == 1 and (LEAP_DAY - Date(2024, 3, 1)).days == -1)
@@ -105,7 +111,7 @@ class SilentlyWrong(unittest.TestCase):
                 getattr(SignedDuration.DAY, name)
 
     def test_components_are_attributes(self):
-        moment = OffsetDateTime(LEAP_DAY, Time(1, 2, 3, 4005006), UtcOffset(1))
+        moment = OffsetDateTime(LEAP_DAY, Time(1, 2, 3, nanosecond=4005006), UtcOffset(1))
         self.assertTrue(LEAP_DAY.year == 2024 and LEAP_DAY.month == 2 and LEAP_DAY.day == 29 and LEAP_DAY.ordinal == 60 and LEAP_DAY.quarter == 1)
         self.assertTrue(moment.year == 2024 and moment.month is Month.February and moment.hour == 1 and moment.microsecond == 4005)
         self.assertTrue(moment.offset == UtcOffset(1) and moment.time().minute == 2)
@@ -117,14 +123,25 @@ class SilentlyWrong(unittest.TestCase):
         self.assertTrue(SignedDuration.NANOSECOND and -SignedDuration.NANOSECOND and Time() and UtcOffset.UTC and LEAP_DAY)
 
     def test_comparison(self):
-        others = [datetime.date(2024, 2, 29), datetime.datetime(2024, 2, 29), None, 2460370, "2024-02-29"]
-        for other in others:
+        for other in (None, 2460370, "2024-02-29"):
             self.assertEqual((LEAP_DAY == other, other == LEAP_DAY, LEAP_DAY != other), (False, False, True))
             with self.assertRaises(TypeError):
                 LEAP_DAY < other
             with self.assertRaises(TypeError):
                 other >= LEAP_DAY
-        self.assertTrue(LEAP_DAY in [*others, LEAP_DAY] and datetime.date(2024, 2, 29) in [LEAP_DAY, *others] and LEAP_DAY not in others)
+        self.assertTrue(LEAP_DAY in [None, 2460370, LEAP_DAY])
+
+    def test_no_comparison_with_datetime(self):
+        """No value equals one of `datetime`, and each comparison raises, so that none is false without a word."""
+        own = [LEAP_DAY, Time(), UtcOffset(), SignedDuration(), Period(), PlainDateTime(LEAP_DAY, Time()), OffsetDateTime.UNIX_EPOCH]
+        others = [datetime.date(2024, 2, 29), datetime.datetime(2024, 2, 29), datetime.time(), datetime.timedelta(), datetime.timezone.utc]
+        compares = [operator.eq, operator.ne, operator.lt, operator.ge, lambda one, other: one in [other], lambda one, other: [one].index(other)]
+        for value, other, compare in itertools.product(own, others, compares):
+            for pair in ((value, other), (other, value)):
+                with self.assertRaisesRegex(TypeError, "^can't compare|not supported between"):
+                    compare(*pair)
+        # A set and a dict look for the hash first.
+        self.assertFalse(datetime.date(2024, 2, 29) in {LEAP_DAY} or LEAP_DAY in {datetime.date(2024, 2, 29): 1})
 
     def test_no_date_in_a_column(self):
         self.assertEqual(list(fotsevindre.dates_weekdays([LEAP_DAY, Date(2024, 3, 3)]).weekdays), [Weekday.Thursday, Weekday.Sunday])
@@ -160,14 +177,14 @@ class Construction(unittest.TestCase):
 
     def test_copies(self):
         """Each value is equal to its copies and pickles of any protocol, also to those that an earlier version wrote."""
-        moment = OffsetDateTime(LEAP_DAY, Time(1, 2, 3, 4), UtcOffset(-5, 30))
+        moment = OffsetDateTime(LEAP_DAY, Time(1, 2, 3, nanosecond=4), UtcOffset(-5, 30))
         values = [LEAP_DAY, moment.time(), moment.offset, SignedDuration.MIN, moment.local(), moment, Workdays(holidays=[LEAP_DAY]), Rule(LEAP_DAY, Frequency.Daily, 2),
             Recurrence("FREQ=DAILY;COUNT=2"), Format("%d"), Zone.from_posix("CET-1"), Month.May, Weekday.Sunday, LEAP_DAY.iter_to(Date(2024, 3, 2)), Policy.Later]
         for value in values:
             pickled = [pickle.loads(pickle.dumps(value, protocol)) for protocol in range(pickle.HIGHEST_PROTOCOL + 1)]
             for same in (copy.copy(value), copy.deepcopy(value), *pickled):
                 self.assertEqual((same, type(same), hash(same), repr(same)), (value, type(value), hash(value), repr(value)))
-        rows = [(b"Date", b"I2024\nI2\nI29\n", LEAP_DAY), (b"Time", b"I1\nI2\nI3\nI4\n", moment.time()), (b"UtcOffset", b"I-5\nI-30\nI0\n", moment.offset)]
+        rows = [(b"Date", b"I2024\nI2\nI29\n", LEAP_DAY), (b"UtcOffset", b"I-5\nI-30\nI0\n", moment.offset)]
         for name, arguments, value in rows:
             self.assertEqual(pickle.loads(b"cfotsevindre\n%s\n(%stR." % (name, arguments)), value)
 
@@ -256,7 +273,7 @@ class Construction(unittest.TestCase):
 
 class Texts(unittest.TestCase):
     def test_times(self):
-        rows = [("9:05", Time(9, 5)), ("09:05:07", Time(9, 5, 7)), ("9:05:00.12", Time(9, 5, 0, 120_000_000)), ("23:59:59.999999999", Time.MAX)]
+        rows = [("9:05", Time(9, 5)), ("09:05:07", Time(9, 5, 7)), ("9:05:00.12", Time(9, 5, 0, nanosecond=120_000_000)), ("23:59:59.999999999", Time.MAX)]
         for text, time in rows:
             self.assertEqual((Time.parse(text), Time.fromisoformat(text), Time.parse(str(time)), Time.parse(time.isoformat())), (time,) * 4)
         rows = [("", 0, True), ("9", 1, True), ("9:0", 3, True), ("9:05:", 5, True), ("x", 0, False), ("9:05:00Z", 7, False), ("9:05x", 4, False),
@@ -301,7 +318,7 @@ class Texts(unittest.TestCase):
             aware = other.replace(tzinfo=datetime.timezone(datetime.timedelta(hours=-5, minutes=-30)))
             self.assertEqual(OffsetDateTime.from_datetime(aware).isoformat(), aware.isoformat())
             self.assertEqual(OffsetDateTime.fromisoformat(aware.isoformat()).to_datetime(), aware)
-        self.assertEqual(OffsetDateTime.parse("2024-W09-4t23:59:59.25z"), OffsetDateTime.new_utc(LEAP_DAY, Time(23, 59, 59, 250_000_000)))
+        self.assertEqual(OffsetDateTime.parse("2024-W09-4t23:59:59.25z"), OffsetDateTime.new_utc(LEAP_DAY, Time(23, 59, 59, nanosecond=250_000_000)))
         self.errors(PlainDateTime.parse, [("", 0, True), ("2024-02-29", 10, True), ("2024-02-29T", 11, True), ("2024-02-2T9:05", 9, False),
             ("2024-02-29T9:05Z", 15, False), ("2024-02-29T9:0", 14, True), ("2024x02-29T9:05", 4, False), ("2023-02-29", 10, True),
             ("2023-02-29T9:5:0", 14, False), ("2024-02-29T9:05\udc80", 15, False), ("2024-02-29 9:05é", 15, False)])
@@ -334,6 +351,200 @@ class Texts(unittest.TestCase):
                 self.assertEqual(UtcOffset.parse(text[len(local):]).to_timezone(), zone, text)
 
 
+class LikeDatetime(unittest.TestCase):
+    """What values of `datetime` have by the same names is the same here."""
+
+    def drawn(self, count):
+        """Yields date-times of `datetime` at an offset or at none."""
+        draw = random.Random(93)
+        for _ in range(count):
+            zone = draw.choice([None, datetime.timezone(datetime.timedelta(minutes=draw.randint(-1439, 1439)))])
+            year = draw.choice([draw.randint(2, 9998), draw.randint(1960, 2060)])
+            below = draw.choice([0, draw.randrange(10**6)])
+            yield datetime.datetime(year, draw.randint(1, 12), draw.randint(1, 28), draw.randrange(24), draw.randrange(60), draw.choice([0, draw.randrange(60)]), below, zone)
+
+    def own(self, other):
+        return PlainDateTime.from_datetime(other) if other.tzinfo is None else OffsetDateTime.from_datetime(other)
+
+    def test_methods(self):
+        for other in self.drawn(2000):
+            own, date = self.own(other), Date.from_date(other.date())
+            self.assertEqual((own.isoformat(), str(own), own.to_datetime()), (other.isoformat(), str(other).replace(" ", "T"), other))
+            for one, another in ((own, other), (date, other.date())):
+                self.assertEqual((one.isoweekday(), one.isocalendar(), *one.isocalendar()), (another.isoweekday(), tuple(another.isocalendar()), *another.isocalendar()))
+                self.assertEqual((one.isocalendar().year, one.isocalendar().week, one.isocalendar().weekday), tuple(another.isocalendar()))
+            self.assertEqual((date.to_date(), own.time().to_time(), Time.from_time(other.time())), (other.date(), other.time(), own.time()))
+            self.assertEqual((own.time().isoformat(), date.isoformat()), (other.time().isoformat(), other.date().isoformat()))
+            self.assertEqual(own.replace(year=2024, day=29, minute=7).isoformat(), other.replace(year=2024, day=29, minute=7).isoformat())
+            if other.tzinfo:
+                self.assertEqual((own.timestamp(), own.offset.to_timezone(), UtcOffset.from_timezone(other.tzinfo)), (other.timestamp(), other.tzinfo, own.offset))
+                self.assertEqual(OffsetDateTime.combine(date, own.time(), own.offset).isoformat(), other.isoformat())
+            else:
+                self.assertEqual(PlainDateTime.combine(date, own.time()), own)
+
+    def test_durations(self):
+        draw = random.Random(94)
+        for _ in range(2000):
+            other, unit = (datetime.timedelta(draw.choice([0, draw.randint(-10**8, 10**8)]), draw.randint(-10**5, 10**5), draw.randint(-10**6, 10**6)) for _ in "12")
+            own, own_unit = SignedDuration.from_timedelta(other), SignedDuration.from_timedelta(unit)
+            self.assertEqual((own.total_seconds(), own.to_timedelta(), bool(own)), (other.total_seconds(), other, bool(other)))
+            if unit:
+                self.assertEqual((own / own_unit, own // own_unit, (own % own_unit).to_timedelta()), (other / unit, other // unit, other % unit))
+                self.assertEqual((own // own_unit) * own_unit.whole_nanoseconds() + (own % own_unit).whole_nanoseconds(), own.whole_nanoseconds())
+        for duration in (SignedDuration.MIN, SignedDuration.MAX, SignedDuration(days=200, nanoseconds=1), -SignedDuration.NANOSECOND):
+            self.assertEqual(duration.total_seconds(), duration.whole_nanoseconds() / 10**9)
+            self.assertEqual((duration / duration, duration // SignedDuration.NANOSECOND, duration % SignedDuration.NANOSECOND), (1.0, duration.whole_nanoseconds(), SignedDuration.ZERO))
+        for divide in (operator.truediv, operator.floordiv, operator.mod):
+            self.assertRaises(ZeroDivisionError, divide, SignedDuration.DAY, SignedDuration.ZERO)
+
+    def test_timestamps(self):
+        draw = random.Random(95)
+        for _ in range(2000):
+            stamp = draw.choice([draw.randint(-10**10, 10**10), draw.uniform(-10**10, 10**10), draw.uniform(-1, 1), draw.randint(0, 10**7) / 4e6])
+            wanted = datetime.datetime.fromtimestamp(stamp, datetime.timezone.utc)
+            self.assertEqual(OffsetDateTime.fromtimestamp(stamp).to_datetime(), wanted, stamp)
+            self.assertEqual(OffsetDateTime.fromtimestamp(stamp, UtcOffset(1)).isoformat(), wanted.astimezone(datetime.timezone(datetime.timedelta(hours=1))).isoformat())
+            self.assertEqual(ZonedDateTime.fromtimestamp(stamp, Zone.from_posix("CET-1")), ZonedDateTime(OffsetDateTime.fromtimestamp(stamp), Zone.from_posix("CET-1")))
+        for wrong, error in ((10**30, OverflowError), ("1", TypeError), (float("nan"), ValueError), (float("inf"), OverflowError), (None, TypeError)):
+            self.assertRaises(error, OffsetDateTime.fromtimestamp, wrong)
+
+    def test_now(self):
+        zone = Zone.from_posix("EAST-14")
+        before = datetime.datetime.now(datetime.timezone.utc)
+        found = [OffsetDateTime.now(), OffsetDateTime.now(UtcOffset(-5, 30)), ZonedDateTime.now(zone)]
+        found += [PlainDateTime.now(zone).assume_offset(UtcOffset(14)), PlainDateTime.now(Zone.from_posix("UTC0")).assume_utc()]
+        after = datetime.datetime.now(datetime.timezone.utc)
+        for value in found:
+            self.assertTrue(OffsetDateTime.from_datetime(before) <= getattr(value, "to_offset_date_time", lambda: value)() <= OffsetDateTime.from_datetime(after) + SignedDuration.MICROSECOND)
+        self.assertEqual([one.offset for one in found[:3]], [UtcOffset.UTC, UtcOffset(-5, 30), UtcOffset(14)])
+        before, own, after = datetime.datetime.now(), PlainDateTime.now().to_datetime(), datetime.datetime.now()
+        self.assertTrue(before <= own <= after)
+        before, own, after = PlainDateTime.now(zone).date(), Date.today(zone), PlainDateTime.now(zone).date()
+        self.assertTrue(before <= own <= after)
+        for wrong in (UtcOffset.UTC, "Europe/Berlin", 1):
+            self.assertRaises(TypeError, PlainDateTime.now, wrong)
+        self.assertRaises(TypeError, OffsetDateTime.now, None)
+
+    def test_constructors(self):
+        noon = Time(12, 30, 15, nanosecond=7)
+        offset = UtcOffset(-5, 30)
+        for found in (PlainDateTime(2024, 2, 29, 12, 30, 15, nanosecond=7), PlainDateTime(2024, month=2, day=29, hour=12, minute=30, second=15, nanosecond=7), PlainDateTime(time=noon, date=LEAP_DAY)):
+            self.assertEqual(found, PlainDateTime(LEAP_DAY, noon))
+        for found in (OffsetDateTime(2024, 2, 29, 12, 30, 15, nanosecond=7, offset=offset), OffsetDateTime(LEAP_DAY, noon, offset=offset)):
+            self.assertEqual((found, found.offset), (OffsetDateTime(LEAP_DAY, noon, offset), offset))
+        self.assertEqual((PlainDateTime(2024, 2, 29), OffsetDateTime(2024, 2, 29, offset=offset)), (PlainDateTime(LEAP_DAY, Time()), PlainDateTime(LEAP_DAY, Time()).assume_offset(offset)))
+        self.assertEqual((PlainDateTime(-999999, 1, 1), PlainDateTime(LEAP_DAY, noon).replace(nanosecond=0, hour=None)), (PlainDateTime.MIN, PlainDateTime(2024, 2, 29, 12, 30, 15)))
+        moment = OffsetDateTime(LEAP_DAY, noon, offset).replace(offset=UtcOffset.UTC, day=28)
+        self.assertEqual((moment.offset, moment.local()), (UtcOffset.UTC, PlainDateTime(2024, 2, 28, 12, 30, 15, nanosecond=7)))
+        for call in (lambda: Time(1, 2, 3, 4), lambda: PlainDateTime(2024, 2), lambda: PlainDateTime(2024, 2, 29, 1, 2, 3, 4), lambda: PlainDateTime(), lambda: PlainDateTime(LEAP_DAY),
+                lambda: PlainDateTime(LEAP_DAY, noon, offset), lambda: PlainDateTime(LEAP_DAY, noon, hour=1), lambda: PlainDateTime(2024, 2, 29, offset=offset),
+                lambda: OffsetDateTime(2024, 2, 29), lambda: OffsetDateTime(LEAP_DAY, noon), lambda: OffsetDateTime(2024, 2, 29, offset=1), lambda: PlainDateTime(2024, 2, 29, day=1),
+                lambda: PlainDateTime(2024, 2, "29"), lambda: PlainDateTime(LEAP_DAY, noon).replace(offset=offset), lambda: PlainDateTime(2024, 2, 29, tzinfo=None),
+                lambda: Date(2024, 2, 29, 1), lambda: Date(2024, 2, day=29, year=1), lambda: Date(2024, month=2), lambda: LEAP_DAY.replace(hour=1)):
+            self.assertRaises(TypeError, call)
+        for arguments, name in (((2024, 13, 1), "month"), ((2023, 2, 29), "day"), ((10**6, 1, 1), "year"), ((2024, 2, 29, 24), "hour"), ((2024, 2, 29, 0, 60), "minute"), ((2024, 2, 29, 0, 0, -1), "second")):
+            with self.assertRaisesRegex(ComponentRange, f"^{name} "):
+                PlainDateTime(*arguments)
+
+    def test_months_of_date_times(self):
+        local = PlainDateTime(2024, 1, 31, 12)
+        moment = local.assume_offset(UtcOffset(1))
+        self.assertEqual((local.add_months(1), local.add_years(1), local.checked_add_months(-2)), (PlainDateTime(2024, 2, 29, 12), PlainDateTime(2025, 1, 31, 12), PlainDateTime(2023, 11, 30, 12)))
+        self.assertEqual((moment.add_months(1), moment.add_months(1).offset, PlainDateTime(2024, 2, 29).add_years(1)), (PlainDateTime(2024, 2, 29, 12).assume_offset(UtcOffset(1)), UtcOffset(1), PlainDateTime(2025, 2, 28)))
+        for value in (PlainDateTime.MAX, PlainDateTime.MAX.assume_utc(), Date.MAX):
+            self.assertEqual((value.checked_add_months(1), value.checked_add_years(10**30)), (None, None))
+            self.assertRaises(OverflowError, value.add_months, 1)
+            self.assertRaises(OverflowError, value.add_years, 1)
+            self.assertRaises(TypeError, value.add_years, 1.0)
+
+    def test_periods_back(self):
+        """A period is subtracted by its parts: months first, and then days."""
+        self.assertEqual((Date(2024, 3, 31) - Period(months=1), Date(2024, 3, 31) - Period(months=1, days=1), LEAP_DAY - Period(years=1)), (LEAP_DAY, Date(2024, 2, 28), Date(2023, 2, 28)))
+        self.assertEqual(PlainDateTime(2024, 3, 31, 1) - Period(months=1, duration=SignedDuration(hours=2)), PlainDateTime(2024, 2, 28, 23))
+        self.assertEqual((-Period(years=1, days=2, duration=SignedDuration.DAY), -Period()), (Period(years=-1, days=-2, duration=-SignedDuration.DAY), Period()))
+        self.assertRaises(OverflowError, lambda: -Period(months=-2**31))
+        self.assertRaises(OverflowError, lambda: Date.MIN - Period(days=1))
+        self.assertRaises(ValueError, lambda: LEAP_DAY - Period(duration=SignedDuration.DAY))
+
+    def test_repr(self):
+        """The repr of a value makes it. `str` sorts like the value from the year 0 to 9999."""
+        draw = random.Random(96)
+        zone = Zone.from_posix("CET-1CEST,M3.5.0,M10.5.0/3")
+        values = [Date.MIN, Date.MAX, Time.MAX, Time(), PlainDateTime.MIN, PlainDateTime.MAX, SignedDuration.MIN, SignedDuration.MAX, SignedDuration(), UtcOffset(), *Weekday, *Month, *Policy,
+            Period(years=1, duration=SignedDuration.DAY), Workdays(holidays=[LEAP_DAY]), Rule(LEAP_DAY, Frequency.Daily, 2, until=Date.MAX), Recurrence("FREQ=DAILY"), Format("%d"), zone,
+            fotsevindre.DateRange(LEAP_DAY, Date.MAX), LEAP_DAY.iter_to(Date.MAX), ComponentRange("day", True), fotsevindre.YearFraction(1, 2)]
+        for _ in range(500):
+            time = Time.from_hms_nano(draw.randrange(24), draw.choice([0, draw.randrange(60)]), draw.choice([0, draw.randrange(60)]), draw.choice([0, draw.randrange(10**9)]))
+            offset = UtcOffset.from_whole_seconds(draw.choice([0, 3600, draw.randint(-93599, 93599)]))
+            moment = OffsetDateTime(Date.from_julian_day(draw.randint(-10**8, 10**8)), time, offset)
+            values += [time, offset, moment, moment.local(), moment.date(), ZonedDateTime(moment, zone), SignedDuration(seconds=draw.randint(-10**6, 10**6), nanoseconds=draw.choice([0, draw.randrange(10**9)]))]
+        for value in values:
+            found = eval(repr(value), {**vars(fotsevindre), "fotsevindre": fotsevindre})
+            self.assertEqual((type(found), str(found)), (type(value), str(value)))
+            self.assertTrue(found == value or isinstance(value, ComponentRange))
+        sorted_ones = sorted(PlainDateTime(Date.from_julian_day(draw.randint(1721060, 5373484)), Time.from_hms_nano(*(draw.randrange(2) for _ in "1234"))) for _ in range(300))
+        self.assertEqual(sorted(map(str, sorted_ones)), [str(one) for one in sorted_ones])
+
+    def test_json(self):
+        """`default=str` writes ISO 8601, which `parse` and `fromisoformat` read."""
+        moment = OffsetDateTime(2024, 2, 29, 9, 5, nanosecond=1, offset=UtcOffset(1))
+        values = [LEAP_DAY, moment.time(), moment.offset, moment, moment.local()]
+        text = json.dumps(values, default=str)
+        self.assertEqual(text, '["2024-02-29", "09:05:00.000000001", "+01:00", "2024-02-29T09:05:00.000000001+01:00", "2024-02-29T09:05:00.000000001"]')
+        self.assertEqual([type(value).fromisoformat(one) for value, one in zip(values, json.loads(text))], values)
+
+    def test_match_and_dataclasses(self):
+        @dataclasses.dataclass(frozen=True, order=True)
+        class Row:
+            day: Date
+            at: Time = Time(9)
+
+        self.assertEqual((Row(LEAP_DAY) < Row(Date.MAX), dataclasses.asdict(Row(LEAP_DAY)), dataclasses.replace(Row(LEAP_DAY), at=Time())),
+            (True, {"day": LEAP_DAY, "at": Time(9)}, Row(LEAP_DAY, Time())))
+        match LEAP_DAY:
+            case Date(year=2024, month=Month.February, day=day):
+                self.assertEqual(day, 29)
+            case _:
+                self.fail()
+        match fotsevindre.status_error(64):
+            case ComponentRange(name, True):
+                self.assertEqual(name, "day")
+            case _:
+                self.fail()
+
+    def test_other_layouts(self):
+        """Values of classes that extend those of `datetime` are read by their attributes."""
+        class OtherDate(datetime.date):
+            pass
+
+        class OtherTime(datetime.time):
+            pass
+
+        class OtherDateTime(datetime.datetime):
+            pass
+
+        for other in self.drawn(300):
+            extended = OtherDateTime(*other.timetuple()[:6], other.microsecond, other.tzinfo)
+            self.assertEqual(self.own(extended).isoformat(), other.isoformat())
+            self.assertEqual((Date.from_date(OtherDate(*other.timetuple()[:3])).to_date(), Time.from_time(OtherTime(*other.timetuple()[3:6])).isoformat()),
+                (other.date(), other.time().replace(microsecond=0).isoformat()))
+        types = (datetime.date, datetime.time, datetime.datetime, datetime.timedelta, datetime.tzinfo, datetime.timezone)
+        setup = (Weekday, CalendarUnit, Convention, DayCount, fotsevindre.YearFraction, fotsevindre.status_error, *Month, *Weekday)
+        try:
+            _core.setup(*types, False, *setup)
+            self.test_methods()
+            self.test_durations()
+        finally:
+            _core.setup(*types, True, *setup)
+        for value, error in ((PlainDateTime(10000, 1, 1), OverflowError), (PlainDateTime(2024, 1, 1, nanosecond=1), ValueError), (OffsetDateTime(2024, 1, 1, offset=UtcOffset(24)), ValueError)):
+            self.assertRaises(error, value.to_datetime)
+        for call in (lambda: Date.from_date("2024-02-29"), lambda: Time.from_time(LEAP_DAY), lambda: PlainDateTime.from_datetime(datetime.date(2024, 2, 29)), lambda: SignedDuration.from_timedelta(1),
+                lambda: UtcOffset.from_timezone(datetime.timedelta())):
+            self.assertRaises(TypeError, call)
+        for value in (SignedDuration.MIN, SignedDuration.MAX.truncate() if hasattr(SignedDuration.MAX, "truncate") else SignedDuration.seconds(2**62)):
+            self.assertRaises((OverflowError, ValueError), value.to_timedelta)
+
+
 class WorkingDays(unittest.TestCase):
     HOLIDAYS = [Date(2024, month, of_month) for month, of_month in ((12, 25), (1, 1), (7, 4), (1, 1))]
 
@@ -344,7 +555,7 @@ class WorkingDays(unittest.TestCase):
         for same in (copy.copy(work), copy.deepcopy(work), pickle.loads(pickle.dumps(work)), Workdays(work.weekdays, work.holidays)):
             self.assertEqual((same, hash(same)), (work, hash(work)))
         self.assertTrue(work != Workdays() and work != Workdays(tuple(Weekday), self.HOLIDAYS) and work != 1)
-        self.assertEqual(repr(Workdays([Weekday.Friday], [LEAP_DAY])), "Workdays(weekdays=[Friday], holidays=[2024-02-29])")
+        self.assertEqual(repr(Workdays([Weekday.Friday], [LEAP_DAY])), "Workdays(weekdays=[Weekday.Friday], holidays=[Date(2024, 2, 29)])")
         self.assertRaises(AttributeError, setattr, work, "other", 1)
         with self.assertRaisesRegex(TypeError, r"^expected Date, not date; convert it with Date\.from_date$"):
             Workdays(holidays=[datetime.date(2024, 1, 1)])

@@ -84,8 +84,8 @@ class Rows(Cases):
             self.assertEqual(one - other, SignedDuration.ZERO)
         self.assertLess(NIGHT, NIGHT.replace_offset(UtcOffset.UTC))
         self.assertEqual(NIGHT.replace_offset(UtcOffset.UTC) - NIGHT, SignedDuration.HOUR)
-        self.assertEqual(str(NIGHT), "2024-02-29 23:59:59.25 +01:00:00")
-        self.assertEqual(f"{NIGHT.local():>24}", "  2024-02-29 23:59:59.25")
+        self.assertEqual(str(NIGHT), "2024-02-29T23:59:59.250000+01:00")
+        self.assertEqual(f"{NIGHT.local():>28}", "  2024-02-29T23:59:59.250000")
         self.assertEqual(NIGHT + SignedDuration.hours(2), at(1, "2024-03-01", 1, 59, 59, 250_000_000))
         self.assertEqual(NIGHT - SignedDuration.DAY, at(1, "2024-02-28", 23, 59, 59, 250_000_000))
 
@@ -142,24 +142,24 @@ class Rows(Cases):
 
     def test_replacements(self):
         rows = [
-            ("replace_year", 2028, "2028-02-29 23:59:59.25"), ("replace_month", 1, "2024-01-29 23:59:59.25"),
-            ("replace_day", 1, "2024-02-01 23:59:59.25"), ("replace_ordinal", 1, "2024-01-01 23:59:59.25"),
-            ("replace_hour", 1, "2024-02-29 1:59:59.25"), ("replace_minute", 1, "2024-02-29 23:01:59.25"),
-            ("replace_second", 1, "2024-02-29 23:59:01.25"), ("replace_millisecond", 1, "2024-02-29 23:59:59.001"),
-            ("replace_microsecond", 1, "2024-02-29 23:59:59.000001"), ("replace_nanosecond", 1, "2024-02-29 23:59:59.000000001"),
-            ("replace_date", Date.parse("2023-05-01"), "2023-05-01 23:59:59.25"), ("replace_time", Time.MIDNIGHT, "2024-02-29 0:00:00.0"),
+            ("replace_year", 2028, "2028-02-29T23:59:59.250000"), ("replace_month", 1, "2024-01-29T23:59:59.250000"),
+            ("replace_day", 1, "2024-02-01T23:59:59.250000"), ("replace_ordinal", 1, "2024-01-01T23:59:59.250000"),
+            ("replace_hour", 1, "2024-02-29T01:59:59.250000"), ("replace_minute", 1, "2024-02-29T23:01:59.250000"),
+            ("replace_second", 1, "2024-02-29T23:59:01.250000"), ("replace_millisecond", 1, "2024-02-29T23:59:59.001000"),
+            ("replace_microsecond", 1, "2024-02-29T23:59:59.000001"), ("replace_nanosecond", 1, "2024-02-29T23:59:59.000000001"),
+            ("replace_date", Date.parse("2023-05-01"), "2023-05-01T23:59:59.250000"), ("replace_time", Time.MIDNIGHT, "2024-02-29T00:00:00"),
         ]
         for name, argument, text in rows:
             self.assertEqual(str(getattr(NIGHT.local(), name)(argument)), text)
-            self.assertEqual(str(getattr(NIGHT, name)(argument)), text + " +01:00:00")
-        truncated = [("hour", "23:00:00.0"), ("minute", "23:59:00.0"), ("second", "23:59:59.0"), ("millisecond", "23:59:59.25"),
-            ("microsecond", "23:59:59.25")]
+            self.assertEqual(str(getattr(NIGHT, name)(argument)), text + "+01:00")
+        truncated = [("hour", "23:00:00"), ("minute", "23:59:00"), ("second", "23:59:59"), ("millisecond", "23:59:59.250000"),
+            ("microsecond", "23:59:59.250000")]
         for name, text in truncated:
-            self.assertEqual(str(getattr(NIGHT.local(), "truncate_to_" + name)()), "2024-02-29 " + text)
-            self.assertEqual(str(getattr(NIGHT, "truncate_to_" + name)()), f"2024-02-29 {text} +01:00:00")
-        self.assertEqual(str(NIGHT.replace_date_time(PlainDateTime.MIN)), "-999999-01-01 0:00:00.0 +01:00:00")
-        self.assertEqual(str(NIGHT.replace_offset(UtcOffset.UTC)), "2024-02-29 23:59:59.25 +00:00:00")
-        self.assertEqual(str(NIGHT.replace(year=2023, day=28, hour=1, nanosecond=0)), "2023-02-28 1:59:59.0 +01:00:00")
+            self.assertEqual(str(getattr(NIGHT.local(), "truncate_to_" + name)()), "2024-02-29T" + text)
+            self.assertEqual(str(getattr(NIGHT, "truncate_to_" + name)()), f"2024-02-29T{text}+01:00")
+        self.assertEqual(str(NIGHT.replace_date_time(PlainDateTime.MIN)), "-999999-01-01T00:00:00+01:00")
+        self.assertEqual(str(NIGHT.replace_offset(UtcOffset.UTC)), "2024-02-29T23:59:59.250000+00:00")
+        self.assertEqual(str(NIGHT.replace(year=2023, day=28, hour=1, nanosecond=0)), "2023-02-28T01:59:59+01:00")
         self.assertEqual(type(NIGHT.local().replace(month=None, minute=0)), PlainDateTime)
         self.assertRaises(TypeError, NIGHT.replace, hour="1")
         self.assertRaises(TypeError, NIGHT.replace, 2023)
@@ -278,8 +278,7 @@ class OfTheStandardLibrary(Cases):
         aware = datetime.datetime(2024, 2, 29, tzinfo=datetime.timezone.utc)
         for own, other in [(plain("2024-02-29"), aware.replace(tzinfo=None)), (at(0, "2024-02-29"), aware)]:
             for one, another in ((own, other), (other, own)):
-                self.assertEqual((one == another, one != another), (False, True))
-                for compare in (operator.lt, operator.ge):
+                for compare in (operator.eq, operator.ne, operator.lt, operator.ge):
                     with self.assertRaises(TypeError):
                         compare(one, another)
 

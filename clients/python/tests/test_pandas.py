@@ -55,7 +55,7 @@ class Pandas(unittest.TestCase):
 
     def test_nanoseconds_of_times(self):
         time = pandas.Timestamp("2024-02-29 12:00:00.000001002")
-        noon = PlainDateTime(Date(2024, 2, 29), Time(12, 0, 0, 1002))
+        noon = PlainDateTime(Date(2024, 2, 29), Time(12, 0, 0, nanosecond=1002))
         self.assertEqual(PlainDateTime.from_datetime(time), noon)
         self.assertEqual(OffsetDateTime.from_datetime(time.tz_localize("Europe/Berlin")), noon.assume_offset(UtcOffset(1)))
         with self.assertRaisesRegex(TypeError, "use its date"):

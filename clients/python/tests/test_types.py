@@ -52,6 +52,16 @@ starts: Tuple[ZonedDateTime, SignedDuration, datetime.datetime] = (zone.start_of
 moved: Tuple[Date, PlainDateTime, Optional[Date], Date] = (
     day + Period(months=1), local + Period(duration=no_time), day.checked_add_period(Period(days=-1)), day.nth_period(Period(weeks=2), 3))
 period: Period = day.period_until(last)
+back: Tuple[Date, PlainDateTime, ZonedDateTime, Period] = (day - Period(days=1), local - Period(months=1), in_zone - Period(years=1), -period)
+months_later: Tuple[PlainDateTime, OffsetDateTime, ZonedDateTime, Optional[PlainDateTime]] = (
+    local.add_months(1), moment.add_years(1), in_zone.add_months(1, Policy.Later), local.checked_add_months(1))
+current: Tuple[Date, PlainDateTime, PlainDateTime, OffsetDateTime, OffsetDateTime, ZonedDateTime] = (
+    Date.today(zone), PlainDateTime.now(), PlainDateTime.now(zone), OffsetDateTime.now(), OffsetDateTime.now(UtcOffset(1)), ZonedDateTime.now(zone))
+by_components: Tuple[PlainDateTime, OffsetDateTime, OffsetDateTime] = (
+    PlainDateTime(2024, 2, 29, 9, nanosecond=1), OffsetDateTime(2024, 2, 29, offset=UtcOffset()), moment.replace(offset=UtcOffset(1)))
+of_datetime: Tuple[int, IsoCalendarDate, int, PlainDateTime] = (day.isoweekday(), day.isocalendar(), in_zone.isocalendar().week, PlainDateTime.combine(day, Time.MAX))
+numbers: Tuple[float, float, int, SignedDuration, float] = (no_time.total_seconds(), no_time / no_time, no_time // no_time, no_time % no_time, in_zone.timestamp())
+of_timestamp: Tuple[OffsetDateTime, ZonedDateTime, str] = (OffsetDateTime.fromtimestamp(1.5), ZonedDateTime.fromtimestamp(1, zone), in_zone.isoformat())
 span: DateRange = DateRange(day, last)
 of_days: Tuple[bool, int, List[Date], Optional[DateRange], Tuple[int, int], bool] = (
     day in span, len(span), list(span), span.intersection(span), span.share(span), span.overlaps(span))
@@ -97,7 +107,11 @@ day.add_months(number=1)  # refused
 day.strftime(29)  # refused
 zone.instants([0], 3)  # refused
 moment.in_zone("Europe/Berlin")  # refused
-day - Period(days=1)  # refused
+moment - Period(days=1)  # refused
+Time(1, 2, 3, 4)  # refused
+PlainDateTime(2024, 2)  # refused
+OffsetDateTime(2024, 2, 29)  # refused
+OffsetDateTime.now(zone)  # refused
 moment + Period(days=1)  # refused
 in_zone + 1  # refused
 in_zone < moment  # refused

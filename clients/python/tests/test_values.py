@@ -99,7 +99,7 @@ class Days(Cases):
                 self.assertEqual(date.ordinal, ordinal)
                 self.assertEqual(date.to_iso_week_date(), (iso_year, week, Weekday(weekday - 1)))
                 self.assertEqual((date.iso_week, date.weekday()), (week, Weekday(weekday - 1)))
-                self.assertEqual((str(date), repr(date), f"{date}"), (text, text, text))
+                self.assertEqual((str(date), repr(date), f"{date}"), (text, f"Date{calendar}", text))
 
     def test_text_under_a_width(self):
         self.assertEqual(f"{day(2019, 1, 2):>12}", "  2019-01-02")
@@ -301,11 +301,11 @@ class Times(Cases):
 
     def test_texts(self):
         rows = [
-            (Time.MIDNIGHT, "0:00:00.0"), (Time.from_hms_milli(9, 5, 0, 120), "9:05:00.12"), (Time.MAX, "23:59:59.999999999"),
-            (Time.from_hms_nano(1, 2, 3, 1), "1:02:03.000000001"),
+            (Time.MIDNIGHT, "00:00:00", "0, 0"), (Time.from_hms_milli(9, 5, 0, 120), "09:05:00.120000", "9, 5, nanosecond=120000000"),
+            (Time.MAX, "23:59:59.999999999", "23, 59, 59, nanosecond=999999999"), (Time.from_hms_nano(1, 2, 3, 1), "01:02:03.000000001", "1, 2, 3, nanosecond=1"),
         ]
-        for time, text in rows:
-            self.assertEqual((str(time), repr(time), f"{time:>20}"), (text, text, text.rjust(20)))
+        for time, text, parts in rows:
+            self.assertEqual((str(time), repr(time), f"{time:>20}"), (text, f"Time({parts})", text.rjust(20)))
 
     def test_refusals(self):
         past = (-1, 2**8, 2**32, 2**32 + 1, 10**30, -10**30)
@@ -559,8 +559,8 @@ class Texts(Cases):
 class Offsets(Cases):
     ROWS = [
         ((0, -30, 15), -1815, (0, -30, -15), "-00:30:15"), ((-25, 59, 59), -93599, (-25, -59, -59), "-25:59:59"),
-        ((1, -2, -3), 3723, (1, 2, 3), "+01:02:03"), ((-5, 30, 0), -19800, (-5, -30, 0), "-05:30:00"),
-        ((0, 0, 0), 0, (0, 0, 0), "+00:00:00"),
+        ((1, -2, -3), 3723, (1, 2, 3), "+01:02:03"), ((-5, 30, 0), -19800, (-5, -30, 0), "-05:30"),
+        ((0, 0, 0), 0, (0, 0, 0), "+00:00"),
     ]
 
     def test_rows(self):
@@ -573,7 +573,9 @@ class Offsets(Cases):
             self.assertEqual(offset.whole_minutes(), parts[0] * 60 + parts[1])
             self.assertEqual((offset.is_utc(), offset.is_positive(), offset.is_negative()), (seconds == 0, seconds > 0, seconds < 0))
             self.assertEqual((-offset).whole_seconds(), -seconds)
-            self.assertEqual((str(offset), repr(offset), f"{offset:<12}"), (text, text, text.ljust(12)))
+            self.assertEqual((str(offset), offset.isoformat(), f"{offset:<12}"), (text, text, text.ljust(12)))
+        self.assertEqual([repr(UtcOffset(*given)) for given in ((), (1,), (-5, 30), (0, -30, 15))],
+            ["UtcOffset()", "UtcOffset(1)", "UtcOffset(-5, -30)", "UtcOffset(0, -30, -15)"])
         self.assertLess(UtcOffset.from_hms(-5, 30, 0), UtcOffset.from_hms(-4, 30, 0))
         self.assertEqual(UtcOffset.UTC.whole_seconds(), 0)
 
@@ -681,7 +683,9 @@ class Durations(Cases):
             (SignedDuration.milliseconds(-93784005), "-1d2h3m4s5ms"), (SignedDuration.hours(26), "1d2h"),
         ]
         for duration, text in rows:
-            self.assertEqual((str(duration), repr(duration)), (text, text))
+            self.assertEqual(str(duration), text)
+        self.assertEqual([repr(duration) for duration in (SignedDuration.ZERO, SignedDuration.hours(26), SignedDuration.milliseconds(-3605000))],
+            ["SignedDuration()", "SignedDuration(days=1, hours=2)", "SignedDuration(hours=-1, seconds=-5)"])
 
     def test_against_whole_numbers(self):
         draw = random.Random(29)
@@ -725,8 +729,8 @@ class Cycles(Cases):
         self.assertEqual((Month.December.next(), Month.January.previous()), (Month.January, Month.December))
         self.assertEqual((Month.February.length(2000), Month.February.length(1900), Month.April.length(-1)), (29, 28, 30))
         names = "January February March April May June July August September October November December"
-        self.assertEqual(" ".join(repr(Month(number)) for number in range(1, 13)), names)
-        self.assertEqual((repr(Month.May), f"{Month.May.name:>5}", Month["March"]), ("May", "  May", Month.March))
+        self.assertEqual(" ".join(Month(number).name for number in range(1, 13)), names)
+        self.assertEqual((repr(Month.May), f"{Month.May.name:>5}", Month["March"]), ("Month.May", "  May", Month.March))
         self.assertEqual((str(Month.May), f"{Month.May}", f"{Month.May:02}", "%02d" % Month.May), ("5", "5", "05", "05"))
         self.assertLess(Month.January, Month.February)
         for number in (0, 13, -1, 257, 2**32 + 1):
@@ -753,8 +757,9 @@ class Cycles(Cases):
         self.assertEqual((friday.number_days_from_monday(), friday.number_days_from_sunday()), (4, 5))
         self.assertEqual(Weekday.Sunday.number_from_sunday(), 1)
         names = "Monday Tuesday Wednesday Thursday Friday Saturday Sunday"
-        self.assertEqual(" ".join(repr(Weekday(number)) for number in range(7)), names)
-        self.assertEqual((str(friday), repr(friday), f"{friday.name:<8}"), ("4", "Friday", "Friday  "))
+        self.assertEqual(" ".join(map(str, Weekday)), names)
+        self.assertEqual((str(friday), repr(friday), f"{friday:<8}", f"{friday:02d}"), ("Friday", "Weekday.Friday", "Friday  ", "04"))
+        self.assertTrue(all(Weekday) and all(Month) and Weekday.Monday == 0)
         for weekday in Weekday:
             for n in (0, 1, 6, 7, 8, 255):
                 self.assertEqual(weekday.nth_next(n).value, (weekday.value + n) % 7)
@@ -1068,7 +1073,7 @@ class Values(Cases):
             for call in (lambda: object.__new__(kind), lambda: type("Sub", (kind,), {}), lambda: setattr(value, "__class__", int)):
                 with self.assertRaises(TypeError, msg=kind):
                     call()
-        for make, arguments in [(Date, (2023, 2, 29)), (Time, (24, 0, 0, 0)), (UtcOffset, (26, 0, 0))]:
+        for make, arguments in [(Date, (2023, 2, 29)), (Time, (24, 0, 0)), (UtcOffset, (26, 0, 0))]:
             with self.assertRaises(ComponentRange):
                 pickle.loads(pickle.dumps(Unpickled(make, arguments)))
 
@@ -1139,8 +1144,12 @@ class Values(Cases):
         for wrong in (1.5, duration, date, "2", None):
             with self.assertRaises(TypeError):
                 duration * wrong
-            with self.assertRaises(TypeError):
-                duration / wrong
+        for wrong in (1.5, date, "2", None, datetime.timedelta(1)):
+            for divide in (operator.truediv, operator.floordiv, operator.mod):
+                self.assertRaises(TypeError, divide, duration, wrong)
+                self.assertRaises(TypeError, divide, wrong, duration)
+        for divide in (operator.floordiv, operator.mod):
+            self.assertRaises(TypeError, divide, duration, 2)
 
     def test_wide_numbers_never_wrap(self):
         calls = [
@@ -1169,8 +1178,7 @@ class Habits(Cases):
         ]
         for own, other in values:
             for one, another in ((own, other), (other, own)):
-                self.assertEqual((one == another, one != another), (False, True))
-                for compare in (operator.lt, operator.le, operator.gt, operator.ge):
+                for compare in (operator.eq, operator.ne, operator.lt, operator.le, operator.gt, operator.ge):
                     with self.assertRaises(TypeError, msg=(one, another)):
                         compare(one, another)
         friday = day(2021, 1, 1).weekday()
@@ -1237,7 +1245,9 @@ class Habits(Cases):
         self.assertEqual((days[0], days[-1], list(days[1:3]), days.index(listed[2])), (listed[0], listed[-1], listed[1:3], 2))
         self.assertTrue(listed[1] in days and day(2024, 3, 3) not in days and 5 not in days)
         self.assertEqual((len(Date.MIN.iter_to(Date.MAX)), len(Date.MAX.iter_to(Date.MIN))), (730484634, 0))
-        self.assertEqual((repr(days), repr(days[:0])), ("2024-02-28 to 2024-03-02", "no days"))
+        self.assertEqual((repr(days), repr(days[:0])), ("Date(2024, 2, 28).iter_to(Date(2024, 3, 2))", "Date.MAX.iter_to(Date.MIN)"))
+        for one in (days, days[:0], days[::2], days[::-1], days[::-3], days[1:1:-1], days[1:2]):
+            self.assertEqual(eval(repr(one), vars(fotsevindre)), one)
         with self.assertRaises(IndexError):
             days[4]
 
@@ -1247,7 +1257,7 @@ class Habits(Cases):
 
 def load_tests(loader, tests, _pattern):
     tests.addTests(doctest.DocTestSuite(fotsevindre))
-    pages = ["../../../README.md", "../../../docs/PYTHON.md", "../../../docs/COLUMNS.md"]
+    pages = ["../../../README.md", "../../../docs/PYTHON.md", "../../../docs/COLUMNS.md", "../../../docs/FROM_DATETIME.md"]
     tests.addTests(doctest.DocFileSuite(*pages, encoding="utf-8"))
     return tests
 

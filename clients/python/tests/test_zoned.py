@@ -5,6 +5,7 @@ import calendar
 import copy
 import datetime
 import itertools
+import operator
 import pickle
 import random
 import unittest
@@ -30,23 +31,23 @@ class WorkedRows(unittest.TestCase):
     def test_periods(self):
         for key, start, period, compatible, earlier, later in (
             # The clocks of Berlin go forward at 2:00 on 31 March 2024, and back at 3:00 on 27 October.
-            ("Europe/Berlin", "2024-03-30T12:00", Period(days=1), "03-31 12:00:00.0 +02:00:00", None, None),
-            ("Europe/Berlin", "2024-03-30T12:00", Period(duration=SignedDuration(hours=24)), "03-31 13:00:00.0 +02:00:00", None, None),
-            ("Europe/Berlin", "2024-03-30T02:30", Period(days=1), "03-31 3:30:00.0 +02:00:00", "03-31 1:30:00.0 +01:00:00", None),
-            ("Europe/Berlin", "2024-02-29T02:30", Period(months=1, days=2), "03-31 3:30:00.0 +02:00:00", "03-31 1:30:00.0 +01:00:00", None),
-            ("Europe/Berlin", "2024-03-30T02:30", Period(days=1, duration=SignedDuration(hours=1)), "03-31 4:30:00.0 +02:00:00",
-                "03-31 3:30:00.0 +02:00:00", None),
-            ("Europe/Berlin", "2024-04-01T02:30", Period(days=-1), "03-31 3:30:00.0 +02:00:00", "03-31 1:30:00.0 +01:00:00", None),
-            ("Europe/Berlin", "2024-10-26T02:30", Period(days=1), "10-27 2:30:00.0 +02:00:00", None, "10-27 2:30:00.0 +01:00:00"),
-            ("Europe/Berlin", "2024-10-20T02:30", Period(weeks=1), "10-27 2:30:00.0 +02:00:00", None, "10-27 2:30:00.0 +01:00:00"),
-            ("Europe/Berlin", "2024-08-31T12:00", Period(months=6), "2025-02-28 12:00:00.0 +01:00:00", None, None),
+            ("Europe/Berlin", "2024-03-30T12:00", Period(days=1), "03-31T12:00:00+02:00", None, None),
+            ("Europe/Berlin", "2024-03-30T12:00", Period(duration=SignedDuration(hours=24)), "03-31T13:00:00+02:00", None, None),
+            ("Europe/Berlin", "2024-03-30T02:30", Period(days=1), "03-31T03:30:00+02:00", "03-31T01:30:00+01:00", None),
+            ("Europe/Berlin", "2024-02-29T02:30", Period(months=1, days=2), "03-31T03:30:00+02:00", "03-31T01:30:00+01:00", None),
+            ("Europe/Berlin", "2024-03-30T02:30", Period(days=1, duration=SignedDuration(hours=1)), "03-31T04:30:00+02:00",
+                "03-31T03:30:00+02:00", None),
+            ("Europe/Berlin", "2024-04-01T02:30", Period(days=-1), "03-31T03:30:00+02:00", "03-31T01:30:00+01:00", None),
+            ("Europe/Berlin", "2024-10-26T02:30", Period(days=1), "10-27T02:30:00+02:00", None, "10-27T02:30:00+01:00"),
+            ("Europe/Berlin", "2024-10-20T02:30", Period(weeks=1), "10-27T02:30:00+02:00", None, "10-27T02:30:00+01:00"),
+            ("Europe/Berlin", "2024-08-31T12:00", Period(months=6), "2025-02-28T12:00:00+01:00", None, None),
             # The clocks of Lord Howe go by half an hour.
-            ("Australia/Lord_Howe", "2024-10-05T02:15", Period(days=1), "10-06 2:45:00.0 +11:00:00", "10-06 1:45:00.0 +10:30:00", None),
-            ("Australia/Lord_Howe", "2024-04-06T01:45", Period(days=1), "04-07 1:45:00.0 +11:00:00", None, "04-07 1:45:00.0 +10:30:00"),
+            ("Australia/Lord_Howe", "2024-10-05T02:15", Period(days=1), "10-06T02:45:00+11:00", "10-06T01:45:00+10:30", None),
+            ("Australia/Lord_Howe", "2024-04-06T01:45", Period(days=1), "04-07T01:45:00+11:00", None, "04-07T01:45:00+10:30"),
             # Apia skipped 30 December 2011.
-            ("Pacific/Apia", "2011-12-29T12:00", Period(days=1), "2011-12-31 12:00:00.0 +14:00:00", "2011-12-29 12:00:00.0 -10:00:00", None),
-            ("Pacific/Apia", "2011-12-29T12:00", Period(days=2), "2011-12-31 12:00:00.0 +14:00:00", None, None),
-            ("Pacific/Apia", "2011-12-29T12:00", Period(duration=SignedDuration(hours=24)), "2011-12-31 12:00:00.0 +14:00:00", None, None),
+            ("Pacific/Apia", "2011-12-29T12:00", Period(days=1), "2011-12-31T12:00:00+14:00", "2011-12-29T12:00:00-10:00", None),
+            ("Pacific/Apia", "2011-12-29T12:00", Period(days=2), "2011-12-31T12:00:00+14:00", None, None),
+            ("Pacific/Apia", "2011-12-29T12:00", Period(duration=SignedDuration(hours=24)), "2011-12-31T12:00:00+14:00", None, None),
         ):
             moment = of(start, key)
             for policy, text in zip(POLICIES, (compatible, earlier or compatible, later or compatible)):
@@ -75,14 +76,14 @@ class WorkedRows(unittest.TestCase):
     def test_components(self):
         second = of("2024-10-27T02:30", "Europe/Berlin", Policy.Later)
         for policy in Policy:
-            self.assertEqual(str(second.with_time(Time(2, 45), policy)), "2024-10-27 2:45:00.0 +01:00:00")
-            self.assertEqual(str(second.with_date(second.date(), policy)), "2024-10-27 2:30:00.0 +01:00:00")
+            self.assertEqual(str(second.with_time(Time(2, 45), policy)), "2024-10-27T02:45:00+01:00")
+            self.assertEqual(str(second.with_date(second.date(), policy)), "2024-10-27T02:30:00+01:00")
         first = of("2024-10-27T01:30", "Europe/Berlin").with_time(Time(2, 45), Policy.Later)
-        self.assertEqual(str(first), "2024-10-27 2:45:00.0 +02:00:00")
+        self.assertEqual(str(first), "2024-10-27T02:45:00+02:00")
         # Neither offset of the 27th is this one's.
         summer = of("2024-07-01T02:30", "Europe/Berlin")
-        self.assertEqual(str(summer.with_date(Date(2024, 12, 1))), "2024-12-01 2:30:00.0 +01:00:00")
-        self.assertEqual(str(summer.with_local(PlainDateTime.parse("2024-03-31T02:30"), Policy.Earlier)), "2024-03-31 1:30:00.0 +01:00:00")
+        self.assertEqual(str(summer.with_date(Date(2024, 12, 1))), "2024-12-01T02:30:00+01:00")
+        self.assertEqual(str(summer.with_local(PlainDateTime.parse("2024-03-31T02:30"), Policy.Earlier)), "2024-03-31T01:30:00+01:00")
         self.assertEqual((summer.zone, summer.year, summer.month, summer.day, summer.hour, summer.minute, summer.second, summer.nanosecond, summer.offset),
             (Zone("Europe/Berlin"), 2024, 7, 1, 2, 30, 0, 0, UtcOffset(2)))
         self.assertEqual((summer.date(), summer.time(), summer.local(), summer.weekday()),
@@ -90,13 +91,13 @@ class WorkedRows(unittest.TestCase):
 
     def test_days(self):
         for key, day, start, hours in (
-            ("Europe/Berlin", "2024-03-30", "03-30 0:00:00.0 +01:00:00", 24), ("Europe/Berlin", "2024-03-31", "03-31 0:00:00.0 +01:00:00", 23),
-            ("Europe/Berlin", "2024-10-27", "10-27 0:00:00.0 +02:00:00", 25), ("Australia/Lord_Howe", "2024-04-07", "04-07 0:00:00.0 +11:00:00", 24.5),
+            ("Europe/Berlin", "2024-03-30", "03-30T00:00:00+01:00", 24), ("Europe/Berlin", "2024-03-31", "03-31T00:00:00+01:00", 23),
+            ("Europe/Berlin", "2024-10-27", "10-27T00:00:00+02:00", 25), ("Australia/Lord_Howe", "2024-04-07", "04-07T00:00:00+11:00", 24.5),
             # A gap from 23:30 to 0:30, a gap from 0:00 to 1:00, and a fold from 0:00 to 23:00.
-            ("America/Toronto", "1919-03-30", "03-30 0:00:00.0 -05:00:00", 23.5), ("America/Toronto", "1919-03-31", "03-31 0:30:00.0 -04:00:00", 23.5),
-            ("America/Sao_Paulo", "2018-11-04", "11-04 1:00:00.0 -02:00:00", 23), ("America/Sao_Paulo", "2019-02-16", "02-16 0:00:00.0 -02:00:00", 25),
-            ("Pacific/Apia", "2011-12-29", "12-29 0:00:00.0 -10:00:00", 24), ("Pacific/Apia", "2011-12-30", "12-31 0:00:00.0 +14:00:00", 0),
-            ("Pacific/Apia", "2011-12-31", "12-31 0:00:00.0 +14:00:00", 24),
+            ("America/Toronto", "1919-03-30", "03-30T00:00:00-05:00", 23.5), ("America/Toronto", "1919-03-31", "03-31T00:30:00-04:00", 23.5),
+            ("America/Sao_Paulo", "2018-11-04", "11-04T01:00:00-02:00", 23), ("America/Sao_Paulo", "2019-02-16", "02-16T00:00:00-02:00", 25),
+            ("Pacific/Apia", "2011-12-29", "12-29T00:00:00-10:00", 24), ("Pacific/Apia", "2011-12-30", "12-31T00:00:00+14:00", 0),
+            ("Pacific/Apia", "2011-12-31", "12-31T00:00:00+14:00", 24),
         ):
             zone, date = Zone(key), Date.parse(day)
             found = zone.start_of_day(date)
@@ -127,15 +128,15 @@ class Values(unittest.TestCase):
         berlin, instant = Zone("Europe/Berlin"), 1711846800
         moment = OffsetDateTime.from_unix_timestamp(instant)
         found = ZonedDateTime(moment, berlin)
-        self.assertEqual((str(found), repr(found), found.to_offset_date_time()), ("2024-03-31 3:00:00.0 +02:00:00",) * 2 + (moment,))
+        self.assertEqual((str(found), repr(found), found.to_offset_date_time()), ("2024-03-31T03:00:00+02:00", "ZonedDateTime(OffsetDateTime(2024, 3, 31, 3, 0, offset=UtcOffset(2)), Zone('Europe/Berlin'))", moment))
         self.assertEqual(found.to_offset_date_time().offset, UtcOffset(2))
         for same in (ZonedDateTime.from_unix_timestamp(instant, berlin), ZonedDateTime.from_unix_duration(SignedDuration.seconds(instant), berlin),
                 ZonedDateTime.from_unix_timestamp_nanos(instant * 10**9, berlin), of("2024-03-31T03:00", "Europe/Berlin"), copy.copy(found),
                 copy.deepcopy(found), *(pickle.loads(pickle.dumps(found, protocol)) for protocol in range(6)), found.in_zone(Zone("Asia/Tokyo")).in_zone(berlin)):
             self.assertEqual((same, hash(same), str(same), same.zone), (found, hash(found), str(found), berlin))
         self.assertEqual((found.unix_timestamp(), found.unix_timestamp_nanos(), found.unix_duration()), (instant, instant * 10**9, SignedDuration.seconds(instant)))
-        self.assertEqual(str(found.in_zone(Zone("America/New_York"))), "2024-03-30 21:00:00.0 -04:00:00")
-        self.assertEqual((f"{found:%F %T %Z}", found.strftime("%z"), f"{found:>32}"), ("2024-03-31 03:00:00 CEST", "+0200", f"  {found}"))
+        self.assertEqual(str(found.in_zone(Zone("America/New_York"))), "2024-03-30T21:00:00-04:00")
+        self.assertEqual((f"{found:%F %T %Z}", found.strftime("%z"), f"{found:>27}"), ("2024-03-31 03:00:00 CEST", "+0200", f"  {found}"))
 
     def test_comparison(self):
         berlin, tokyo = (ZonedDateTime.from_unix_timestamp(1711846800, Zone(key)) for key in ("Europe/Berlin", "Asia/Tokyo"))
@@ -143,12 +144,15 @@ class Values(unittest.TestCase):
         self.assertEqual((berlin, hash(berlin), later - tokyo), (tokyo, hash(tokyo), SignedDuration.NANOSECOND))
         self.assertTrue(berlin <= tokyo < later and later > tokyo >= berlin and berlin != later and not berlin < tokyo and not berlin > tokyo)
         self.assertEqual(sorted([later, tokyo]), [tokyo, later])
-        self.assertFalse(berlin == berlin.to_offset_date_time() or berlin == berlin.to_datetime())
+        self.assertFalse(berlin == berlin.to_offset_date_time() or berlin == 1 or berlin == "2024")
+        for compare in (operator.eq, operator.ne, operator.lt):
+            self.assertRaises(TypeError, compare, berlin, berlin.to_datetime())
+            self.assertRaises(TypeError, compare, berlin.to_datetime(), berlin)
 
     def test_what_is_refused(self):
         value, zone = of("2024-03-31T12:00", "Europe/Berlin"), Zone("Europe/Berlin")
         for call in (
-            lambda: value + 1, lambda: 1 + value, lambda: value - 1, lambda: value + value, lambda: Period(days=1) + value, lambda: value - Period(days=1),
+            lambda: value + 1, lambda: 1 + value, lambda: value - 1, lambda: value + value, lambda: Period(days=1) + value,
             lambda: SignedDuration.DAY + value, lambda: datetime.timedelta(1) - value, lambda: value < value.to_offset_date_time(), lambda: value < 1,
             lambda: ZonedDateTime(value, zone), lambda: ZonedDateTime(value.to_offset_date_time(), "Europe/Berlin"), lambda: value.in_zone("Asia/Tokyo"),
             lambda: ZonedDateTime.from_local(value, zone), lambda: ZonedDateTime.from_local(value.local(), zone, 0), lambda: value.with_date(value),

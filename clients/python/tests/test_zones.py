@@ -46,11 +46,11 @@ def texts(local):
 class WorkedRows(unittest.TestCase):
     def test_gaps(self):
         for key, reading, compatible, earlier in (
-            ("Europe/Berlin", "2024-03-31T02:30:00", "2024-03-31 3:30:00.0 +02:00:00", "2024-03-31 1:30:00.0 +01:00:00"),
-            ("Australia/Lord_Howe", "2024-10-06T02:15:00", "2024-10-06 2:45:00.0 +11:00:00", "2024-10-06 1:45:00.0 +10:30:00"),
-            ("Pacific/Apia", "2011-12-30T12:00:00", "2011-12-31 12:00:00.0 +14:00:00", "2011-12-29 12:00:00.0 -10:00:00"),
-            ("Pacific/Kiritimati", "1994-12-31T12:00:00", "1995-01-01 12:00:00.0 +14:00:00", "1994-12-30 12:00:00.0 -10:00:00"),
-            ("Antarctica/Troll", "2024-03-31T02:30:00", "2024-03-31 4:30:00.0 +02:00:00", "2024-03-31 0:30:00.0 +00:00:00"),
+            ("Europe/Berlin", "2024-03-31T02:30:00", "2024-03-31T03:30:00+02:00", "2024-03-31T01:30:00+01:00"),
+            ("Australia/Lord_Howe", "2024-10-06T02:15:00", "2024-10-06T02:45:00+11:00", "2024-10-06T01:45:00+10:30"),
+            ("Pacific/Apia", "2011-12-30T12:00:00", "2011-12-31T12:00:00+14:00", "2011-12-29T12:00:00-10:00"),
+            ("Pacific/Kiritimati", "1994-12-31T12:00:00", "1995-01-01T12:00:00+14:00", "1994-12-30T12:00:00-10:00"),
+            ("Antarctica/Troll", "2024-03-31T02:30:00", "2024-03-31T04:30:00+02:00", "2024-03-31T00:30:00+00:00"),
         ):
             local = Zone(key).resolve(at(reading))
             self.assertEqual((local.kind, local.instants, *texts(local)), (LocalKind.Gap, (), compatible, earlier, compatible, "None"), key)
@@ -144,7 +144,7 @@ def days_of(rows):
             for one in numbers.split(","):
                 first, _, last = one.partition("-")
                 for day in range(int(first), int(last or first) + 1):
-                    yield f"{year}-{int(month):02}-{day:02} 9:00:00.0 -0{'EDT EST'.index(name) // 4 + 4}:00:00"
+                    yield f"{year}-{int(month):02}-{day:02}T09:00:00-0{'EDT EST'.index(name) // 4 + 4}:00"
 
 
 class RecurrencesInZones(unittest.TestCase):
@@ -175,24 +175,24 @@ class RecurrencesInZones(unittest.TestCase):
 
     def test_gaps_and_folds(self):
         for text, start, key, wanted in (
-            ("FREQ=DAILY;COUNT=3", "2024-03-30T02:30", "Europe/Berlin", "03-30 2:30:00.0 +01:00, 03-31 3:30:00.0 +02:00, 04-01 2:30:00.0 +02:00"),
-            ("FREQ=DAILY;COUNT=3", "2024-03-31T02:30", "Europe/Berlin", "03-31 3:30:00.0 +02:00, 04-01 2:30:00.0 +02:00, 04-02 2:30:00.0 +02:00"),
-            ("FREQ=DAILY;COUNT=3", "2024-10-26T02:30", "Europe/Berlin", "10-26 2:30:00.0 +02:00, 10-27 2:30:00.0 +02:00, 10-28 2:30:00.0 +01:00"),
+            ("FREQ=DAILY;COUNT=3", "2024-03-30T02:30", "Europe/Berlin", "03-30T02:30:00+01:00, 03-31T03:30:00+02:00, 04-01T02:30:00+02:00"),
+            ("FREQ=DAILY;COUNT=3", "2024-03-31T02:30", "Europe/Berlin", "03-31T03:30:00+02:00, 04-01T02:30:00+02:00, 04-02T02:30:00+02:00"),
+            ("FREQ=DAILY;COUNT=3", "2024-10-26T02:30", "Europe/Berlin", "10-26T02:30:00+02:00, 10-27T02:30:00+02:00, 10-28T02:30:00+01:00"),
             ("FREQ=DAILY;COUNT=3", "2024-04-06T01:45:00.5", "Australia/Lord_Howe",
-                "04-06 1:45:00.5 +11:00, 04-07 1:45:00.5 +11:00, 04-08 1:45:00.5 +10:30"),
-            ("FREQ=DAILY;COUNT=3", "2024-10-05T02:15", "Australia/Lord_Howe", "10-05 2:15:00.0 +10:30, 10-06 2:45:00.0 +11:00, 10-07 2:15:00.0 +11:00"),
-            ("FREQ=WEEKLY;BYDAY=SU;COUNT=2", "2024-03-27T02:30", "Etc/UTC", "03-31 2:30:00.0 +00:00, 04-07 2:30:00.0 +00:00"),
+                "04-06T01:45:00.500000+11:00, 04-07T01:45:00.500000+11:00, 04-08T01:45:00.500000+10:30"),
+            ("FREQ=DAILY;COUNT=3", "2024-10-05T02:15", "Australia/Lord_Howe", "10-05T02:15:00+10:30, 10-06T02:45:00+11:00, 10-07T02:15:00+11:00"),
+            ("FREQ=WEEKLY;BYDAY=SU;COUNT=2", "2024-03-27T02:30", "Etc/UTC", "03-31T02:30:00+00:00, 04-07T02:30:00+00:00"),
             # In the gap 2:30 and 3:30 are one moment, and in the fold 2:30 is the earlier one.
             ("FREQ=DAILY;BYHOUR=1,2,3;BYMINUTE=30;COUNT=7", "2024-03-30T02:00", "Europe/Berlin",
-                "03-30 2:30:00.0 +01:00, 03-30 3:30:00.0 +01:00, 03-31 1:30:00.0 +01:00, 03-31 3:30:00.0 +02:00, 04-01 1:30:00.0 +02:00, 04-01 2:30:00.0 +02:00"),
+                "03-30T02:30:00+01:00, 03-30T03:30:00+01:00, 03-31T01:30:00+01:00, 03-31T03:30:00+02:00, 04-01T01:30:00+02:00, 04-01T02:30:00+02:00"),
             ("FREQ=WEEKLY;BYDAY=SU,WE;BYHOUR=1,2,3;BYMINUTE=30;COUNT=5", "2024-10-27T01:30", "Europe/Berlin",
-                "10-27 1:30:00.0 +02:00, 10-27 2:30:00.0 +02:00, 10-27 3:30:00.0 +01:00, 10-30 1:30:00.0 +01:00, 10-30 2:30:00.0 +01:00"),
+                "10-27T01:30:00+02:00, 10-27T02:30:00+02:00, 10-27T03:30:00+01:00, 10-30T01:30:00+01:00, 10-30T02:30:00+01:00"),
         ):
-            self.assertEqual(moments(text, start, key), [f"2024-{one}:00" for one in wanted.split(", ")], (text, start, key))
+            self.assertEqual(moments(text, start, key), [f"2024-{one}" for one in wanted.split(", ")], (text, start, key))
 
     def test_left_out_day(self):
         # Apia has no 30 December 2011: its noon and the noon of the 31st are one instant. COUNT and a day of UNTIL go by the clocks.
-        days = ["2011-12-28 12:00:00.0 -10:00:00", "2011-12-29 12:00:00.0 -10:00:00", "2011-12-31 12:00:00.0 +14:00:00", "2012-01-01 12:00:00.0 +14:00:00"]
+        days = ["2011-12-28T12:00:00-10:00", "2011-12-29T12:00:00-10:00", "2011-12-31T12:00:00+14:00", "2012-01-01T12:00:00+14:00"]
         for end, wanted in (("COUNT=3", days[:3]), ("COUNT=4", days[:3]), ("COUNT=5", days), ("UNTIL=20111230", days[:3]), ("UNTIL=20120101", days)):
             self.assertEqual(moments(f"FREQ=DAILY;{end}", "2011-12-28T12:00", "Pacific/Apia"), wanted, end)
         for since, wanted in ((0, days), (1325325600, days[3:]), (1325282400, days[2:]), (1325282401, days[3:]), (2**31, [])):
@@ -204,15 +204,15 @@ class RecurrencesInZones(unittest.TestCase):
         # The clocks go forward by 44 hours on 31 March 2024, so that two readings there come after later ones.
         zone = Zone.from_posix("AAA24BBB-20,M3.5.0/0,M10.5.0/0")
         found = list(Recurrence.parse("FREQ=DAILY;COUNT=6").moments(at("2024-03-30T12:00"), zone))
-        self.assertEqual([str(one.local()) for one in found], ["2024-03-30 12:00:00.0"] + [
-            f"2024-04-{day} {hour}:00:00.0" for day, hour in (("02", 8), ("02", 12), ("03", 8), ("03", 12), ("04", 12))])
+        self.assertEqual([str(one.local()) for one in found], ["2024-03-30T12:00:00"] + [
+            f"2024-04-{day}T{hour:02}:00:00" for day, hour in (("02", 8), ("02", 12), ("03", 8), ("03", 12), ("04", 12))])
         self.assertEqual(found, sorted(found))
         # In the last days of the range, 48 hours are left out.
         zone = Zone.from_posix("AAA24BBB-24,M12.5.0/130,M6.1.0")
         last = [str(one.date()) for one in Recurrence.parse("FREQ=DAILY").moments(PlainDateTime(Date(999999, 12, 29), Time(12)), zone)]
         self.assertEqual(last, ["+999999-12-29", "+999999-12-30"])
         first = Recurrence.parse("FREQ=DAILY").moments(PlainDateTime.MIN, Zone.from_posix("<+03>-3"), OffsetDateTime.UNIX_EPOCH)
-        self.assertEqual(str(next(first)), "1970-01-02 0:00:00.0 +03:00:00")
+        self.assertEqual(str(next(first)), "1970-01-02T00:00:00+03:00")
 
     def test_lists_of_readings(self):
         """The exceptions of a calendar are readings, or instants. In the gap of 31 March, 2:30 and 3:30 are one moment."""
@@ -226,7 +226,7 @@ class RecurrencesInZones(unittest.TestCase):
         # Other readings can come before the start, which isn't an occurrence.
         dates = [at("2024-10-27T02:30"), at("2024-03-30T02:30"), at("2024-03-31T03:30")]
         found = [str(one) for one in rule.moments(start, berlin, dates=dates, exceptions=all_four)]
-        self.assertEqual(found, ["2024-03-30 2:30:00.0 +01:00:00", "2024-10-27 2:30:00.0 +02:00:00"])
+        self.assertEqual(found, ["2024-03-30T02:30:00+01:00", "2024-10-27T02:30:00+02:00"])
 
     def test_instants_of_until(self):
         # Ends of a calendar are instants. Their days can be others in the zone.
