@@ -95,6 +95,7 @@ pub use cal_clock::{Time, UtcOffset};
 pub use cal_date::Date;
 pub use cal_datetime::{OffsetDateTime, PlainDateTime};
 pub use cal_format::Format;
+pub use cal_rounding::{RoundingMode, RoundingUnit};
 pub use cal_span::SignedDuration;
 /// A duration, by its name in the crate `time`.
 pub use cal_span::SignedDuration as Duration;

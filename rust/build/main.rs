@@ -19,7 +19,7 @@ use strip::{Edits, Fault, Options, Source};
 use zones::Zones;
 
 /// The libraries, as modules of the crate.
-const CRATES: [&str; 14] = [
+const CRATES: [&str; 15] = [
     "cal_units",
     "cal_span",
     "cal_clock",
@@ -31,6 +31,7 @@ const CRATES: [&str; 14] = [
     "cal_format",
     "cal_zone",
     "cal_zoned",
+    "cal_rounding",
     "cal_tzif",
     "cal_recurrence",
     "cal_c",

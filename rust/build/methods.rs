@@ -43,7 +43,16 @@ const METHODS: &[(&str, &str, &[&str])] = &[
     ),
     ("cal_zone", "OffsetDateTime", &["in_zone"]),
     ("cal_zoned", "PlainDateTime", &["checked_add_period", "period_until"]),
+    ("cal_rounding", "Time", &["round_time"]),
+    ("cal_rounding", "PlainDateTime", &["round_date_time"]),
+    ("cal_rounding", "OffsetDateTime", &["round_offset_date_time"]),
+    ("cal_rounding", "SignedDuration", &["round_duration"]),
 ];
+
+/// Returns the name of the method. The functions of `cal_rounding` have the type in their names.
+fn method_name(name: &str) -> &str {
+    if name.starts_with("round_") { "round" } else { name }
+}
 
 /// Makes links to functions that are methods in Rust links to these.
 pub fn link(source: &Source, at: usize, edits: &mut Edits) {
@@ -63,8 +72,9 @@ fn links(krate: &str, text: &str) -> Vec<(usize, String)> {
         let path = if *of == krate { String::new() } else { format!("{of}::") };
         for name in *names {
             let link = format!("[`{path}{name}`]");
+            let target = format!("(crate::{owner}::{})", method_name(name));
             let places = text.match_indices(&link).map(|(start, _)| start + link.len());
-            found.extend(places.filter(|end| !text[*end..].starts_with('(')).map(|end| (end, format!("(crate::{owner}::{name})"))));
+            found.extend(places.filter(|end| !text[*end..].starts_with('(')).map(|end| (end, target.clone())));
         }
     }
     found.sort_by_key(|place| std::cmp::Reverse(place.0));
@@ -105,6 +115,6 @@ pub fn add(source: &Source, item: &Item, definitions: &Definitions, edits: &mut 
     let passed = parameters.iter().enumerate().map(|(index, (name, _))| if index == 0 && has_self { "self" } else { *name });
     let (declared, passed) = (declared.collect::<Vec<_>>().join(", "), passed.collect::<Vec<_>>().join(", "));
     let documentation = documentation(source, item) + &contracts::documentation(source, item, None, definitions);
-    let method = format!("#[inline] pub fn {name}({declared}) -> {result} {{ {name}({passed}) }}");
+    let method = format!("#[inline] pub fn {}({declared}) -> {result} {{ {name}({passed}) }}", method_name(name));
     edits.insert(source.bytes(&item.all).end, format!(" impl {owner} {{ {documentation}{method} }}"));
 }

@@ -22,6 +22,7 @@ fn main() -> ExitCode {
             "cal_format",
             "cal_zone",
             "cal_zoned",
+            "cal_rounding",
             "cal_tzif",
             "cal_recurrence",
             "caldate_lines",

@@ -7,6 +7,7 @@ mod errors;
 mod every_day;
 mod formats;
 mod moments;
+mod rounding;
 mod rows;
 mod rules;
 mod schedule;

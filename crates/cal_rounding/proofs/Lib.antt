@@ -1,1 +1,2 @@
 pub mod Multiples
+pub mod OneResult

@@ -1,13 +1,15 @@
 -- The multiple to which a number is rounded, over whole numbers.
-use Rattle.std.proofs.Common.{◌≡◌, ◌≢◌, ℕ, zero, suc, ◌+◌, ◌-◌, ◌*◌, ◌%◌, ◌<◌, ◌≤◌, refl, sym, subst, arith, Bool, true, false, not, leb, nat_eq, nat_lt, IsTrue}
+use Rattle.std.proofs.Common.{◌≡◌, ◌↔◌, ◌∙◌, ℕ, zero, suc, ◌+◌, ◌-◌, ◌*◌, ◌%◌, ◌<◌, ◌≤◌, refl, sym, ap, subst, arith, Bool, true, false, leb, nat_eq, nat_lt, IsTrue, Option, SomeIff}
 use Rattle.std.proofs.lemmas.Int.{ints, by_lt_z}
+use Rattle.std.proofs.lemmas.Bool.{false≢true}
 use Rattle.std.proofs.lemmas.Bool.Decides.{nat_tests}
-use Rattle.std.specs.Prelude.{ℤ, pos, negsuc, neg_ℤ, ◌<ℤ◌, ◌≤ℤ◌, ◌+ℤ◌, ◌-ℤ◌, ◌*ℤ◌, unsigned_abs}
+use Rattle.std.specs.Prelude.{ℤ, pos, negsuc, ◌<ℤ◌, ◌≤ℤ◌, ◌+ℤ◌, ◌*ℤ◌, unsigned_abs}
 use Rattle.std.proofs.Math.Nat.{mul-le-mul_left}
-use Rattle.cal_time.specs.SignedDuration.{with_sign}
+use Rattle.cal_time.specs.SignedDuration.{day, with_sign, IsDuration}
+use Rattle.cal_time.specs.Time.{modulo_day}
 use Rattle.cal_rounding.specs.declared.rounding_mode.RoundingMode.{RoundingMode}
 use Rattle.cal_rounding.specs.declared.rounding_mode.RoundingMode.TheVariants.{Floor, Ceil, Trunc, HalfCeil, HalfEven}
-use Rattle.cal_rounding.specs.Rounding.{IsAllowed, IsEven, IsPreferred, IsRounded, distance, multiple}
+use Rattle.cal_rounding.specs.Rounding.{IsAllowed, IsEven, IsPreferred, IsRounded, RoundsWithin, distance, multiple}
 
 -- two multiples are at least a unit apart
 pub apart_below : (k n : ℤ) (u : ℕ) → k <ℤ n → (multiple u k +ℤ pos u) ≤ℤ multiple u n
@@ -35,8 +37,10 @@ at mode z r n u e allowed below above = record {
   where
     under : (k : ℤ) → k <ℤ n → IsAllowed mode z (multiple u k) → IsBetter mode z r n (multiple u k) k
     under k less ok = below k less (subst (λ (x : ℤ). (multiple u k +ℤ pos u) ≤ℤ x) (sym e) (apart_below k n u less)) ok
+
     over : (k : ℤ) → n <ℤ k → IsAllowed mode z (multiple u k) → IsBetter mode z r n (multiple u k) k
     over k more ok = above k more (subst (λ (x : ℤ). (x +ℤ pos u) ≤ℤ multiple u k) (sym e) (apart_below n k u more)) ok
+
     same : (k : ℤ) → k ≡ n → distance z r ≤ distance z (multiple u k)
     same k is = subst (λ (x : ℤ). distance z r ≤ distance z (multiple u x)) (sym is) (subst (λ (x : ℤ). distance z r ≤ distance z x) e (omega arith))
 
@@ -163,3 +167,30 @@ half_even_toward false n u p h most even =
 half_even_toward true n u p h most even =
     half_even_at _ _ (with_sign true n) u (signed true n u) (omega (arith, ints, h, most)) (omega (arith, ints, h, most))
     (λ tied. let e = even (omega (arith, ints, h, most, tied)) in omega (arith, ints, e))
+
+-- a number has its sign and its magnitude
+pub whole : (b : Bool) (v : ℤ) → (IsTrue b ↔ (v <ℤ pos 0)) → with_sign b (unsigned_abs v) ≡ v
+whole true (pos n) h = absurd (omega (arith, ints, h.0 refl))
+whole true (negsuc n) h = omega (arith, ints)
+whole false (pos n) h = refl
+whole false (negsuc n) h = absurd (false≢true (h.1 (omega (arith, ints))))
+
+-- a duration, by its magnitude
+pub rounds_duration :
+    (mode : RoundingMode) (b : Bool) (m u r : ℕ) (v unit : ℤ) (res : Option ℤ) → (IsTrue b ↔ (v <ℤ pos 0)) → m ≡ unsigned_abs v → u ≡ unsigned_abs unit
+    → IsRounded mode u (with_sign b m) (with_sign b r) → SomeIff res (IsDuration (with_sign b r)) (with_sign b r)
+    → RoundsWithin IsDuration mode (unsigned_abs unit) v res
+rounds_duration mode b m u r v unit res sign e f h value = record {
+  to = with_sign b r;
+  rounded =
+      subst (λ (x : ℕ). IsRounded mode x v (with_sign b r)) f
+      (subst (λ (x : ℤ). IsRounded mode u x (with_sign b r)) (ap (with_sign b) e ∙ whole b v sign) h);
+  value = value;
+}
+
+-- the part of a number past its whole days
+pub within_day : (d k : ℤ) (r : ℕ) → r < day → (pos 0 +ℤ d) ≡ k *ℤ pos day +ℤ pos r → r ≡ modulo_day d
+within_day (pos n) (pos k) r h e = omega (arith, ints, h, e)
+within_day (pos n) (negsuc k) r h e = absurd (omega (arith, ints, h, e))
+within_day (negsuc n) (pos k) r h e = absurd (omega (arith, ints, h, e))
+within_day (negsuc n) (negsuc k) r h e = omega (arith, ints, h, e)

@@ -1,7 +1,9 @@
 -- Rounding of a number to a multiple of a unit: to the nearest multiple among those that the mode
 -- allows. The modes have the names of Temporal, and their meaning.
-use Rattle.std.specs.Prelude.{◌≡◌, ◌≢◌, ⊤, ℕ, ◌%◌, ◌<◌, ◌≤◌, ℤ, pos, ◌-ℤ◌, ◌*ℤ◌, ◌≤ℤ◌, ◌<ℤ◌, unsigned_abs, Option, SomeIff}
+use Rattle.std.specs.Prelude.{◌≡◌, ◌≢◌, ⊤, ℕ, ◌%◌, ◌<◌, ◌≤◌, ℤ, pos, ◌+ℤ◌, ◌-ℤ◌, ◌*ℤ◌, ◌≤ℤ◌, ◌<ℤ◌, unsigned_abs, Option, SomeIff}
 use Rattle.cal_time.specs.SignedDuration.{day}
+use Rattle.cal_time.specs.Time.{modulo_day}
+use Rattle.cal_datetime.specs.DateTime.{IsDateTime, date_at, date_time, time_at}
 use Rattle.cal_rounding.specs.declared.rounding_mode.RoundingMode.{RoundingMode}
 use Rattle.cal_rounding.specs.declared.rounding_mode.RoundingMode.TheVariants.{Floor, Ceil, Trunc, HalfCeil, HalfEven}
 
@@ -53,3 +55,20 @@ pub record RoundsWithin (IsInRange : ℤ → Type 0) (mode : RoundingMode) (unit
 pub record IsRoundingUnit (n : ℕ) : Type 0 where
   pub positive : 0 < n
   pub divides_day : day % n ≡ 0
+
+-- The result is a time of day rounded to a multiple of a unit since midnight. 24:00 is 0:00.
+pub record IsRoundedTime (mode : RoundingMode) (unit t r : ℕ) : Type 0 where
+  pub to : ℤ
+  pub rounded : IsRounded mode unit (pos t) to
+  pub value : r ≡ modulo_day to
+
+-- The date-time at this time since the midnight of another one. 24:00 is the midnight after it.
+abbrev pub since_midnight : ℤ → ℤ → ℤ
+since_midnight z to = date_time (date_at z) 0 +ℤ to
+
+-- The result is made of a date-time whose time of day is rounded, or is `None` if the date-time is
+-- out of range.
+pub record RoundsTimeOf {T : Type 0} (mode : RoundingMode) (unit : ℕ) (z : ℤ) (make : ℤ → T) (r : Option T) : Type 0 where
+  pub to : ℤ
+  pub rounded : IsRounded mode unit (pos (time_at z)) to
+  pub value : SomeIff r (IsDateTime (since_midnight z to)) (make (since_midnight z to))

@@ -50,8 +50,6 @@ fn is_away_from_zero(
         RoundingMode::Trunc => false,
         RoundingMode::HalfCeil if is_negative => unit - past < past,
         RoundingMode::HalfCeil => unit - past <= past,
-        RoundingMode::HalfEven => {
-            unit - past < past || (unit - past == past && number % 2 == 1)
-        }
+        RoundingMode::HalfEven => { unit - past < past || (unit - past == past && number % 2 == 1) }
     }
 }

@@ -1,4 +1,4 @@
-use Rattle.std.proofs.Common.{ℕ, ◌+◌, ◌-◌, ◌*◌, ◌%◌, true, false, arith}
+use Rattle.std.proofs.Common.{true, false, arith}
 use Rattle.cal_rounding.specs.declared.rounding_mode.RoundingMode.TheVariants.{Floor, Ceil, Trunc, HalfCeil, HalfEven}
 use Rattle.cal_rounding.proofs.Multiples as m
 use Rattle.cal_rounding.proofs.magnitude.is_away_from_zero.Goals as goal
