@@ -1,17 +1,24 @@
 /* The values of Python, and what converts from and to them. module.c includes the files of the
  * extension in one unit, so that their functions are static and need no declarations. */
+#ifndef Py_LIMITED_API
+#define Py_LIMITED_API 0x030A0000
+#endif
+#define PY_SSIZE_T_CLEAN
+/* It comes first, since it says which functions of POSIX the others declare. */
+#include <Python.h>
+
 #include <stdio.h>
 #include <stdlib.h>
 #include <string.h>
 #include <time.h>
 
-#ifndef Py_LIMITED_API
-#define Py_LIMITED_API 0x030A0000
-#endif
-#define PY_SSIZE_T_CLEAN
-#include <Python.h>
-
 #include "fotsevindre.h"
+
+/* A date, and its year, month and day in one number, or 0 if no one has asked for them. */
+typedef struct DateParts {
+    fots_date date;
+    uint32_t parts;
+} DateParts;
 
 /* A value of each type except Workdays. A date-time is a moment, of which the date is the first
  * field, so DATE is right for it, too. A PlainDateTime has the offset 0. */
@@ -19,6 +26,7 @@ typedef struct Value {
     PyObject_HEAD
     union {
         fots_date date;
+        DateParts with_parts;
         fots_time time;
         fots_offset offset;
         fots_duration duration;
@@ -57,7 +65,7 @@ typedef struct State {
     PyTypeObject *other_date, *other_time, *other_date_time, *timedelta, *tzinfo;
     PyObject *timezone;
     PyObject *has_layouts; /* True if datetime has the layouts of standard.c */
-    PyObject *weekday, *calendar_unit, *convention, *day_count, *year_fraction, *status_error;
+    PyObject *weekday, *calendar_unit, *convention, *day_count, *year_fraction, *status_error, *component_range;
     PyObject *months[12], *weekdays[7];
 } State;
 
@@ -235,6 +243,14 @@ static int to_text(const State *Py_UNUSED(state), PyObject *object, Text *text)
 
 static PyObject *raise_position(const State *state, int32_t status, size_t position, uint32_t part)
 {
+    int is_conditional = fots_status_is_conditional(status);
+    if (is_conditional || (status >= FOTS_YEAR_OUT_OF_RANGE && status <= FOTS_TIMESTAMP_OUT_OF_RANGE)) {
+        PyObject *given = Py_BuildValue("sO", fots_status_name(status),
+            is_conditional ? Py_True : Py_False);
+        PyErr_SetObject(state->component_range, given);
+        Py_XDECREF(given);
+        return NULL;
+    }
     PyObject *error = PyObject_CallFunction(state->status_error, "inI", (int)status,
         (Py_ssize_t)position, (unsigned)part);
     if (error) {
@@ -259,7 +275,15 @@ static PyObject *raise_status(const State *state, int32_t status)
         } \
         return (PyObject *)object; \
     }
-NEW(date, const State *state, state->date)
+static PyObject *new_date(const State *state, fots_date date)
+{
+    Value *object = PyObject_New(Value, state->date);
+    if (object) {
+        object->with_parts = (DateParts){date, 0};
+    }
+    return (PyObject *)object;
+}
+
 NEW(time, const State *state, state->time)
 NEW(offset, const State *state, state->offset)
 NEW(duration, const State *state, state->duration)

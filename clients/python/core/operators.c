@@ -24,6 +24,22 @@ static PyObject *not_compared(PyObject *self, PyObject *other)
     return NULL;
 }
 
+/* The parts of a duration have one sign, so the seconds come first. */
+static int order_of_durations(fots_duration one, fots_duration two)
+{
+    return one.seconds != two.seconds ? (one.seconds > two.seconds) - (one.seconds < two.seconds) :
+        (one.nanoseconds > two.nanoseconds) - (one.nanoseconds < two.nanoseconds);
+}
+
+/* Returns the order of the instants, which at one offset is that of the dates and times. */
+static int order_of_moments(fots_moment one, fots_moment two)
+{
+    return one.offset.seconds != two.offset.seconds ? fots_moment_compare(one, two).number :
+        one.date.julian_day != two.date.julian_day ?
+        (one.date.julian_day > two.date.julian_day ? 1 : -1) :
+        (one.time > two.time) - (one.time < two.time);
+}
+
 #define COMPARE(name, value, other_value) \
     static PyObject *name(PyObject *self, PyObject *other, int operation) \
     { \
@@ -35,8 +51,8 @@ static PyObject *not_compared(PyObject *self, PyObject *other)
 COMPARE(date_compare, DATE(self).julian_day, DATE(other).julian_day)
 COMPARE(time_compare, TIME(self), TIME(other))
 COMPARE(offset_compare, OFFSET(self).seconds, OFFSET(other).seconds)
-COMPARE(duration_compare, fots_duration_compare(DURATION(self), DURATION(other)).number, 0)
-COMPARE(moment_compare, fots_moment_compare(MOMENT(self), MOMENT(other)).number, 0)
+COMPARE(duration_compare, order_of_durations(DURATION(self), DURATION(other)), 0)
+COMPARE(moment_compare, order_of_moments(MOMENT(self), MOMENT(other)), 0)
 
 /* Periods have no order: a month isn't a number of days. */
 static PyObject *period_compare(PyObject *self, PyObject *other, int operation)
@@ -157,6 +173,11 @@ static PyObject *moved(const State *state, PyObject *self, PyObject *other, int 
 /* A timedelta can also come first. */
 static PyObject *value_add(PyObject *self, PyObject *other)
 {
+    if (Py_TYPE(self) == Py_TYPE(other)) {
+        const State *own = state_of(self);
+        return Py_TYPE(self) != own->duration ? new_reference(Py_NotImplemented) :
+            of_duration(own, fots_duration_checked_add(DURATION(self), DURATION(other)));
+    }
     const State *state = state_of_value(self);
     if (state && Py_TYPE(other) == state->period) {
         return moved_by_period(state, self, PERIOD(other), 0);
@@ -166,8 +187,8 @@ static PyObject *value_add(PyObject *self, PyObject *other)
 
 static PyObject *value_subtract(PyObject *self, PyObject *other)
 {
-    const State *state = state_of_value(self);
     PyTypeObject *type = Py_TYPE(self);
+    const State *state = type == Py_TYPE(other) ? state_of(self) : state_of_value(self);
     if (!state) {
         return new_reference(Py_NotImplemented);
     }
@@ -185,7 +206,10 @@ static PyObject *value_subtract(PyObject *self, PyObject *other)
 
 /* ---- operators of durations */
 
-static int duration_bool(PyObject *self) { return sign_of(DURATION(self)) != 0; }
+static int duration_bool(PyObject *self)
+{
+    return DURATION(self).seconds || DURATION(self).nanoseconds;
+}
 
 /* Returns the product or the quotient of a duration and an int. */
 static PyObject *scaled(PyObject *self, PyObject *other, int is_quotient)

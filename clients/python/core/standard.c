@@ -377,6 +377,26 @@ static PyObject *moment_now(PyObject *self, PyObject *const *given, Py_ssize_t c
         result.status ? result : fots_moment_to_offset(result.moment, offset));
 }
 
+/* Returns the date and time of the system's local clock. A leap second isn't counted. */
+static PyObject *core_local_now(PyObject *self, PyObject *Py_UNUSED(none))
+{
+    const State *state = state_of_module(self);
+    fots_duration unix_time = now();
+    time_t seconds = (time_t)unix_time.seconds;
+    struct tm local;
+    if (!localtime_r(&seconds, &local)) {
+        return PyErr_SetFromErrno(PyExc_OSError);
+    }
+    fots_date_result date = fots_date_from_calendar_date(local.tm_year + 1900,
+        (uint32_t)local.tm_mon + 1, (uint32_t)local.tm_mday);
+    fots_time_result time = fots_time_from_hms_nano((uint32_t)local.tm_hour,
+        (uint32_t)local.tm_min, local.tm_sec > 59 ? 59 : (uint32_t)local.tm_sec,
+        (uint32_t)unix_time.nanoseconds);
+    int32_t status = date.status ? date.status : time.status;
+    return status ? raise_status(state, status) :
+        new_moment(state->plain, (fots_moment){date.date, {0}, time.time});
+}
+
 static PyObject *core_now(PyObject *self, PyObject *Py_UNUSED(none))
 {
     return new_duration(state_of_module(self), now());

@@ -13,6 +13,32 @@ enum { PART_OF_DAYS = 4, PART_OF_SECONDS, PART_OF_MICROSECONDS, PART_OF_NANOSECO
 
 static int32_t date_to_julian_day(fots_date date) { return date.julian_day; }
 
+/* Returns the day, 5 bits, the month, 4 bits, and the year from -1000000 on. A date keeps them. */
+static uint32_t parts_of_date(PyObject *self)
+{
+    uint32_t *parts = &VALUE(self)->with_parts.parts;
+    if (!*parts) {
+        fots_calendar_date_result date = fots_date_to_calendar_date(DATE(self));
+        *parts = (uint32_t)(date.year + 1000000) << 9 | date.month << 5 | date.day;
+    }
+    return *parts;
+}
+
+static PyObject *date_year(PyObject *self, void *Py_UNUSED(none))
+{
+    return PyLong_FromLong((long)(parts_of_date(self) >> 9) - 1000000);
+}
+
+static PyObject *date_month(PyObject *self, void *Py_UNUSED(none))
+{
+    return new_reference(state_of(self)->months[(parts_of_date(self) >> 5 & 15) - 1]);
+}
+
+static PyObject *date_day(PyObject *self, void *Py_UNUSED(none))
+{
+    return PyLong_FromLong(parts_of_date(self) & 31);
+}
+
 /* ---- offsets */
 
 static int32_t offset_whole_seconds(fots_offset offset) { return offset.seconds; }
@@ -79,13 +105,13 @@ static PyObject *duration_whole_nanoseconds(PyObject *self, PyObject *Py_UNUSED(
 }
 
 /* Returns the nearest float to the seconds. Doubles have all ints up to 2^53. */
-static PyObject *seconds_of(const State *state, fots_duration duration)
+static PyObject *seconds_of(PyObject *value, fots_duration duration)
 {
-    fots_int64_result whole = fots_duration_whole_microseconds(duration);
-    if (!whole.status && duration.nanoseconds % 1000 == 0 && whole.number < INT64_C(1) << 53 &&
-        whole.number > -(INT64_C(1) << 53)) {
-        return PyFloat_FromDouble((double)whole.number / 1e6);
+    if (duration.nanoseconds % 1000 == 0 && llabs(duration.seconds) < 9000000000) {
+        int64_t whole = 1000000 * duration.seconds + duration.nanoseconds / 1000;
+        return PyFloat_FromDouble((double)whole / 1e6);
     }
+    const State *state = state_of(value);
     PyObject *self = new_duration(state, duration), *second = PyLong_FromLong(1000000000);
     PyObject *number = self && second ? duration_whole_nanoseconds(self, NULL) : NULL;
     PyObject *made = number ? PyNumber_TrueDivide(number, second) : NULL;
@@ -97,12 +123,12 @@ static PyObject *seconds_of(const State *state, fots_duration duration)
 
 static PyObject *duration_total_seconds(PyObject *self, PyObject *Py_UNUSED(none))
 {
-    return seconds_of(state_of(self), DURATION(self));
+    return seconds_of(self, DURATION(self));
 }
 
 static PyObject *moment_timestamp(PyObject *self, PyObject *Py_UNUSED(none))
 {
-    return seconds_of(state_of(self), fots_moment_unix_time(MOMENT(self)).duration);
+    return seconds_of(self, fots_moment_unix_time(MOMENT(self)).duration);
 }
 
 /* ---- periods */

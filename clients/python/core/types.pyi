@@ -12,6 +12,7 @@ from typing import Any, Callable, ClassVar, Iterable, NamedTuple, SupportsIndex,
 
 from typing_extensions import Self
 
+from . import _core
 from .choices import CalendarUnit, Convention, DayCount
 from .conversions import instant_of, parts_of
 from .enums import Month, Weekday, YearFraction
@@ -370,7 +371,7 @@ class PlainDateTime(_DateTime, _Shifted):
         """Returns the current date and time by the clocks of a zone, or by the system's local
         clock."""
         if zone is None:
-            return PlainDateTime.from_datetime(datetime.datetime.now())
+            return _core.local_now()
         return OffsetDateTime.now().in_zone(zone).local()
     def {parse,fromisoformat}(text) -> PlainDateTime:
         """Parses a date, T or a space, and a time, such as 2024-02-29T23:59:59.25; errors like

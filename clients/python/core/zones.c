@@ -58,3 +58,22 @@ OF(local_type, local_type, Py_BuildValue("NNnn", new_offset(state, result.offset
 OF(local, local, Py_BuildValue("ILLNN", (unsigned)result.kind, (long long)result.earlier,
     (long long)result.later, new_offset(state, result.earlier_offset),
     new_offset(state, result.later_offset)))
+
+/* ---- calls with a PlainDateTime */
+
+static fots_local_result core_zone_resolve(const fots_zone *zone, fots_moment plain)
+{
+    return fots_zone_resolve(zone, plain.date, plain.time);
+}
+
+static fots_moment_result core_zone_moment(const fots_zone *zone, fots_moment plain,
+    uint32_t policy)
+{
+    return fots_zone_moment(zone, plain.date, plain.time, policy);
+}
+
+static fots_moment_result core_zoned_from_local(const fots_zone *zone, fots_moment plain,
+    uint32_t policy)
+{
+    return fots_zoned_from_local(zone, plain.date, plain.time, policy);
+}

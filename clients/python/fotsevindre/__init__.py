@@ -28,7 +28,7 @@ _core.setup(_datetime.date, _datetime.time, _datetime.datetime, _datetime.timede
     _datetime.tzinfo, _datetime.timezone,
     _core.has_layouts(_datetime.date(2024, 2, 29), _datetime.time(1, 2, 3, 4),
         _datetime.datetime(2024, 2, 29, 1, 2, 3, 4), _datetime.timedelta(-1, 2, 3)), Weekday, _choices.CalendarUnit,
-    _choices.Convention, _choices.DayCount, YearFraction, status_error, *Month, *Weekday)
+    _choices.Convention, _choices.DayCount, YearFraction, status_error, ComponentRange, *Month, *Weekday)
 
 from . import calls as _calls, members as _members
 from ._core import IsoCalendarDate

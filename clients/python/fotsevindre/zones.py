@@ -28,6 +28,8 @@ from .formats import Format
 # fotsevindre_zones.h.
 _KEY = re.compile("[A-Za-z][A-Za-z0-9_+/-]*")
 _MAX_BYTES = 65536
+# Sets the attributes of a frozen value at once.
+_set = object.__setattr__
 
 
 @dataclasses.dataclass(frozen=True)
@@ -44,12 +46,6 @@ class Local:
     offset_before: UtcOffset
     offset_after: UtcOffset
     _zone: Any = dataclasses.field(repr=False, compare=False)
-
-    @classmethod
-    def _of(cls, *parts: Any) -> Local:
-        made = cls.__new__(cls)
-        vars(made).update(zip(_LOCAL_PARTS, parts))
-        return made
 
     def compatible(self) -> OffsetDateTime:
         """Returns the date-time that RFC 5545 and most calendars mean: in a gap the reading moved
@@ -70,11 +66,10 @@ class Local:
 
     def _by(self, policy: Policy) -> OffsetDateTime:
         """Returns the date-time that a policy selects."""
-        return _core.zone_moment(self._zone, self.reading.date(), self.reading.time(), policy)
+        return _core.zone_moment(self._zone, self.reading, policy)
 
 
-_LOCAL_PARTS = tuple(field.name for field in dataclasses.fields(Local))
-_KINDS = (None, *LocalKind)
+_KINDS = (LocalKind.Single, *LocalKind)
 
 
 def _seconds(moment: OffsetDateTime | SupportsIndex) -> int:
@@ -131,12 +126,12 @@ class Zone:
 
     def __new__(cls, key: str) -> Zone:
         """Returns the zone of a key, which is read once."""
-        return _named(check(key, str))
+        return cls._of(check(key, str), _file_of(key), False)
 
     @staticmethod
     def clear_cache() -> None:
         """Forgets the zones that were read, so that `Zone(key)` reads their files again."""
-        _named.cache_clear()
+        Zone.__new__.cache_clear()  # type: ignore[attr-defined]
 
     @classmethod
     def _of(cls, key: str, data: bytes, is_posix: bool) -> Zone:
@@ -144,7 +139,7 @@ class Zone:
             zone = _core.zone_new(data, is_posix)
         except ParseError as error:
             raise ZoneError(error.position, "unexpected end") from None
-        made = super().__new__(cls)
+        made = object.__new__(cls)
         vars(made).update(key=key, _data=data, _is_posix=is_posix, _zone=zone)
         return made
 
@@ -181,10 +176,13 @@ class Zone:
 
     def resolve(self, reading: PlainDateTime) -> Local:
         """Returns exactly the instants at which the clocks show a reading."""
-        date, time = check(reading, PlainDateTime).date(), reading.time()
-        kind, earlier, later, before, after = _core.zone_resolve(self._zone, date, time)
+        kind, earlier, later, before, after = _core.zone_resolve(self._zone, reading)
         instants = ((earlier,), (), (earlier, later))[kind - 1]
-        return Local._of(reading, _KINDS[kind], instants, before, after, self._zone)
+        made = Local.__new__(Local)
+        _set(made, "__dict__", {
+            "reading": reading, "kind": _KINDS[kind], "instants": instants, "offset_before": before,
+            "offset_after": after, "_zone": self._zone})
+        return made
 
     def in_zone(self, moment: OffsetDateTime) -> OffsetDateTime:
         """Returns the same instant in this zone, like `OffsetDateTime.in_zone`."""
@@ -249,9 +247,8 @@ class Zone:
         return type(self).from_file, (self._data, self.key)
 
 
-@functools.cache
-def _named(key: str) -> Zone:
-    return Zone._of(key, _file_of(key), False)
+# The cache is around the function itself, which takes less time than a call of another one.
+setattr(Zone, "__new__", staticmethod(functools.cache(Zone.__new__)))
 
 
 def _part(name: str) -> Any:
@@ -304,24 +301,22 @@ class ZonedDateTime:
         nanosecond, offset = map(_part, ("nanosecond", "offset"))
 
     def __init__(self, moment: OffsetDateTime, zone: Zone) -> None:
-        self._set(check(zone, Zone).in_zone(moment), zone)
-
-    def _set(self, moment: OffsetDateTime, zone: Zone) -> ZonedDateTime:
-        vars(self).update(zone=zone, _moment=moment)
-        return self
+        moment = check(zone, Zone).in_zone(moment)
+        _set(self, "__dict__", {"zone": zone, "_moment": moment})
 
     @classmethod
     def _at(cls, moment: OffsetDateTime, zone: Zone) -> ZonedDateTime:
         """Returns a value of a moment with the offset of the zone."""
-        return cls.__new__(cls)._set(moment, zone)
+        made = cls.__new__(cls)
+        _set(made, "__dict__", {"zone": zone, "_moment": moment})
+        return made
 
     @classmethod
     def from_local(cls, reading: PlainDateTime, zone: Zone,
                    policy: Policy = Policy.Compatible) -> ZonedDateTime:
         """Creates the date-time that a local time means by a policy."""
-        date, time = check(reading, PlainDateTime).date(), reading.time()
-        parts = check(zone, Zone)._zone
-        return cls._at(_core.zoned_from_local(parts, date, time, check(policy, Policy)), zone)
+        number = check(policy, Policy)
+        return cls._at(_core.zoned_from_local(check(zone, Zone)._zone, reading, number), zone)
 
     @classmethod
     def from_unix_duration(cls, duration: SignedDuration, zone: Zone) -> ZonedDateTime:

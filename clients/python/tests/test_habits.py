@@ -91,7 +91,7 @@ class SilentlyWrong(unittest.TestCase):
         for place, other in itertools.product(range(4), wrong):
             self.assertFalse(_core.has_layouts(*usual[:place], other, *usual[place + 1:]))
         types = (datetime.date, datetime.time, datetime.datetime, datetime.timedelta, datetime.tzinfo, datetime.timezone)
-        setup = (Weekday, CalendarUnit, Convention, DayCount, fotsevindre.YearFraction, fotsevindre.status_error, *Month, *Weekday)
+        setup = (Weekday, CalendarUnit, Convention, DayCount, fotsevindre.YearFraction, fotsevindre.status_error, ComponentRange, *Month, *Weekday)
         try:
             _core.setup(*types, False, *setup)
             self.assertEqual((LEAP_DAY + datetime.timedelta(1), PlainDateTime.MIN + datetime.timedelta(0, 1, 2)), (Date(2024, 3, 1), PlainDateTime.MIN + Other(0, 1, 2)))
@@ -417,7 +417,7 @@ class LikeDatetime(unittest.TestCase):
         for value in found:
             self.assertTrue(OffsetDateTime.from_datetime(before) <= getattr(value, "to_offset_date_time", lambda: value)() <= OffsetDateTime.from_datetime(after) + SignedDuration.MICROSECOND)
         self.assertEqual([one.offset for one in found[:3]], [UtcOffset.UTC, UtcOffset(-5, 30), UtcOffset(14)])
-        before, own, after = datetime.datetime.now(), PlainDateTime.now().to_datetime(), datetime.datetime.now()
+        before, own, after = datetime.datetime.now(), PlainDateTime.now().truncate_to_microsecond().to_datetime(), datetime.datetime.now()
         self.assertTrue(before <= own <= after)
         before, own, after = PlainDateTime.now(zone).date(), Date.today(zone), PlainDateTime.now(zone).date()
         self.assertTrue(before <= own <= after)
@@ -529,7 +529,7 @@ class LikeDatetime(unittest.TestCase):
             self.assertEqual((Date.from_date(OtherDate(*other.timetuple()[:3])).to_date(), Time.from_time(OtherTime(*other.timetuple()[3:6])).isoformat()),
                 (other.date(), other.time().replace(microsecond=0).isoformat()))
         types = (datetime.date, datetime.time, datetime.datetime, datetime.timedelta, datetime.tzinfo, datetime.timezone)
-        setup = (Weekday, CalendarUnit, Convention, DayCount, fotsevindre.YearFraction, fotsevindre.status_error, *Month, *Weekday)
+        setup = (Weekday, CalendarUnit, Convention, DayCount, fotsevindre.YearFraction, fotsevindre.status_error, ComponentRange, *Month, *Weekday)
         try:
             _core.setup(*types, False, *setup)
             self.test_methods()
