@@ -1,6 +1,7 @@
 """Calls over whole columns: buffers of integers, arrays of numpy, series of pandas, and lists."""
 
 import array
+import operator
 import sys
 from typing import Any, Callable, TypeVar
 
@@ -12,11 +13,25 @@ _R = TypeVar("_R")
 _WORDS = {"D": "days", "s": "seconds"}
 # The units of datetime64 in columns with these names.
 _UNITS = {"dates": "D", "others": "D", "seconds": "s", "readings": "s"}
+_SECONDS = {"s": 1, "ms": 10**3, "us": 10**6, "ns": 10**9}
+# How many of a unit of datetime64 are in a day or a second.
+_FACTORS = {(name, unit): count * seconds for name, count in _SECONDS.items()
+    for unit, seconds in (("D", 86400), ("s", 1))}
+# The Unix days of dates.
+_FIRST, _LAST = ((Date(*parts) - Date(1970, 1, 1)).whole_days()
+    for parts in ((-999999, 1, 1), (999999, 12, 31)))
 
 
 def _whole(values: Any, unit: str) -> Any:
     """Returns the days or seconds of an array of datetime64 or timedelta64 in 64 bits."""
     kind = "datetime64" if values.dtype.kind == "M" else "timedelta64"
+    factor = _FACTORS.get((values.dtype.str[4:-1], unit))
+    if factor:
+        numbers = values.view("int64")
+        whole = numbers // factor
+        if (whole * factor == numbers).all():
+            return whole
+    # This takes longer, and NaT stays.
     found = values.astype(f"{kind}[{unit}]", copy=False)
     if found is not values and not ((found == values) | (found != found)).all():
         raise ValueError(f"expected whole {_WORDS[unit]} in a column of {values.dtype}; "
@@ -91,6 +106,16 @@ class _Like:
         masked = self.numpy.ma.MaskedArray if self.numpy else ()
         self.masks = [one.mask for one in rows if isinstance(one, masked)]
 
+    def in_unit(self, found: Any, name: str) -> Any:
+        """Returns times in the unit of the series that was given, if they fit: pandas takes much
+        longer for that."""
+        given = self.series.dtype.str[4:-1] if self.series is not None else ""
+        factor = _FACTORS.get((given, self.times[name]), 1)
+        numbers, limit = found.view("int64"), 2**63 // factor
+        if factor == 1 or not len(found) or numbers.min() <= -limit or numbers.max() >= limit:
+            return found
+        return (numbers * factor).view(f"datetime64[{given}]")
+
     def made(self, name: str, column: Any) -> Any:
         """Returns a column of a result: of datetime64 if that was given, with the same mask and
         index."""
@@ -101,6 +126,7 @@ class _Like:
             return found
         if name in self.times:
             found = found.view(f"datetime64[{self.times[name]}]")
+            found = self.in_unit(found, name)
         if self.masks:
             found = self.numpy.ma.MaskedArray(found, self.numpy.logical_or.reduce(self.masks))
         if self.series is None:
@@ -111,10 +137,37 @@ class _Like:
         return sys.modules["pandas"].Index(found)
 
 
+def _days_later(dates: Any, days: Any) -> Any:
+    """Returns the days of datetime64[D] some days later, by numpy, if all of both are dates, so that
+    no sum wrapped around, and else `None`."""
+    numpy: Any = sys.modules.get("numpy")
+    if numpy is None or type(dates) is not numpy.ndarray or dates.dtype != "datetime64[D]":
+        return None
+    if dates.ndim != 1 or not len(dates):
+        return None
+    if type(days) is numpy.ndarray and days.dtype == "timedelta64[D]":
+        days = days.view("int64")
+    numbers = dates.view("int64")
+    lowest, highest = int(numbers.min()), int(numbers.max())
+    if type(days) is int:
+        later = [lowest + days, highest + days]
+    elif type(days) is numpy.ndarray and days.dtype == "int64" and days.shape == dates.shape:
+        found = numbers + days
+        later = [int(found.min()), int(found.max())]
+    else:
+        return None
+    if min(lowest, *later) < _FIRST or max(highest, *later) > _LAST:
+        return None
+    return (numbers + days if type(days) is int else found).view("datetime64[D]")
+
+
 def call(kind: Callable[..., _R], name: str, reads: str, writes: str,
          extra: Workdays | bytes | tuple[Any, ...] | None, **columns: Any) -> _R:
     """Calls C for columns by their names, with numbers in these letters and working days, a format
     or a zone, and makes the result."""
+    later = _days_later(**columns) if name == "dates_add_days" else None
+    if later is not None:
+        return kind(later, sys.modules["numpy"].zeros(len(later), "uint8"), 0)
     for one, given in columns.items():
         if one != "texts" and isinstance(given, (bytes, bytearray)):
             raise TypeError(f"expected numbers in {one}, not {type(given).__name__}")

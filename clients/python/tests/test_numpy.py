@@ -45,6 +45,24 @@ class Numpy(unittest.TestCase):
         self.assertEqual(fotsevindre.dates_add_days(days[:0], 1).dates.dtype, "datetime64[D]")
         self.assertRaisesRegex(TypeError, "one dimension, not 2", fotsevindre.dates_weekdays, days.reshape(3, 1))
 
+    def test_days_later(self):
+        """Sums of numpy, and those of the library for columns of ints, are the same, also where one isn't a date."""
+        draw = numpy.random.default_rng(97)
+        first, last = (date.to_julian_day() - 2440588 for date in (Date.MIN, Date.MAX))
+        far = [first, first - 1, first + 1, last, last + 1, last - 1, 0, -2**63, 2**63 - 1, 2**31, -2**31]
+        for _ in range(200):
+            rows = draw.integers(1, 40)
+            days = draw.integers(first, last, rows, endpoint=True)
+            moves = draw.integers(-1000, 1000, rows)
+            for column in (days, moves):
+                column[draw.integers(rows)] = far[draw.integers(len(far))] if draw.integers(2) else 0
+            for move in (moves, moves.view("timedelta64[D]"), int(moves[0])):
+                found = fotsevindre.dates_add_days(days.view("datetime64[D]"), move)
+                wanted = fotsevindre.dates_add_days([day + 2440588 if first <= day <= last else -2**31 for day in days.tolist()], move if isinstance(move, int) else moves.tolist())
+                self.assertEqual([None if day == -2**31 else day - 2440588 for day in wanted.dates], [None if numpy.isnat(day) else int(day.view("int64")) for day in found.dates])
+                self.assertEqual((list(found.statuses), found.error_count), (list(wanted.statuses), wanted.error_count))
+                self.assertEqual((found.statuses.dtype, found.dates.dtype), ("uint8", "datetime64[D]"))
+
     def test_what_is_in_a_rule(self):
         day = Date(2024, 2, 29)
         for container in (day.iter_to(day), Rule(day, Frequency.Daily)):
