@@ -94,6 +94,7 @@ const HIDDEN: &[(&str, &[&str])] = &[
         ],
     ),
     ("Date", &["from_month_index_clamped", "from_month_number_clamped"]),
+    ("Text", &["push_to"]),
     ("Values", &["from_slice", "push"]),
     ("ParseError", &["unexpected"]),
     ("Scanner", &["byte_from"]),

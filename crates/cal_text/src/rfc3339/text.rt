@@ -1,11 +1,13 @@
 //! The text of a moment.
 ghost use Rattle.std.specs.Prelude.{◌≡◌, ◌+◌, ◌≤◌, ◌++◌, IfSome, SomeIff, codes, length, pos, Some};
 ghost use Rattle.std.specs.Fmt.{padded};
+ghost use Rattle.cal_time.specs.Date.{year_at, month_at, day_of_month_at};
 ghost use Rattle.cal_time.specs.DateText.{digits_at_least};
 ghost use Rattle.cal_time.specs.Time.{hour_of, minute_of, second_of};
 ghost use Rattle.cal_time.specs.ShortText.{HasRoom};
 ghost use Rattle.cal_datetime.specs.DateTime.{date_at, time_at};
 ghost use Rattle.cal_text.specs.Rfc3339.{HasMomentText, offset_text, rfc3339_text};
+ghost use Rattle.cal_text.specs.DateForms.{year_text};
 ghost use Rattle.cal_text.specs.Rfc3339Form.{IsMomentText};
 
 use crate::fraction::push_fraction;
@@ -55,13 +57,41 @@ impl Text {
         ensures value { result ≡ rfc3339_text self.date self.time self.offset }
         ensures max_length { length result ≤ 38 }
     {
-        let mut text = self.date.text();
-        text.push("T");
-        push_time(&mut text, self.time);
-        push_fraction(&mut text, self.time.nanosecond());
-        push_offset(&mut text, self.offset);
+        let mut text = ShortText::new();
+        self.push_to(&mut text);
         text
     }
+
+    /// Appends what [`Self::text`] returns, at most 38 bytes, which must fit. This saves a move of the
+    /// text.
+    pub fn push_to(self, text: &mut ShortText)
+        requires { HasRoom 38 text.old }
+        ensures appended { text.new ≡ text.old ++ rfc3339_text self.date self.time self.offset }
+        ensures max_length { length text.new ≤ length text.old + 38 }
+    {
+        push_date(text, self.date);
+        text.push("T");
+        push_time(text, self.time);
+        push_fraction(text, self.time.nanosecond());
+        push_offset(text, self.offset);
+    }
+}
+
+/// Appends the year, the month and the day.
+#[tactic(auto, using(cal_time::proofs::TextLengths::text_lengths))]
+fn push_date(text: &mut ShortText, date: Date)
+    requires { HasRoom 13 text.old }
+    ensures appended { text.new ≡ text.old ++ year_text (year_at date) ++ codes "-"
+        ++ digits_at_least 2 (month_at date)
+        ++ codes "-" ++ digits_at_least 2 (day_of_month_at date) }
+    ensures max_length { length text.new ≤ length text.old + 13 }
+{
+    let (month_index, day) = date.month_index_and_day();
+    text.push_year(date.year());
+    text.push("-");
+    text.push_two_digits(u32::from(month_index) + 1);
+    text.push("-");
+    text.push_two_digits(u32::from(day));
 }
 
 /// Appends the hour, the minute and the second.

@@ -1,6 +1,7 @@
 //! The text of a Unix time.
-ghost use Rattle.std.specs.Prelude.{◌≡◌, ◌≤◌, Some, length};
+ghost use Rattle.std.specs.Prelude.{◌≡◌, ◌+◌, ◌≤◌, ◌++◌, Some, length};
 ghost use Rattle.std.specs.Fmt.{padded};
+ghost use Rattle.cal_time.specs.ShortText.{HasRoom};
 ghost use Rattle.cal_datetime.specs.OffsetDateTime.{instant, unix_nanoseconds};
 ghost use Rattle.cal_text.specs.UnixText.{HasUnixForm, unix_text};
 
@@ -36,20 +37,30 @@ impl Text {
     }
 
     /// Returns the text, at most 32 bytes. Half a second before 1970 it is `@-0.5`.
-    #[tactic(auto, using(crate::proofs::NumberTexts::few_digits))]
     pub fn text(self) -> ShortText
         ensures value { result ≡ unix_text self.since_epoch }
         ensures max_length { length result ≤ 32 }
     {
-        let (seconds, nanosecond) = self.since_epoch.unsigned_abs();
         let mut text = ShortText::new();
+        self.push_to(&mut text);
+        text
+    }
+
+    /// Appends what [`Self::text`] returns, at most 32 bytes, which must fit. This saves a move of the
+    /// text.
+    #[tactic(auto, using(crate::proofs::NumberTexts::few_digits))]
+    pub fn push_to(self, text: &mut ShortText)
+        requires { HasRoom 32 text.old }
+        ensures appended { text.new ≡ text.old ++ unix_text self.since_epoch }
+        ensures max_length { length text.new ≤ length text.old + 32 }
+    {
+        let (seconds, nanosecond) = self.since_epoch.unsigned_abs();
         text.push("@");
         if self.since_epoch.is_negative() {
             text.push("-");
         }
         text.push_number(seconds);
-        push_fraction(&mut text, nanosecond);
-        text
+        push_fraction(text, nanosecond);
     }
 }
 
