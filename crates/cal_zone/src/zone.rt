@@ -101,6 +101,15 @@ impl<'a> Zone<'a> {
         }
     }
 
+    /// Returns the zone as one whose changes need not be in order.
+    #[inline(always)]
+    pub fn as_unchecked(&self) -> &UncheckedZone<'a>
+        ensures value { result.now ≡ self.now }
+        ensures order { InOrder self.now }
+    {
+        &self.unchecked
+    }
+
     /// Returns the seconds by which clocks are ahead of UTC at a Unix time in seconds. In Berlin it
     /// is 7200 at 1711846800, 2024-03-31 1:00 UTC.
     pub fn offset_at(&self, instant: i64) -> i32
