@@ -140,10 +140,12 @@ static int read_delta(const State *state, PyObject *object, fots_duration *durat
     int64_t days = 0, seconds = 0, nanoseconds = 0;
     if (is_usual(state, object, state->timedelta)) {
         const Delta *delta = (const Delta *)object;
-        days = delta->days;
-        seconds = delta->seconds;
-        nanoseconds = 1000 * (int64_t)delta->microseconds;
-    } else if (!add_attribute(object, "days", 0, 1, &days) ||
+        int is_negative = delta->days < 0 && delta->microseconds;
+        duration->seconds = (int64_t)delta->days * 86400 + delta->seconds + is_negative;
+        duration->nanoseconds = 1000 * (delta->microseconds - 1000000 * is_negative);
+        return 1;
+    }
+    if (!add_attribute(object, "days", 0, 1, &days) ||
         !add_attribute(object, "seconds", 0, 1, &seconds) ||
         !add_attribute(object, "microseconds", 0, 1000, &nanoseconds) ||
         !add_attribute(object, "nanoseconds", 1, 1, &nanoseconds)) {

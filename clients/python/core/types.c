@@ -107,6 +107,9 @@ static PyObject *duration_whole_nanoseconds(PyObject *self, PyObject *Py_UNUSED(
 /* Returns the nearest float to the seconds. Doubles have all ints up to 2^53. */
 static PyObject *seconds_of(PyObject *value, fots_duration duration)
 {
+    if (!duration.nanoseconds && llabs(duration.seconds) < INT64_C(1) << 53) {
+        return PyFloat_FromDouble((double)duration.seconds);
+    }
     if (duration.nanoseconds % 1000 == 0 && llabs(duration.seconds) < 9000000000) {
         int64_t whole = 1000000 * duration.seconds + duration.nanoseconds / 1000;
         return PyFloat_FromDouble((double)whole / 1e6);
@@ -387,8 +390,8 @@ static PyObject *value_deepcopy(PyObject *self, PyObject *Py_UNUSED(memo))
     return new_reference(self);
 }
 
-/* Returns a function and what it takes to make the value: the type for what has few components, and
- * else a function of the module, whose name pickles keep. */
+/* Returns a function and what it takes to make the value: the type for what has components only by
+ * position, and else a function of the module, whose name pickles keep. */
 static PyObject *value_reduce(PyObject *self, PyObject *Py_UNUSED(none))
 {
     PyTypeObject *type = Py_TYPE(self);
@@ -403,6 +406,11 @@ static PyObject *value_reduce(PyObject *self, PyObject *Py_UNUSED(none))
         return Py_BuildValue("O(iii)", type, (int)own.hours, (int)own.minutes, (int)own.seconds);
     }
     PyObject *module = PyType_GetModule(type);
+    if (type == state->time && fots_time_nanosecond(TIME(self)).number == 0) {
+        fots_hms_nano_result time = fots_time_as_hms_nano(TIME(self));
+        return Py_BuildValue("O(III)", type, (unsigned)time.hour, (unsigned)time.minute,
+            (unsigned)time.second);
+    }
     if (type == state->time) {
         return Py_BuildValue("N(K)", PyObject_GetAttrString(module, "make_time"),
             (unsigned long long)TIME(self));
@@ -412,11 +420,23 @@ static PyObject *value_reduce(PyObject *self, PyObject *Py_UNUSED(none))
             (long long)DURATION(self).seconds, (int)DURATION(self).nanoseconds);
     }
     fots_moment own = MOMENT(self);
+    fots_hms_nano_result time = fots_time_as_hms_nano(own.time);
+    if (type == state->plain && !time.nanosecond) {
+        fots_calendar_date_result date = fots_date_to_calendar_date(own.date);
+        return Py_BuildValue("O(iIIIII)", type, (int)date.year, (unsigned)date.month,
+            (unsigned)date.day, (unsigned)time.hour, (unsigned)time.minute, (unsigned)time.second);
+    }
     return type == state->plain ?
         Py_BuildValue("N(iK)", PyObject_GetAttrString(module, "make_plain"),
             (int)own.date.julian_day, (unsigned long long)own.time) :
         Py_BuildValue("N(iKi)", PyObject_GetAttrString(module, "make_moment"),
             (int)own.date.julian_day, (unsigned long long)own.time, (int)own.offset.seconds);
+}
+
+/* Called by `pickle` and `copy`, which take longer to find the function above. */
+static PyObject *value_reduce_ex(PyObject *self, PyObject *Py_UNUSED(protocol))
+{
+    return value_reduce(self, NULL);
 }
 
 static fots_time_result core_make_time(int64_t nanoseconds)

@@ -8,13 +8,14 @@ import datetime
 import functools
 import operator
 from datetime import timedelta
-from typing import Any, Callable, ClassVar, Iterable, NamedTuple, SupportsIndex, overload
+from typing import Any, Callable, ClassVar, Iterable, Iterator, SupportsIndex, Tuple, final, overload
 
+from _typeshed import structseq
 from typing_extensions import Self
 
 from . import _core
 from .choices import CalendarUnit, Convention, DayCount
-from .conversions import instant_of, parts_of
+from .conversions import instant_of, parts_of, pydantic_schema, value_of
 from .enums import Month, Weekday, YearFraction
 from .errors import check
 from .formats import Format
@@ -28,9 +29,9 @@ from .zones import Zone
 _Rule = tuple[Any, ...]
 _Zone = Any
 
-class IsoCalendarDate(NamedTuple):
+class IsoCalendarDate(structseq[int], Tuple[int, int, int]):
     "An ISO week date, whose weekday is from 1 (Monday) to 7 (Sunday)."
-    {year,week,weekday}: int
+    {year,week,weekday}: int = "The {ISO year,week from 1 to 53,weekday from 1 (Monday) to 7}."
 
 class _Value:
     def __{lt,le,gt,ge}__(self, other: Self) -> bool: ...
@@ -40,6 +41,7 @@ class _Value:
     def __copy__(self) -> Self: ...
     def __deepcopy__(self, memo: Any) -> Self: ...
     def __reduce__(self) -> tuple[Any, ...]: ...
+    def __reduce_ex__(self, protocol: Any) -> tuple[Any, ...]: ...
 
     def __format__(self, specification: str) -> str:
         "Formats by a format, which has a percent sign, or else the text of the value."
@@ -54,6 +56,14 @@ class _Moved:
         "Returns the value {plus,minus} a duration, or the nearest end of the range."
 
 class _Formatted:
+    @classmethod
+    def __get_pydantic_core_schema__(cls, source: Any, handler: Any) -> Any:
+        "Returns how Pydantic 2 reads and writes the type: as the text of `isoformat`."
+        return pydantic_schema(cls)
+    @classmethod
+    def __get_validators__(cls) -> Iterator[Callable[[Any], Any]]:
+        "Returns the function by which Pydantic 1 reads the type."
+        return iter([lambda value: value_of(cls, value)])
     def strftime(self, format: str | Format) -> str:
         """Returns the text by a format, or raises ValueError if that shows more than the value has,
         such as `%Z`, which `Zone.strftime` prints."""

@@ -1,6 +1,7 @@
 """Units of durations, and functions for the members in Python that types.pyi declares."""
 
 import functools
+import importlib
 import math
 import types
 from typing import Any
@@ -46,6 +47,22 @@ def instant_of(timestamp: float) -> SignedDuration:
         fraction, seconds = math.modf(timestamp)
         return SignedDuration(seconds=int(seconds), microseconds=round(fraction * 1e6))
     return SignedDuration(seconds=timestamp)
+
+
+def value_of(kind: Any, given: object) -> Any:
+    """Returns a value of a type, or parses its text."""
+    return given if isinstance(given, kind) else kind.fromisoformat(given)
+
+
+def pydantic_schema(kind: Any) -> Any:
+    """Returns the schema of a type for Pydantic 2, which imports this first."""
+    core_schema = importlib.import_module("pydantic_core.core_schema")
+    text = core_schema.no_info_after_validator_function(kind.fromisoformat, core_schema.str_schema())
+    return core_schema.json_or_python_schema(
+        json_schema=text,
+        python_schema=core_schema.union_schema([core_schema.is_instance_schema(kind), text]),
+        serialization=core_schema.plain_serializer_function_ser_schema(
+            str, when_used="json", return_schema=core_schema.str_schema()))
 
 
 # The first ones are only functions. The others are attributes of a duration, too.

@@ -2,7 +2,7 @@
 
 import datetime
 import enum
-from typing import Any, Callable
+from typing import Any
 
 from ._core import Date, OffsetDateTime, PlainDateTime
 from .messages import MESSAGES, NAMES, PARTS
@@ -11,35 +11,34 @@ from .messages import MESSAGES, NAMES, PARTS
 _MESSAGES = {**MESSAGES, 6: "invalid weekday; expected 0 (Monday) to 6 (Sunday)"}
 
 
-class _Error(ValueError):
-    """An error whose attributes are its arguments, which is faster than attributes of its own."""
-
-    def __init_subclass__(cls) -> None:
-        names = tuple(cls.__annotations__)
-        setattr(cls, "__match_args__", names)
-        for place, name in enumerate(names):
-            setattr(cls, name, property(_argument(place)))
+# The attributes of an error are its arguments, since a function that sets them takes as long as the
+# rest of an error.
 
 
-def _argument(place: int) -> Callable[[ValueError], Any]:
-    return lambda error: error.args[place] if place < len(error.args) else None
-
-
-class ComponentRange(_Error):
+class ComponentRange(ValueError):
     """A component is out of range. `name` is its name, and `is_conditional` says whether its range
     depends on other components.
 
     The range of a day depends on the month and the year, and the range of an hour on nothing.
     """
 
-    name: str
-    is_conditional: bool
+    __match_args__ = ("name", "is_conditional")
+
+    @property
+    def name(self) -> str:
+        """The name of the component."""
+        return self.args[0]  # type: ignore[no-any-return]
+
+    @property
+    def is_conditional(self) -> bool:
+        """Whether the range depends on other components."""
+        return self.args[1]  # type: ignore[no-any-return]
 
     def __str__(self) -> str:
         return f"{self.name} was not in range"
 
 
-class ParseError(_Error):
+class ParseError(ValueError):
     """A text has none of the forms that a call parses. `position` is the first wrong character,
     from 0.
 
@@ -47,28 +46,47 @@ class ParseError(_Error):
     `position` is its length.
     """
 
-    position: int
-    is_end: bool
+    __match_args__ = ("position", "is_end")
+
+    @property
+    def position(self) -> int:
+        """The first wrong character, from 0."""
+        return self.args[0]  # type: ignore[no-any-return]
+
+    @property
+    def is_end(self) -> bool:
+        """Whether the text ends too early."""
+        return self.args[1]  # type: ignore[no-any-return]
 
     def __str__(self) -> str:
         return f"unexpected {'end' if self.is_end else 'byte'} at {self.position}"
 
 
-class ContradictionError(_Error):
+class ContradictionError(ValueError):
     """A component of a text isn't the component of the value that the others determine, such as the
     weekday of `Wed 2024-02-29`. `name` is its name."""
 
-    name: str
+    __match_args__ = ("name",)
+
+    @property
+    def name(self) -> str:
+        """The name of the component."""
+        return self.args[0]  # type: ignore[no-any-return]
 
     def __str__(self) -> str:
         return f"{self.name} contradicts the other components"
 
 
-class FormatError(_Error):
+class FormatError(ValueError):
     """A text is not a format. No item begins at `position`, from 0, or it is `None`, if the format
     has more than 64 items."""
 
-    position: int | None
+    __match_args__ = ("position",)
+
+    @property
+    def position(self) -> int | None:
+        """Where no item begins, from 0."""
+        return self.args[0]  # type: ignore[no-any-return]
 
     def __str__(self) -> str:
         if self.position is None:
@@ -86,27 +104,49 @@ class ParseRuleErrorKind(enum.Enum):
     Missing = "missing FREQ"
 
 
-class ParseRuleError(_Error):
+class ParseRuleError(ValueError):
     """The text of a recurrence is invalid. `kind` and `position`, from 0, describe the first wrong
     part.
 
     `part` is its name, or `None` for the kinds `Unknown` and `Missing`.
     """
 
-    position: int
-    kind: ParseRuleErrorKind
-    part: str | None = None
+    __match_args__ = ("position", "kind", "part")
+
+    @property
+    def position(self) -> int:
+        """The first wrong character, from 0."""
+        return self.args[0]  # type: ignore[no-any-return]
+
+    @property
+    def kind(self) -> ParseRuleErrorKind:
+        """Why the part is wrong."""
+        return self.args[1]  # type: ignore[no-any-return]
+
+    @property
+    def part(self) -> str | None:
+        """The name of the part."""
+        return self.args[2] if len(self.args) > 2 else None
 
     def __str__(self) -> str:
         return f"{self.kind.value.format(self.part or 'part')} at {self.position}"
 
 
-class ZoneError(_Error):
+class ZoneError(ValueError):
     """The bytes or the text of a time zone are invalid. `reason` and `position`, from 0, describe
     the first wrong byte."""
 
-    position: int
-    reason: str
+    __match_args__ = ("position", "reason")
+
+    @property
+    def position(self) -> int:
+        """The first wrong byte, from 0."""
+        return self.args[0]  # type: ignore[no-any-return]
+
+    @property
+    def reason(self) -> str:
+        """Why the byte is wrong."""
+        return self.args[1]  # type: ignore[no-any-return]
 
     def __str__(self) -> str:
         return f"{self.reason} at {self.position}"

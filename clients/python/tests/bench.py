@@ -1,21 +1,25 @@
-"""Times calls from Python beside `datetime`, and rows of columns. It prints the minimum of the
-rounds, in nanoseconds of processor time.
+"""Times calls from Python beside `datetime`, and rows of columns beside NumPy and pandas. It prints the minimum of the
+rounds, which are run in turn, in nanoseconds of processor time, and how many times as long a call takes.
 
 Nothing tests the output.
 """
 
 import array
+import copy
 import datetime
+import pickle
 import time
 import timeit
+import zoneinfo
 
 try:
     import numpy
+    import pandas
 except ImportError:
-    numpy = None
+    numpy = pandas = None
 
 import fotsevindre
-from fotsevindre import Date, Format, OffsetDateTime, PlainDateTime, SignedDuration, Time, UtcOffset, Workdays
+from fotsevindre import Date, Format, OffsetDateTime, PlainDateTime, SignedDuration, Time, UtcOffset, Workdays, Zone, ZonedDateTime
 
 VALUES = 4096
 ROUNDS = 9
@@ -40,9 +44,50 @@ moments = [date_time.assume_offset(UtcOffset(1)) for date_time in plain]
 others_aware = [moment.to_datetime() for moment in moments]
 hour = datetime.timedelta(hours=25, microseconds=7)
 eighty = Workdays(holidays=many.holidays[:80])
+durations = [date - dates[7] for date in dates]
+deltas = [date - others[7] for date in others]
+seconds = range(1_700_000_000, 1_700_000_000 + VALUES * 3600, 3600)
+recent = [OffsetDateTime.from_unix_timestamp(one).local() for one in seconds]
+others_recent = [one.to_datetime() for one in recent]
+berlin, other_berlin = Zone("Europe/Berlin"), zoneinfo.ZoneInfo("Europe/Berlin")
+
+
+def failed(make):
+    """Returns the errors of a call that fails for each day 32."""
+    found = []
+    for date in others:
+        try:
+            make(date.year, date.month, 32)
+        except ValueError as error:
+            found.append(error)
+    return found
+
 
 LOOPS = [
     ("a date of a year, a month and a day", lambda: [Date.from_calendar_date(*parts) for parts in calendar], lambda: [datetime.date(*parts) for parts in calendar]),
+    ("a date-time of six components", lambda: [PlainDateTime(2024, 2, 29, 1, 2, 3) for _ in dates], lambda: [datetime.datetime(2024, 2, 29, 1, 2, 3) for _ in dates]),
+    ("a date-time of a date and a time", lambda: [PlainDateTime(date, Time.MIDNIGHT) for date in dates], lambda: [datetime.datetime.combine(date, datetime.time.min) for date in others]),
+    ("an error", lambda: failed(Date), lambda: failed(datetime.date)),
+    ("year", lambda: [date.year for date in dates], lambda: [date.year for date in others]),
+    ("month", lambda: [date.month for date in dates], lambda: [date.month for date in others]),
+    ("hour of a date-time", lambda: [one.hour for one in plain], lambda: [one.hour for one in others_plain]),
+    ("the days between two dates", lambda: [(date - dates[7]).days for date in dates], lambda: [(date - others[7]).days for date in others]),
+    ("total_seconds", lambda: [one.total_seconds() for one in durations], lambda: [one.total_seconds() for one in deltas]),
+    ("from datetime.date, and a date of components", lambda: [Date.from_date(date) for date in others], lambda: [datetime.date(date.year, date.month, date.day) for date in others]),
+    ("to datetime.date, and the same", lambda: [date.to_date() for date in dates], lambda: [datetime.date(date.year, date.month, date.day) for date in others]),
+    ("from and to datetime, and its combine", lambda: [PlainDateTime.from_datetime(one).to_datetime() for one in others_plain], lambda: [datetime.datetime.combine(one.date(), one.time()) for one in others_plain]),
+    ("a local time to an instant in a zone", lambda: [berlin.resolve(one).compatible().unix_timestamp() for one in recent], lambda: [one.replace(tzinfo=other_berlin).timestamp() for one in others_recent]),
+    ("the same, ZonedDateTime", lambda: [ZonedDateTime.from_local(one, berlin).unix_timestamp() for one in recent], lambda: [one.replace(tzinfo=other_berlin).timestamp() for one in others_recent]),
+    ("an instant in a zone", lambda: [one.in_zone(berlin) for one in moments], lambda: [one.astimezone(other_berlin) for one in others_aware]),
+    ("pickle of a list of dates, and back", lambda: pickle.loads(pickle.dumps(dates)), lambda: pickle.loads(pickle.dumps(others))),
+    ("pickle of a date, and back", lambda: [pickle.loads(pickle.dumps(date)) for date in dates], lambda: [pickle.loads(pickle.dumps(date)) for date in others]),
+    ("pickle of a date-time, and back", lambda: [pickle.loads(pickle.dumps(one)) for one in plain], lambda: [pickle.loads(pickle.dumps(one)) for one in others_plain]),
+    ("deepcopy", lambda: [copy.deepcopy(date) for date in dates], lambda: [copy.deepcopy(date) for date in others]),
+    ("isoformat of a date-time", lambda: [one.isoformat() for one in plain], lambda: [one.isoformat() for one in others_plain]),
+    ("isoformat at an offset", lambda: [one.isoformat() for one in moments], lambda: [one.isoformat() for one in others_aware]),
+    ("replace", lambda: [one.replace(day=1, hour=2) for one in plain], lambda: [one.replace(day=1, hour=2) for one in others_plain]),
+    ("now", lambda: [OffsetDateTime.now() for _ in dates], lambda: [datetime.datetime.now(datetime.timezone.utc) for _ in dates]),
+    ("today", lambda: [Date.today() for _ in dates], lambda: [datetime.date.today() for _ in dates]),
     ("weekday", lambda: [date.weekday() for date in dates], lambda: [date.weekday() for date in others]),
     ("to_calendar_date", lambda: [date.to_calendar_date() for date in dates], lambda: [(date.year, date.month, date.day) for date in others]),
     ("+ a day", lambda: [date + day for date in dates], lambda: [date + delta for date in others]),
@@ -68,18 +113,25 @@ LOOPS = [
 ]
 if numpy:
     days, days_later = ((numpy.array(column, dtype="int64") - 2440588).view("datetime64[D]") for column in (julian_days, later))
+    whole = numpy.array(moves)
+    series = pandas.Series(pandas.date_range("1900-01-01", periods=VALUES, freq="11D"))
     calendar_of_numpy = numpy.busdaycalendar(holidays=[str(date) for date in eighty.holidays])
     LOOPS += [
         ("the same, datetime64, and busday_count", lambda: fotsevindre.dates_workdays_between(days, days_later, eighty),
             lambda: numpy.busday_count(days, days_later, busdaycal=calendar_of_numpy)),
         ("dates_add_days, datetime64, and +", lambda: fotsevindre.dates_add_days(days, 1), lambda: days + 1),
+        ("the same, a column of days", lambda: fotsevindre.dates_add_days(days, whole), lambda: days + whole),
+        ("dates_add_months, a series, and DateOffset", lambda: fotsevindre.dates_add_months(series, 1), lambda: series + pandas.DateOffset(months=1)),
     ]
 
 
-def least(loop):
-    return min(timeit.repeat(loop, timer=time.process_time, number=3, repeat=ROUNDS)) / 3 / VALUES * 1e9
+def least(*loops):
+    """Returns the minimum for each loop. The rounds are run in turn, as the speed of a busy machine changes."""
+    rounds = [[timeit.timeit(loop, timer=time.process_time, number=3) for loop in loops] for _ in range(ROUNDS)]
+    return [min(times) / 3 / VALUES * 1e9 for times in zip(*rounds)]
 
 
 print(f"nanoseconds a value, minimum of {ROUNDS} rounds, here and by datetime")
 for name, loop, other in LOOPS:
-    print(f"{name:<46}{least(loop):7.1f}" + (f"{least(other):9.1f}" if other else ""))
+    found = least(loop, other) if other else least(loop)
+    print(f"{name:<46}{found[0]:7.1f}" + (f"{found[1]:9.1f}{found[0] / found[1]:7.2f}" if other else ""))
