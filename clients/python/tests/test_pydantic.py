@@ -56,6 +56,15 @@ class PydanticOne(unittest.TestCase):
                 row(**{**VALUES, name: wrong})
             self.assertEqual({error["loc"][0] for error in caught.exception.errors()}, {name})
 
+    def test_json(self):
+        class Row(first.BaseModel):
+            day: Date
+
+            class Config:
+                json_encoders = {Date: str}
+
+        self.assertEqual(Row(day="2024-02-29").json(), '{"day": "2024-02-29"}')
+
 
 if __name__ == "__main__":
     unittest.main()
