@@ -4,8 +4,8 @@ use crate::strip::{Edits, Fault, Item, Kind, Source, TokenKind};
 
 /// Texts that differ: the end of the path of a file, what it has once, and what takes its place.
 const OTHERS: [(&str, &str, &str); 11] = [
-    ("cal_date_tests/src/tests.rt", "Date::MAX.clone()?", "Date::MAX.clone()"),
-    ("cal_date_tests/src/tests.rt", "kernel.clone()?", "kernel.clone()"),
+    ("cal_datetime_tests/src/tests/dates.rt", "Date::MAX.clone()?", "Date::MAX.clone()"),
+    ("cal_datetime_tests/src/tests/dates.rt", "kernel.clone()?", "kernel.clone()"),
     // The law `clones` is left out.
     ("cal_datetime_tests/src/tests/plain.rt", "clones, hash_of,", "hash_of,"),
     ("cal_datetime_tests/src/tests/plain.rt", "clones(noon, utc)?", "(noon.clone(), utc.clone())"),

@@ -29,7 +29,6 @@ fn main() -> ExitCode {
             "caldate_answers",
             "caldate_args",
             "caldate_run",
-            "cal_date_tests",
             "cal_datetime_tests",
             "cal_schedule_tests",
             "caldate_tests",

@@ -5,6 +5,7 @@ use cal_time::{Date, Month, Time, UtcOffset};
 use std::fmt::{Debug, Display};
 use std::process::Abort;
 
+mod dates;
 mod formats;
 mod moments;
 mod one_answer;

@@ -68,14 +68,15 @@ fn check_lines(rt: &(impl Abort + AllocGlobal), rows: &[(&[u8], &[u8])]) {
 
 #[test]
 fn inputs_of_several_lines(rt: HostRuntime) {
-    check_answers(&rt, INPUT, ANSWERS);
+    let rt = &rt;
+    check_answers(rt, INPUT, ANSWERS);
     check_answers(
-        &rt,
+        rt,
         b"julian  0\njulian +5\n\njulian -0\njulian 007\njulian 2147483648\nordinal 2020 65536\njulian",
         b"bad line\nbad line\nbad line\n-4713 ordinal 328 julian 0\n-4713 ordinal 335 julian 7\nbad line\nbad line\nbad line\n",
     );
-    check_answers(&rt, b"", b"");
-    check_answers(&rt, b"\n", b"bad line\n");
+    check_answers(rt, b"", b"");
+    check_answers(rt, b"\n", b"bad line\n");
 }
 
 #[test]
@@ -167,9 +168,10 @@ fn the_longest_answers_are_whole(rt: HostRuntime) {
 
 #[test]
 fn numbers_of_4000_zeros(rt: HostRuntime) {
-    let mut line = b"julian ".to_vec(rt.alloc()).expect(&rt, NO_MEMORY);
-    line.extend_from_slice(&[b'0'; 4000]).expect(&rt, NO_MEMORY);
-    check_lines(&rt, &[(line.as_slice(), b"-4713 ordinal 328 julian 0")]);
+    let rt = &rt;
+    let mut line = b"julian ".to_vec(rt.alloc()).expect(rt, NO_MEMORY);
+    line.extend_from_slice(&[b'0'; 4000]).expect(rt, NO_MEMORY);
+    check_lines(rt, &[(line.as_slice(), b"-4713 ordinal 328 julian 0")]);
 }
 
 fn check_too_long(rt: &(impl Abort + AllocGlobal), input: &[u8]) {
@@ -179,10 +181,11 @@ fn check_too_long(rt: &(impl Abort + AllocGlobal), input: &[u8]) {
 
 #[test]
 fn takes_4096_bytes(rt: HostRuntime) {
+    let rt = &rt;
     let expected = b"bad line\n".as_slice().repeat(rt.alloc(), 4096);
-    let expected = expected.expect(&rt, NO_MEMORY);
-    check_answers(&rt, &[b'\n'; 4096], expected.as_slice());
-    check_answers(&rt, &[b'x'; 4096], b"bad line\n");
-    check_too_long(&rt, &[b'\n'; 4097]);
-    check_too_long(&rt, &[b'x'; 4097]);
+    let expected = expected.expect(rt, NO_MEMORY);
+    check_answers(rt, &[b'\n'; 4096], expected.as_slice());
+    check_answers(rt, &[b'x'; 4096], b"bad line\n");
+    check_too_long(rt, &[b'\n'; 4097]);
+    check_too_long(rt, &[b'x'; 4097]);
 }

@@ -11,84 +11,82 @@ use std::test::Fail;
 
 #[test]
 fn parts_of_a_date_time(rt: HostRuntime) {
-    let night = date_time(&rt, (2024, Month::February, 29), (23, 59, 59, 250_000_000));
+    let rt = &rt;
+    let night = date_time(rt, (2024, Month::February, 29), (23, 59, 59, 250_000_000));
     same(
-        &rt,
+        rt,
         (night.year(), night.month(), night.day()),
         (2024, Month::February, 29),
     );
     same(
-        &rt,
+        rt,
         (night.ordinal(), night.iso_week(), night.weekday()),
         (60, 9, Weekday::Thursday),
     );
     same(
-        &rt,
+        rt,
         (night.sunday_based_week(), night.monday_based_week()),
         (8, 9),
     );
-    same(&rt, night.to_calendar_date(), (2024, Month::February, 29));
-    same(&rt, night.to_ordinal_date(), (2024, 60));
-    same(&rt, night.to_iso_week_date(), (2024, 9, Weekday::Thursday));
-    same(&rt, night.to_julian_day(), 2_460_370);
-    same(&rt, night.as_hms(), (23, 59, 59));
-    same(&rt, night.as_hms_milli(), (23, 59, 59, 250));
-    same(&rt, night.as_hms_micro(), (23, 59, 59, 250_000));
-    same(&rt, night.as_hms_nano(), (23, 59, 59, 250_000_000));
+    same(rt, night.to_calendar_date(), (2024, Month::February, 29));
+    same(rt, night.to_ordinal_date(), (2024, 60));
+    same(rt, night.to_iso_week_date(), (2024, 9, Weekday::Thursday));
+    same(rt, night.to_julian_day(), 2_460_370);
+    same(rt, night.as_hms(), (23, 59, 59));
+    same(rt, night.as_hms_milli(), (23, 59, 59, 250));
+    same(rt, night.as_hms_micro(), (23, 59, 59, 250_000));
+    same(rt, night.as_hms_nano(), (23, 59, 59, 250_000_000));
     same(
-        &rt,
+        rt,
         (night.hour(), night.minute(), night.second()),
         (23, 59, 59),
     );
     same(
-        &rt,
+        rt,
         (night.millisecond(), night.microsecond()),
         (250, 250_000),
     );
-    same(&rt, night.nanosecond(), 250_000_000);
+    same(rt, night.nanosecond(), 250_000_000);
 }
 
 #[test]
 fn moved_date_times(rt: HostRuntime) {
-    let late = date_time(&rt, (2020, Month::December, 31), (23, 0, 0, 0));
-    let early = date_time(&rt, (2021, Month::January, 1), (1, 0, 0, 0));
+    let rt = &rt;
+    let late = date_time(rt, (2020, Month::December, 31), (23, 0, 0, 0));
+    let early = date_time(rt, (2021, Month::January, 1), (1, 0, 0, 0));
     let two = SignedDuration::hours(2);
-    same(&rt, late.checked_add(two), Some(early));
-    same(&rt, early.checked_sub(two), Some(late));
+    same(rt, late.checked_add(two), Some(early));
+    same(rt, early.checked_sub(two), Some(late));
+    same(rt, (on(rt, late, two), back(rt, early, two)), (early, late));
     same(
-        &rt,
-        (on(&rt, late, two), back(&rt, early, two)),
-        (early, late),
-    );
-    same(
-        &rt,
+        rt,
         (early - late, late - early),
         (two, SignedDuration::hours(-2)),
     );
-    same(&rt, late.checked_add(SignedDuration::MAX), None);
-    same(&rt, late.checked_sub(SignedDuration::MAX), None);
+    same(rt, late.checked_add(SignedDuration::MAX), None);
+    same(rt, late.checked_sub(SignedDuration::MAX), None);
     same(
-        &rt,
+        rt,
         late.saturating_add(SignedDuration::MAX),
         max_date_time(),
     );
     same(
-        &rt,
+        rt,
         late.saturating_sub(SignedDuration::MAX),
         min_date_time(),
     );
     same(
-        &rt,
+        rt,
         late.saturating_add(SignedDuration::MIN),
         min_date_time(),
     );
     same(
-        &rt,
+        rt,
         max_date_time().checked_add(SignedDuration::NANOSECOND),
         None,
     );
     same(
-        &rt,
+        rt,
         min_date_time().checked_sub(SignedDuration::NANOSECOND),
         None,
     );
@@ -96,8 +94,9 @@ fn moved_date_times(rt: HostRuntime) {
 
 #[test]
 fn replaced_components(rt: HostRuntime) {
+    let rt = &rt;
     let (day, clock) = ((2024, Month::February, 29), (23, 59, 59, 250_000_000));
-    let night = date_time(&rt, day, clock);
+    let night = date_time(rt, day, clock);
     for &(found, date, time) in &[
         (night.replace_year(2020), (2020, Month::February, 29), clock),
         (
@@ -114,12 +113,12 @@ fn replaced_components(rt: HostRuntime) {
         (night.replace_microsecond(7), day, (23, 59, 59, 7_000)),
         (night.replace_nanosecond(7), day, (23, 59, 59, 7)),
     ] {
-        same(&rt, found.ok(), Some(date_time(&rt, date, time)));
+        same(rt, found.ok(), Some(date_time(rt, date, time)));
     }
-    same(&rt, night.replace_year(2023).is_err(), true);
+    same(rt, night.replace_year(2023).is_err(), true);
     let (date, time) = (Date::MIN, Time::MIDNIGHT);
     same(
-        &rt,
+        rt,
         night.replace_date(date).replace_time(time),
         min_date_time(),
     );
@@ -127,8 +126,9 @@ fn replaced_components(rt: HostRuntime) {
 
 #[test]
 fn truncated_times(rt: HostRuntime) {
+    let rt = &rt;
     let day = (2024, Month::February, 29);
-    let night = date_time(&rt, day, (23, 59, 59, 250_007_009));
+    let night = date_time(rt, day, (23, 59, 59, 250_007_009));
     for &(found, time) in &[
         (night.truncate_to_hour(), (23, 0, 0, 0)),
         (night.truncate_to_minute(), (23, 59, 0, 0)),
@@ -136,58 +136,60 @@ fn truncated_times(rt: HostRuntime) {
         (night.truncate_to_millisecond(), (23, 59, 59, 250_000_000)),
         (night.truncate_to_microsecond(), (23, 59, 59, 250_007_000)),
     ] {
-        same(&rt, found, date_time(&rt, day, time));
+        same(rt, found, date_time(rt, day, time));
     }
 }
 
 #[test]
 fn made_and_compared(rt: HostRuntime) -> Result<(), Fail> {
-    let noon = date_time(&rt, (2024, Month::February, 29), (12, 0, 0, 0));
+    let rt = &rt;
+    let noon = date_time(rt, (2024, Month::February, 29), (12, 0, 0, 0));
     let day = noon.date();
-    same(&rt, with_hms(day, 12, 0, 0).ok(), Some(noon));
-    same(&rt, with_hms_milli(day, 12, 0, 0, 0).ok(), Some(noon));
-    same(&rt, with_hms_micro(day, 12, 0, 0, 0).ok(), Some(noon));
-    same(&rt, with_hms(day, 24, 0, 0).is_err(), true);
-    same(&rt, with_time(day, noon.time()), noon);
-    same(&rt, noon - midnight(day), SignedDuration::hours(12));
+    same(rt, with_hms(day, 12, 0, 0).ok(), Some(noon));
+    same(rt, with_hms_milli(day, 12, 0, 0, 0).ok(), Some(noon));
+    same(rt, with_hms_micro(day, 12, 0, 0, 0).ok(), Some(noon));
+    same(rt, with_hms(day, 24, 0, 0).is_err(), true);
+    same(rt, with_time(day, noon.time()), noon);
+    same(rt, noon - midnight(day), SignedDuration::hours(12));
     same(
-        &rt,
+        rt,
         (is_same(noon, noon), is_before(midnight(day), noon)),
         (true, true),
     );
-    same(&rt, order(noon, midnight(day)), Ordering::Greater);
+    same(rt, order(noon, midnight(day)), Ordering::Greater);
     same(
-        &rt,
+        rt,
         hash_of(noon) == hash_of(with_time(day, noon.time())),
         true,
     );
-    same(&rt, noon.partial_cmp(&noon), Some(Ordering::Equal));
+    same(rt, noon.partial_cmp(&noon), Some(Ordering::Equal));
     same(
-        &rt,
+        rt,
         (min_date_time().number(), max_date_time().number()),
         (0, 63_113_872_377_599_999_999_999),
     );
     let utc = noon.assume_utc();
-    same(&rt, clones(noon, utc)?, (noon, utc));
+    same(rt, clones(noon, utc)?, (noon, utc));
     Ok(())
 }
 
 #[test]
 fn texts_of_date_times(rt: HostRuntime) {
-    let night = date_time(&rt, (2024, Month::February, 29), (23, 59, 59, 250_000_000));
+    let rt = &rt;
+    let night = date_time(rt, (2024, Month::February, 29), (23, 59, 59, 250_000_000));
     for &(plain, text) in &[
         (night, "2024-02-29 23:59:59.25"),
         (min_date_time(), "-999999-01-01 0:00:00.0"),
         (max_date_time(), "+999999-12-31 23:59:59.999999999"),
     ] {
-        same(&rt, plain.text().as_str(), text);
-        prints(&rt, &plain, text);
-        prints_debug(&rt, &plain, text);
+        same(rt, plain.text().as_str(), text);
+        prints(rt, &plain, text);
+        prints_debug(rt, &plain, text);
     }
     let padded = format!(in rt.alloc(); "{night:>24}|{night:_<24?}|");
     same(
-        &rt,
-        padded.expect(&rt, "no memory").as_str(),
+        rt,
+        padded.expect(rt, "no memory").as_str(),
         "  2024-02-29 23:59:59.25|2024-02-29 23:59:59.25__|",
     );
 }

@@ -63,6 +63,7 @@ fn reads_back<T: Display>(rt: &(impl Abort + AllocGlobal), value: &T, date: Date
 
 #[test]
 fn dates_in_three_forms(rt: HostRuntime) {
+    let rt = &rt;
     for &(text, year, month, day) in &[
         ("2024-02-29", 2024, Month::February, 29),
         ("2024-060", 2024, Month::February, 29),
@@ -80,8 +81,8 @@ fn dates_in_three_forms(rt: HostRuntime) {
         ("+999999-12-31", 999_999, Month::December, 31),
         ("-999999-W01-1", -999_999, Month::January, 1),
     ] {
-        let date = date_of(&rt, year, month, day);
-        reads(&rt, text, &parse(text.as_bytes()), &Ok(date));
+        let date = date_of(rt, year, month, day);
+        reads(rt, text, &parse(text.as_bytes()), &Ok(date));
     }
 }
 
@@ -144,6 +145,7 @@ fn texts_of_no_date(rt: HostRuntime) {
 
 #[test]
 fn texts_of_errors(rt: HostRuntime) {
+    let rt = &rt;
     for &(text, error) in &[
         ("", "unexpected end at 0"),
         ("2024-02-2", "unexpected end at 9"),
@@ -157,16 +159,17 @@ fn texts_of_errors(rt: HostRuntime) {
         ("+999999-W52-6", "weekday was not in range"),
     ] {
         let refused = parse(text.as_bytes()).err();
-        prints(&rt, &refused.expect(&rt, "a text that is read"), error);
+        prints(rt, &refused.expect(rt, "a text that is read"), error);
     }
-    same(&rt, ParseError::unexpected(4, 5), UnexpectedByte(4));
-    same(&rt, ParseError::unexpected(5, 5), UnexpectedEnd(5));
+    same(rt, ParseError::unexpected(4, 5), UnexpectedByte(4));
+    same(rt, ParseError::unexpected(5, 5), UnexpectedEnd(5));
     let last = "unexpected byte at 18446744073709551615";
-    prints(&rt, &UnexpectedByte(usize::MAX), last);
+    prints(rt, &UnexpectedByte(usize::MAX), last);
 }
 
 #[test]
 fn texts_of_dates(rt: HostRuntime) {
+    let rt = &rt;
     for &(julian_day, calendar, ordinal, week) in &[
         (2_460_370, "2024-02-29", "2024-060", "2024-W09-4"),
         (2_459_216, "2021-01-01", "2021-001", "2020-W53-5"),
@@ -183,48 +186,43 @@ fn texts_of_dates(rt: HostRuntime) {
             "-999999-W01-1",
         ),
     ] {
-        let date = of_julian_day(&rt, julian_day);
-        prints(&rt, &CalendarText(date), calendar);
-        prints(&rt, &OrdinalText(date), ordinal);
-        prints(&rt, &WeekText(date), week);
-        same(&rt, CalendarText(date).text().as_str(), calendar);
-        same(&rt, OrdinalText(date).text().as_str(), ordinal);
-        same(&rt, WeekText(date).text().as_str(), week);
+        let date = of_julian_day(rt, julian_day);
+        prints(rt, &CalendarText(date), calendar);
+        prints(rt, &OrdinalText(date), ordinal);
+        prints(rt, &WeekText(date), week);
+        same(rt, CalendarText(date).text().as_str(), calendar);
+        same(rt, OrdinalText(date).text().as_str(), ordinal);
+        same(rt, WeekText(date).text().as_str(), week);
     }
 }
 
 #[test]
 fn texts_of_dates_in_fields(rt: HostRuntime) {
+    let rt = &rt;
     let (first, last) = (Date::MIN, Date::MAX);
-    prints_padded(
-        &rt,
-        &CalendarText(last),
-        "   +999999-12-31|+999999-12-31***",
-    );
-    prints_padded(
-        &rt,
-        &OrdinalText(first),
-        "     -999999-001|-999999-001*****",
-    );
-    prints_padded(&rt, &WeekText(first), "   -999999-W01-1|-999999-W01-1***");
-    prints_padded(&rt, &JulianText(first), "     J-363521074|J-363521074*****");
+    prints_padded(rt, &CalendarText(last), "   +999999-12-31|+999999-12-31***");
+    prints_padded(rt, &OrdinalText(first), "     -999999-001|-999999-001*****");
+    prints_padded(rt, &WeekText(first), "   -999999-W01-1|-999999-W01-1***");
+    prints_padded(rt, &JulianText(first), "     J-363521074|J-363521074*****");
 }
 
 /// Every day of four years at each end of the range, in all three forms.
 #[test]
 fn days_printed_and_read(rt: HostRuntime) {
+    let rt = &rt;
     for &first in &[-363_521_074, 366_963_559 - 1460] {
         for day in 0..1461 {
-            let date = of_julian_day(&rt, i32::wrapping_add(first, day));
-            reads_back(&rt, &CalendarText(date), date);
-            reads_back(&rt, &OrdinalText(date), date);
-            reads_back(&rt, &WeekText(date), date);
+            let date = of_julian_day(rt, i32::wrapping_add(first, day));
+            reads_back(rt, &CalendarText(date), date);
+            reads_back(rt, &OrdinalText(date), date);
+            reads_back(rt, &WeekText(date), date);
         }
     }
 }
 
 #[test]
 fn julian_days(rt: HostRuntime) {
+    let rt = &rt;
     for &(text, number) in &[
         ("J2460370", 2_460_370),
         ("J0", 0),
@@ -232,14 +230,14 @@ fn julian_days(rt: HostRuntime) {
         ("J-363521074", -363_521_074),
         ("J366963559", 366_963_559),
     ] {
-        let date = of_julian_day(&rt, number);
-        reads(&rt, text, &julian_day::parse(text.as_bytes()), &Ok(date));
-        prints(&rt, &JulianText(date), text);
-        same(&rt, JulianText(date).text().as_str(), text);
+        let date = of_julian_day(rt, number);
+        reads(rt, text, &julian_day::parse(text.as_bytes()), &Ok(date));
+        prints(rt, &JulianText(date), text);
+        same(rt, JulianText(date).text().as_str(), text);
     }
     for &text in &["J366963560", "J-363521075", "J999999999"] {
         out_of_range(
-            &rt,
+            rt,
             text,
             &julian_day::parse(text.as_bytes()),
             "julian_day",
@@ -260,6 +258,6 @@ fn julian_days(rt: HostRuntime) {
         ("J2460370.5", UnexpectedByte(8)),
         ("J2460370 ", UnexpectedByte(8)),
     ] {
-        reads(&rt, text, &julian_day::parse(text.as_bytes()), &Err(error));
+        reads(rt, text, &julian_day::parse(text.as_bytes()), &Err(error));
     }
 }

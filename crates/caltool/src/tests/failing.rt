@@ -151,13 +151,14 @@ fn check_reads(
 
 #[test]
 fn each_read_fails_in_turn(rt: HostRuntime) {
+    let rt = &rt;
     for call in 0..=INPUT.len() {
-        check_reads(&rt, Calls::From(call), Err(Fault::Read), b"");
-        check_reads(&rt, Calls::Only(call), Err(Fault::Read), b"");
+        check_reads(rt, Calls::From(call), Err(Fault::Read), b"");
+        check_reads(rt, Calls::Only(call), Err(Fault::Read), b"");
     }
     let reads = INPUT.len() + 1;
-    check_reads(&rt, Calls::From(reads), Ok(()), ANSWERS);
-    check_reads(&rt, Calls::Only(reads), Ok(()), ANSWERS);
+    check_reads(rt, Calls::From(reads), Ok(()), ANSWERS);
+    check_reads(rt, Calls::Only(reads), Ok(()), ANSWERS);
 }
 
 /// Checks a run over the eight lines whose writes fail, and that this many bytes were written.
@@ -176,18 +177,19 @@ fn check_writes(
 
 #[test]
 fn each_write_fails_in_turn(rt: HostRuntime) {
+    let rt = &rt;
     let other = Some(ErrorKind::Other);
     for sent in 0..ANSWERS.len() {
-        check_writes(&rt, Calls::From(sent), other, Err(Fault::Write), sent);
-        check_writes(&rt, Calls::Only(sent), other, Err(Fault::Write), sent);
-        check_writes(&rt, Calls::From(sent), None, Err(Fault::Write), sent);
-        check_writes(&rt, Calls::Only(sent), None, Err(Fault::Write), sent);
+        check_writes(rt, Calls::From(sent), other, Err(Fault::Write), sent);
+        check_writes(rt, Calls::Only(sent), other, Err(Fault::Write), sent);
+        check_writes(rt, Calls::From(sent), None, Err(Fault::Write), sent);
+        check_writes(rt, Calls::Only(sent), None, Err(Fault::Write), sent);
     }
     let all = ANSWERS.len();
-    check_writes(&rt, Calls::From(all), other, Ok(()), all);
-    check_writes(&rt, Calls::Only(all), other, Ok(()), all);
-    check_writes(&rt, Calls::From(all), None, Ok(()), all);
-    check_writes(&rt, Calls::Only(all), None, Ok(()), all);
+    check_writes(rt, Calls::From(all), other, Ok(()), all);
+    check_writes(rt, Calls::Only(all), other, Ok(()), all);
+    check_writes(rt, Calls::From(all), None, Ok(()), all);
+    check_writes(rt, Calls::Only(all), None, Ok(()), all);
 }
 
 // The answers are buffered: 4096 of nine bytes each take fewer than 20 writes.
@@ -214,35 +216,38 @@ fn check_counts(
 // An interruption is retried, but not each: they are counted over the whole run, not for each line.
 #[test]
 fn interrupted_reads_are_counted(rt: HostRuntime) {
+    let rt = &rt;
     let kind = ErrorKind::Interrupted;
     let run = drip(rt.alloc(), INPUT, Calls::Only(0), kind);
-    check_counts(&rt, &run, Ok(()), INPUT.len() + 2, ANSWERS.len());
+    check_counts(rt, &run, Ok(()), INPUT.len() + 2, ANSWERS.len());
     let run = drip(rt.alloc(), INPUT, Calls::From(0), kind);
-    check_counts(&rt, &run, Err(Fault::Read), 4097, 0);
+    check_counts(rt, &run, Err(Fault::Read), 4097, 0);
     let run = drip(rt.alloc(), &[b'\n'; 2000], Calls::ThreeOfFour, kind);
-    check_counts(&rt, &run, Err(Fault::Read), 5462, 0);
+    check_counts(rt, &run, Err(Fault::Read), 5462, 0);
 }
 
 // Of 5462 writes with 4097 interruptions, 1365 took a byte.
 #[test]
 fn interrupted_writes_are_counted(rt: HostRuntime) {
+    let rt = &rt;
     let kind = Some(ErrorKind::Interrupted);
     let run = sip(rt.alloc(), INPUT, Calls::Only(0), kind);
-    check_counts(&rt, &run, Ok(()), ANSWERS.len() + 1, ANSWERS.len());
+    check_counts(rt, &run, Ok(()), ANSWERS.len() + 1, ANSWERS.len());
     let run = sip(rt.alloc(), INPUT, Calls::From(0), kind);
-    check_counts(&rt, &run, Err(Fault::Write), 4097, 0);
+    check_counts(rt, &run, Err(Fault::Write), 4097, 0);
     let run = sip(rt.alloc(), &[b'\n'; 2000], Calls::ThreeOfFour, kind);
-    check_counts(&rt, &run, Err(Fault::Write), 5462, 1365);
+    check_counts(rt, &run, Err(Fault::Write), 5462, 1365);
 }
 
 // A read that fails after the last byte is an error. After a byte too many the run stops reading.
 #[test]
 fn a_read_fails_at_the_limit(rt: HostRuntime) {
+    let rt = &rt;
     let kind = ErrorKind::Other;
     let run = drip(rt.alloc(), &[b'\n'; 4096], Calls::From(4096), kind);
-    check_counts(&rt, &run, Err(Fault::Read), 4097, 0);
+    check_counts(rt, &run, Err(Fault::Read), 4097, 0);
     let run = drip(rt.alloc(), &[b'\n'; 4097], Calls::From(4097), kind);
-    check_counts(&rt, &run, Err(Fault::TooLong), 4097, 0);
+    check_counts(rt, &run, Err(Fault::TooLong), 4097, 0);
 }
 
 fn check_report(
@@ -258,10 +263,11 @@ fn check_report(
 
 #[test]
 fn the_status_and_the_message_of_each_end(rt: HostRuntime) {
-    check_report(&rt, Ok(()), 0, b"");
-    check_report(&rt, Err(Fault::TooLong), 2, b"input too long\n");
-    check_report(&rt, Err(Fault::Read), 2, b"cannot read\n");
-    check_report(&rt, Err(Fault::Write), 2, b"cannot write\n");
+    let rt = &rt;
+    check_report(rt, Ok(()), 0, b"");
+    check_report(rt, Err(Fault::TooLong), 2, b"input too long\n");
+    check_report(rt, Err(Fault::Read), 2, b"cannot read\n");
+    check_report(rt, Err(Fault::Write), 2, b"cannot write\n");
 }
 
 /// Checks the status of the program, its output and its message, if the input fails after a number
@@ -284,26 +290,20 @@ fn check_program(
 
 #[test]
 fn the_program_over_three_streams(rt: HostRuntime) {
+    let rt = &rt;
     let (reads, all) = (INPUT.len() + 1, ANSWERS.len());
-    check_program(&rt, INPUT, (reads, all), 0, ANSWERS, b"");
-    check_program(&rt, b"", (1, 0), 0, b"", b"");
+    check_program(rt, INPUT, (reads, all), 0, ANSWERS, b"");
+    check_program(rt, b"", (1, 0), 0, b"", b"");
     check_program(
-        &rt,
+        rt,
         INPUT,
         (reads, 12),
         2,
         b"2000 ordinal",
         b"cannot write\n",
     );
-    check_program(&rt, INPUT, (8, all), 2, b"", b"cannot read\n");
-    check_program(
-        &rt,
-        &[b'\n'; 4097],
-        (4097, all),
-        2,
-        b"",
-        b"input too long\n",
-    );
+    check_program(rt, INPUT, (8, all), 2, b"", b"cannot read\n");
+    check_program(rt, &[b'\n'; 4097], (4097, all), 2, b"", b"input too long\n");
 }
 
 /// Checks the status of the program if standard error fails after a number of bytes.

@@ -138,8 +138,9 @@ fn too_many_items(rt: HostRuntime) {
 
 #[test]
 fn texts_of_errors(rt: HostRuntime) {
-    prints(&rt, &FormatError::UnknownItem(3), "unknown item at 3");
-    prints(&rt, &FormatError::TooLong, "too many items");
+    let rt = &rt;
+    prints(rt, &FormatError::UnknownItem(3), "unknown item at 3");
+    prints(rt, &FormatError::TooLong, "too many items");
 }
 
 /// Literal bytes, names, numbers and signs are counted by hand.

@@ -8,9 +8,10 @@ use cal_time::{Date, Month};
 
 #[test]
 fn texts_in_any_form(rt: HostRuntime) {
-    let date = date_of(&rt, 2024, Month::February, 29);
-    let time = time_of(&rt, 0, 0, 0, 500_000_000);
-    let hour_east = offset_of(&rt, 1, 0, 0);
+    let rt = &rt;
+    let date = date_of(rt, 2024, Month::February, 29);
+    let time = time_of(rt, 0, 0, 0, 500_000_000);
+    let hour_east = offset_of(rt, 1, 0, 0);
     let utc = OffsetDateTime::new_utc(date, time);
     let east = OffsetDateTime::new_in_offset(date, time, hour_east);
     for &(text, found) in &[
@@ -36,7 +37,7 @@ fn texts_in_any_form(rt: HostRuntime) {
             DateOrMoment::Date(DateForm::Ordinal, Date::MIN),
         ),
     ] {
-        reads(&rt, text, &parse_any(text.as_bytes()), &Ok(found));
+        reads(rt, text, &parse_any(text.as_bytes()), &Ok(found));
     }
 }
 

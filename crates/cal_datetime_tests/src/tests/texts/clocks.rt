@@ -6,6 +6,7 @@ use cal_text::{offset, time};
 
 #[test]
 fn times_read(rt: HostRuntime) {
+    let rt = &rt;
     for &(text, hour, minute, second, nanosecond) in &[
         ("9:05", 9, 5, 0, 0),
         ("09:05", 9, 5, 0, 0),
@@ -17,8 +18,8 @@ fn times_read(rt: HostRuntime) {
         ("12:34:56.123456", 12, 34, 56, 123_456_000),
         ("23:59:59.999999999", 23, 59, 59, 999_999_999),
     ] {
-        let wanted = time_of(&rt, hour, minute, second, nanosecond);
-        reads(&rt, text, &time::parse(text.as_bytes()), &Ok(wanted));
+        let wanted = time_of(rt, hour, minute, second, nanosecond);
+        reads(rt, text, &time::parse(text.as_bytes()), &Ok(wanted));
     }
 }
 
@@ -65,6 +66,7 @@ fn texts_of_no_time(rt: HostRuntime) {
 
 #[test]
 fn offsets_read(rt: HostRuntime) {
+    let rt = &rt;
     for &(text, hours, minutes, seconds) in &[
         ("Z", 0, 0, 0),
         ("z", 0, 0, 0),
@@ -77,8 +79,8 @@ fn offsets_read(rt: HostRuntime) {
         ("+25:59:59", 25, 59, 59),
         ("-25:59:59", -25, -59, -59),
     ] {
-        let wanted = offset_of(&rt, hours, minutes, seconds);
-        reads(&rt, text, &offset::parse(text.as_bytes()), &Ok(wanted));
+        let wanted = offset_of(rt, hours, minutes, seconds);
+        reads(rt, text, &offset::parse(text.as_bytes()), &Ok(wanted));
     }
 }
 

@@ -10,6 +10,7 @@ use std::process::Abort;
 
 #[test]
 fn date_times_read(rt: HostRuntime) {
+    let rt = &rt;
     let leap_day = (2024, Month::February, 29);
     for &(text, date, clock) in &[
         ("2024-02-29T9:05", leap_day, (9, 5, 0, 0)),
@@ -28,8 +29,8 @@ fn date_times_read(rt: HostRuntime) {
             (23, 59, 59, 999_999_999),
         ),
     ] {
-        let wanted = date_time(&rt, date, clock);
-        reads(&rt, text, &plain::parse(text.as_bytes()), &Ok(wanted));
+        let wanted = date_time(rt, date, clock);
+        reads(rt, text, &plain::parse(text.as_bytes()), &Ok(wanted));
     }
 }
 
@@ -85,6 +86,7 @@ fn moment_of(
 
 #[test]
 fn moments_at_offsets_read(rt: HostRuntime) {
+    let rt = &rt;
     let leap_day = (2024, Month::February, 29);
     for &(text, date, clock, offset) in &[
         ("2024-02-29T9:05Z", leap_day, (9, 5, 0, 0), (0, 0, 0)),
@@ -108,9 +110,9 @@ fn moments_at_offsets_read(rt: HostRuntime) {
             (-25, -59, -59),
         ),
     ] {
-        let wanted = moment_of(&rt, date, clock, offset);
+        let wanted = moment_of(rt, date, clock, offset);
         let found = parts_of(offset_date_time::parse(text.as_bytes()));
-        reads(&rt, text, &found, &parts_of(Ok(wanted)));
+        reads(rt, text, &found, &parts_of(Ok(wanted)));
     }
 }
 
@@ -161,13 +163,14 @@ fn reads_printed(rt: &impl Abort, alloc: Global, local: PlainDateTime) {
 
 #[test]
 fn date_times_printed_and_read(rt: HostRuntime) {
+    let rt = &rt;
     for &(date, clock) in &[
         ((-999_999, Month::January, 1), (0, 0, 0, 0)),
         ((-1, Month::January, 1), (0, 0, 0, 1)),
         ((2024, Month::February, 29), (9, 5, 0, 0)),
         ((999_999, Month::December, 31), (23, 59, 59, 999_999_999)),
     ] {
-        let local = date_time(&rt, date, clock);
-        reads_printed(&rt, rt.alloc(), local);
+        let local = date_time(rt, date, clock);
+        reads_printed(rt, rt.alloc(), local);
     }
 }

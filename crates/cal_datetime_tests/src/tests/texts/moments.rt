@@ -42,6 +42,7 @@ fn offset_of_seconds(rt: &impl Abort, seconds: i32) -> UtcOffset {
 /// The examples of the standard come first, except those with a leap second.
 #[test]
 fn moments_read(rt: HostRuntime) {
+    let rt = &rt;
     for &(text, numbers) in &[
         (
             "1985-04-12T23:20:50.52Z",
@@ -89,7 +90,7 @@ fn moments_read(rt: HostRuntime) {
             ((2024, 2, 29), (0, 0, 0, 1), (0, 0)),
         ),
     ] {
-        reads(&rt, text, &read(text.as_bytes()), &Ok(moment(&rt, numbers)));
+        reads(rt, text, &read(text.as_bytes()), &Ok(moment(rt, numbers)));
     }
 }
 
@@ -141,6 +142,7 @@ fn texts_of_no_moment(rt: HostRuntime) {
 
 #[test]
 fn moments_printed(rt: HostRuntime) {
+    let rt = &rt;
     for &(numbers, text) in &[
         (
             ((2024, 2, 29), (23, 59, 59, 250_000_000), (1, 0)),
@@ -156,32 +158,33 @@ fn moments_printed(rt: HostRuntime) {
             "2024-02-29T09:05:07.000000001-00:30",
         ),
     ] {
-        let (date, time, offset) = moment(&rt, numbers);
-        prints(&rt, &text_of(&rt, (date, time, offset)), text);
+        let (date, time, offset) = moment(rt, numbers);
+        prints(rt, &text_of(rt, (date, time, offset)), text);
         let found = read(text.as_bytes());
-        reads(&rt, text, &found, &Ok((date, time, offset)));
+        reads(rt, text, &found, &Ok((date, time, offset)));
     }
-    let midnight = moment(&rt, ((2024, 2, 29), (0, 0, 0, 0), (0, 0)));
-    let printed = text_of(&rt, midnight);
+    let midnight = moment(rt, ((2024, 2, 29), (0, 0, 0, 0), (0, 0)));
+    let printed = text_of(rt, midnight);
     let text = format!(in rt.alloc(); "{printed:>22}|{printed:_<21}|{printed:2}|");
     same(
-        &rt,
-        text.expect(&rt, "no memory").as_str(),
+        rt,
+        text.expect(rt, "no memory").as_str(),
         "  2024-02-29T00:00:00Z|2024-02-29T00:00:00Z_|2024-02-29T00:00:00Z|",
     );
 }
 
 #[test]
 fn moments_without_a_text(rt: HostRuntime) {
-    let (date, time, offset) = moment(&rt, ((2024, 2, 29), (0, 0, 0, 0), (23, 59)));
-    same(&rt, printed((date, time, offset)).is_some(), true);
+    let rt = &rt;
+    let (date, time, offset) = moment(rt, ((2024, 2, 29), (0, 0, 0, 0), (23, 59)));
+    same(rt, printed((date, time, offset)).is_some(), true);
     for &(year, month, day) in &[(10_000, 1, 1), (-1, 12, 31)] {
-        let parts = moment(&rt, ((year, month, day), (0, 0, 0, 0), (0, 0)));
-        same(&rt, printed(parts).is_none(), true);
+        let parts = moment(rt, ((year, month, day), (0, 0, 0, 0), (0, 0)));
+        same(rt, printed(parts).is_none(), true);
     }
     for &seconds in &[86_400, -86_400, 1, -1, 3_601, 93_599] {
-        let offset = offset_of_seconds(&rt, seconds);
-        same(&rt, printed((date, time, offset)).is_none(), true);
+        let offset = offset_of_seconds(rt, seconds);
+        same(rt, printed((date, time, offset)).is_none(), true);
     }
 }
 
@@ -196,7 +199,8 @@ fn reads_back(rt: &(impl Abort + AllocGlobal), date: Date, time: Time, offset: U
 /// At each offset of whole quarters of an hour, with fractions of several lengths.
 #[test]
 fn moments_printed_and_read(rt: HostRuntime) {
-    let date = date_of(&rt, 2024, Month::February, 29);
+    let rt = &rt;
+    let date = date_of(rt, 2024, Month::February, 29);
     let fractions = [
         0,
         500_000_000,
@@ -208,11 +212,11 @@ fn moments_printed_and_read(rt: HostRuntime) {
         123_456_789,
     ];
     for quarters in -95i32..96 {
-        let offset = offset_of_seconds(&rt, quarters.wrapping_mul(900));
+        let offset = offset_of_seconds(rt, quarters.wrapping_mul(900));
         let hour = (quarters.unsigned_abs() % 24) as u8;
         for &nanosecond in &fractions {
-            let time = time_of(&rt, hour, 59, 7, nanosecond);
-            reads_back(&rt, date, time, offset);
+            let time = time_of(rt, hour, 59, 7, nanosecond);
+            reads_back(rt, date, time, offset);
         }
     }
 }

@@ -15,6 +15,7 @@ fn at_nanoseconds(rt: &impl Abort, nanoseconds: i128) -> OffsetDateTime {
 /// The local date and time of a Unix time, and at UTC.
 #[test]
 fn unix_times(rt: HostRuntime) {
+    let rt = &rt;
     for &(year, month, day, time, hours, text) in &[
         (1970, Month::January, 1, (0, 0, 0, 0), 0, "@0"),
         (
@@ -38,16 +39,16 @@ fn unix_times(rt: HostRuntime) {
         (2038, Month::January, 19, (3, 14, 7, 0), 0, "@2147483647"),
     ] {
         let (hour, minute, second, nanosecond) = time;
-        let date = date_of(&rt, year, month, day);
-        let time = time_of(&rt, hour, minute, second, nanosecond);
-        let offset = offset_of(&rt, hours, 0, 0);
+        let date = date_of(rt, year, month, day);
+        let time = time_of(rt, hour, minute, second, nanosecond);
+        let offset = offset_of(rt, hours, 0, 0);
         let printed = unix::Text::new(OffsetDateTime::new_in_offset(date, time, offset));
-        prints(&rt, &printed, text);
-        let moment = unix::parse(text.as_bytes()).expect(&rt, "no moment");
+        prints(rt, &printed, text);
+        let moment = unix::parse(text.as_bytes()).expect(rt, "no moment");
         let shown = moment.checked_to_offset(offset);
-        let shown = shown.expect(&rt, "no moment at the offset");
+        let shown = shown.expect(rt, "no moment at the offset");
         same(
-            &rt,
+            rt,
             (shown.date(), shown.time(), shown.offset()),
             (date, time, offset),
         );
@@ -56,6 +57,7 @@ fn unix_times(rt: HostRuntime) {
 
 #[test]
 fn unix_times_read(rt: HostRuntime) {
+    let rt = &rt;
     for &(text, nanoseconds) in &[
         ("@0", 0),
         ("@1709164800.5", 1_709_164_800_500_000_000),
@@ -66,9 +68,9 @@ fn unix_times_read(rt: HostRuntime) {
         ("@31494784780799.999999999", 31_494_784_780_799_999_999_999),
         ("@-31619087596800", -31_619_087_596_800_000_000_000),
     ] {
-        let moment = at_nanoseconds(&rt, nanoseconds);
+        let moment = at_nanoseconds(rt, nanoseconds);
         reads(
-            &rt,
+            rt,
             text,
             &parts_of(unix::parse(text.as_bytes())),
             &parts_of(Ok(moment)),
@@ -80,7 +82,7 @@ fn unix_times_read(rt: HostRuntime) {
         "@-31619087600400",
         "@999999999999999999",
     ] {
-        out_of_range(&rt, text, &unix::parse(text.as_bytes()), "timestamp", false);
+        out_of_range(rt, text, &unix::parse(text.as_bytes()), "timestamp", false);
     }
 }
 
@@ -114,7 +116,8 @@ fn texts_of_no_unix_time(rt: HostRuntime) {
 
 #[test]
 fn unix_times_printed(rt: HostRuntime) {
-    let hour_east = offset_of(&rt, 1, 0, 0);
+    let rt = &rt;
+    let hour_east = offset_of(rt, 1, 0, 0);
     for &(nanoseconds, text) in &[
         (0, "@0"),
         (1_709_164_800_500_000_000, "@1709164800.5"),
@@ -125,13 +128,13 @@ fn unix_times_printed(rt: HostRuntime) {
         (31_494_784_780_799_999_999_999, "@31494784780799.999999999"),
         (-31_619_087_596_800_000_000_000, "@-31619087596800"),
     ] {
-        let moment = at_nanoseconds(&rt, nanoseconds);
-        prints(&rt, &unix::Text::new(moment), text);
+        let moment = at_nanoseconds(rt, nanoseconds);
+        prints(rt, &unix::Text::new(moment), text);
     }
     let east = unix::Text::new(OffsetDateTime::new_in_offset(Date::MIN, Time::MIDNIGHT, hour_east));
-    let text = format!(in rt.alloc(); "{east:>19}|{east:_<18}|{east:2}|").expect(&rt, "no memory");
+    let text = format!(in rt.alloc(); "{east:>19}|{east:_<18}|{east:2}|").expect(rt, "no memory");
     same(
-        &rt,
+        rt,
         text.as_str(),
         "   @-31619087600400|@-31619087600400__|@-31619087600400|",
     );

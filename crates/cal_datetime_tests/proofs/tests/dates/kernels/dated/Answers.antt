@@ -3,7 +3,7 @@ use Rattle.std.proofs.lemmas.Int.{to_z-of_z}
 use Rattle.cal_date.specs.ClosedForms.{kernel_of}
 use Rattle.cal_date.proofs.JulianDays.{number_at}
 use Rattle.cal_date.proofs.Kernels.{has_julian_kernel}
-use Rattle.cal_date_tests.proofs.tests.kernels.dated.Goals as goal
+use Rattle.cal_datetime_tests.proofs.tests.dates.kernels.dated.Goals as goal
 
 pub ordinal_date-requires : goal.ordinal_date-requires
 ordinal_date-requires c =

@@ -1,26 +1,21 @@
-//! Callers that know only a condition; limits, clones and weeks. `cal_time` has worked values.
+//! Callers of `cal_date` that know only a condition; limits, clones and weeks. `cal_time` has worked
+//! values.
 ghost use Rattle.std.specs.Prelude.{◌≡◌, pos, ◌+ℤ◌, ◌-ℤ◌, IsSome};
 ghost use Rattle.cal_span.specs.SignedDuration.{whole_days};
 ghost use Rattle.cal_units.specs.Weekday.{index};
 ghost use Rattle.cal_date.specs.Arithmetic.{IsDateNumber};
 ghost use Rattle.cal_date.specs.Occurrences.{next_occurrences, prev_occurrences, kth};
 
+use crate::tests::same;
 use cal_date::{Date, julian_kernel};
 use cal_span::SignedDuration;
 use cal_units::Weekday;
 use cal_units::util::weeks_in_year;
-use std::fmt::Debug;
-use std::process::Abort;
 use std::test::Fail;
 
 mod every_day;
 mod kernels;
 mod packed;
-
-/// Checks that two values are equal. This function is proved once, and `assert_eq!` at each place.
-fn same<T: Copy + Debug + PartialEq>(rt: &impl Abort, found: T, wanted: T) {
-    assert!(rt; found == wanted, "{found:?} and not {wanted:?}");
-}
 
 fn later(date: Date, duration: SignedDuration) -> [Date; 2]
     requires { IsDateNumber (pos date +ℤ whole_days duration) }
@@ -54,22 +49,24 @@ fn occurrences(date: Date, weekday: Weekday, n: u8) -> [Date; 4]
 
 #[test]
 fn moves_within_the_range(rt: HostRuntime) {
+    let rt = &rt;
     for &duration in &[SignedDuration::ZERO, SignedDuration::DAY] {
-        let moved = Date::MIN.checked_add(duration).expect(&rt, "no date");
-        same(&rt, later(Date::MIN, duration), [moved, moved]);
-        let moved = Date::MAX.checked_sub(duration).expect(&rt, "no date");
-        same(&rt, earlier(Date::MAX, duration), [moved, moved]);
+        let moved = Date::MIN.checked_add(duration).expect(rt, "no date");
+        same(rt, later(Date::MIN, duration), [moved, moved]);
+        let moved = Date::MAX.checked_sub(duration).expect(rt, "no date");
+        same(rt, earlier(Date::MAX, duration), [moved, moved]);
     }
 }
 
 #[test]
 fn limits_clones_and_weeks(rt: HostRuntime) -> Result<(), Fail> {
-    same(&rt, Date::MIN.to_julian_day(), -363_521_074);
-    same(&rt, Date::MAX.to_julian_day(), 366_963_559);
-    same(&rt, Date::MAX.clone()?, Date::MAX);
+    let rt = &rt;
+    same(rt, Date::MIN.to_julian_day(), -363_521_074);
+    same(rt, Date::MAX.to_julian_day(), 366_963_559);
+    same(rt, Date::MAX.clone()?, Date::MAX);
     let (kernel, next) = (julian_kernel(2_451_545), julian_kernel(2_451_546));
-    same(&rt, kernel.clone()? == kernel, true);
-    same(&rt, kernel == next, false);
-    same(&rt, (weeks_in_year(2020), weeks_in_year(999_999)), (53, 52));
+    same(rt, kernel.clone()? == kernel, true);
+    same(rt, kernel == next, false);
+    same(rt, (weeks_in_year(2020), weeks_in_year(999_999)), (53, 52));
     Ok(())
 }

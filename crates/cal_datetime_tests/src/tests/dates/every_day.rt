@@ -137,19 +137,20 @@ fn every_day_up_to_year_9999(rt: HostRuntime) -> Result<(), Fail> {
 // 400 years have 146097 days.
 #[test]
 fn every_day_of_400_years_at_each_end(rt: HostRuntime) -> Result<(), Fail> {
+    let rt = &rt;
     check_days(
-        &rt,
+        rt,
         rt.alloc(),
         (-999_999, -999_600),
         (-363_521_074, -363_374_978),
     )?;
     check_days(
-        &rt,
+        rt,
         rt.alloc(),
         (999_600, 999_999),
         (366_817_463, 366_963_559),
     )?;
-    same(&rt, Date::from_julian_day(-363_521_075).is_err(), true);
-    same(&rt, Date::from_julian_day(366_963_560).is_err(), true);
+    same(rt, Date::from_julian_day(-363_521_075).is_err(), true);
+    same(rt, Date::from_julian_day(366_963_560).is_err(), true);
     Ok(())
 }
