@@ -1,8 +1,8 @@
 //! Errors as the standard library has them.
 
 use crate::error::{
-    ComponentRange, ConversionRange, FormatError, InvalidVariant, ParseError, ParseRuleError, ParseSetError, UnsupportedItem,
-    ZoneError,
+    ComponentRange, ConversionRange, FormatError, InvalidVariant, ParseDurationError, ParseError, ParseRuleError, ParseSetError,
+    UnsupportedItem, ZoneError,
 };
 use crate::format;
 use core::error::Error;
@@ -12,6 +12,7 @@ impl Error for ComponentRange {}
 impl Error for ConversionRange {}
 impl Error for FormatError {}
 impl Error for InvalidVariant {}
+impl Error for ParseDurationError {}
 impl Error for ParseError {}
 impl Error for ParseRuleError {}
 impl Error for ParseSetError {}

@@ -1,7 +1,8 @@
-//! `FromStr` by the proved parsers.
-use crate::error::ParseError;
-use crate::text::{date, offset, offset_date_time, plain, time};
-use crate::{Date, OffsetDateTime, PlainDateTime, Time, UtcOffset};
+//! `FromStr` by the proved parsers, and periods and durations as ISO 8601 has them.
+use crate::error::{ParseDurationError, ParseError};
+use crate::text::{ShortText, date, duration, offset, offset_date_time, period, plain, time};
+use crate::{Date, OffsetDateTime, Period, PlainDateTime, SignedDuration, Time, UtcOffset};
+use core::fmt;
 use core::str::FromStr;
 
 macro_rules! parse_by {
@@ -29,4 +30,41 @@ parse_by! {
     PlainDateTime: plain, "Parses a date-time, such as `2024-02-29 23:59:59.25`, like [`plain::parse`].";
     OffsetDateTime: offset_date_time,
         "Parses a date-time and an offset, such as `2024-02-29T23:59:59.25+01:00`, like [`offset_date_time::parse`].";
+}
+
+impl FromStr for Period {
+    type Err = ParseDurationError;
+
+    /// Parses a period, such as `P1Y2M10DT2H30M0.5S` or `-P1D`, like [`period::parse`].
+    ///
+    /// # Errors
+    ///
+    /// `UnexpectedByte` or `UnexpectedEnd`, else `OutOfRange` for the first part out of range.
+    fn from_str(text: &str) -> Result<Self, ParseDurationError> {
+        period::parse(text.as_bytes())
+    }
+}
+
+impl fmt::Display for Period {
+    /// Prints the period as ISO 8601 has it, such as `P1M3DT4H`, like [`period::Text`].
+    fn fmt(&self, f: &mut fmt::Formatter<'_>) -> fmt::Result {
+        fmt::Display::fmt(&period::Text::new(*self), f)
+    }
+}
+
+impl SignedDuration {
+    /// Parses a duration of ISO 8601 without years, months, weeks and days, such as `PT2H30M0.5S`,
+    /// like [`duration::parse`].
+    ///
+    /// # Errors
+    ///
+    /// `UnexpectedByte` or `UnexpectedEnd`, else `OutOfRange` for the first part out of range.
+    pub fn parse_iso8601(text: &str) -> Result<Self, ParseDurationError> {
+        duration::parse(text.as_bytes())
+    }
+
+    /// Returns the duration as ISO 8601 has it, such as `-PT36H` or `PT0S`, like [`duration::text`].
+    pub fn iso8601_text(self) -> ShortText {
+        duration::text(self)
+    }
 }

@@ -18,9 +18,9 @@
 //!
 //! # Unsafe code
 //!
-//! Three blocks of the proved source call `from_utf8_unchecked`: two return the bytes of a
-//! [`ShortText`](text::ShortText) or a [`RecurrenceText`](recurrence::RecurrenceText), and one
-//! appends ASCII bytes to a `ShortText`. The proofs show that the bytes are UTF-8 if each argument
+//! Four blocks of the proved source call `from_utf8_unchecked`: three return the bytes of a
+//! [`ShortText`](text::ShortText), a [`RecurrenceText`](recurrence::RecurrenceText) or the
+//! [`Text`](text::period::Text) of a period, and one appends ASCII bytes to a `ShortText`. The proofs show that the bytes are UTF-8 if each argument
 //! has its invariant and each call fulfils its conditions. Rust checks neither, so other crates must
 //! not be able to break them:
 //!
@@ -126,6 +126,7 @@ const fn number(digits: &str) -> u32 {
 
 /// Errors.
 pub mod error {
+    pub use crate::cal_duration::{DurationComponent, ParseDurationError};
     pub use crate::cal_format::FormatError;
     pub use crate::cal_recurrence::{ParseRuleError, ParseRuleErrorKind, ParseSetError, ParseSetErrorKind};
     pub use crate::cal_schedule::PeriodError;
@@ -173,8 +174,9 @@ pub mod schedule {
     };
 }
 
-/// Strings of dates and date-times.
+/// Strings of dates, date-times, periods and durations.
 pub mod text {
+    pub use crate::cal_duration::{duration, period};
     pub use crate::cal_text::{
         DateForm, DateOrMoment, MomentForm, ParseError, date, julian_day, offset, offset_date_time, parse_any, plain, rfc3339,
         time, unix,

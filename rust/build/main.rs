@@ -19,7 +19,7 @@ use strip::{Edits, Fault, Options, Source};
 use zones::Zones;
 
 /// The libraries, as modules of the crate.
-const CRATES: [&str; 15] = [
+const CRATES: [&str; 16] = [
     "cal_units",
     "cal_span",
     "cal_clock",
@@ -28,6 +28,7 @@ const CRATES: [&str; 15] = [
     "cal_datetime",
     "cal_schedule",
     "cal_text",
+    "cal_duration",
     "cal_format",
     "cal_zone",
     "cal_zoned",

@@ -19,6 +19,7 @@ fn main() -> ExitCode {
             "cal_datetime",
             "cal_schedule",
             "cal_text",
+            "cal_duration",
             "cal_format",
             "cal_zone",
             "cal_zoned",

@@ -3,6 +3,7 @@
 mod columns;
 mod conditions;
 mod drawn;
+mod durations;
 mod errors;
 mod every_day;
 mod formats;

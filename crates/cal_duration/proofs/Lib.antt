@@ -1,0 +1,10 @@
+mod Levels
+mod DigitReads
+mod PartsReads
+mod FormReads
+mod Parsed
+pub mod Shapes
+mod Ranges
+mod Lengths
+mod PrintedDecimals
+mod Printed

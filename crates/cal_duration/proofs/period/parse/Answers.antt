@@ -1,0 +1,28 @@
+use Rattle.cal_text.specs.Shape.{End}
+use Rattle.cal_text.proofs.Positions.{stopped_large}
+use Rattle.cal_duration.specs.DurationShape.{Period}
+use Rattle.cal_duration.specs.Form.{HasPeriodForm}
+use Rattle.cal_duration.specs.Values.{IsPeriodOf, IsPeriodError}
+use Rattle.cal_duration.proofs.Parsed.{made, refused, unmatched}
+use Rattle.cal_duration.proofs.Ranges.{one_period}
+use Rattle.cal_duration.proofs.Shapes.{period_shape}
+use Rattle.cal_duration.proofs.period.parse.Goals as goal
+
+pub returns-in-Ok : goal.returns-in-Ok
+returns-in-Ok c =
+    let is = made HasPeriodForm IsPeriodOf IsPeriodError one_period _ c.in-Some.numbers _ c.in-Some.ensures.value c.in-Ok.ensures.value in
+    record { every = is.every; value = is.value; syntax_error = is.syntax_error; position = is.position; out_of_range = is.out_of_range }
+
+pub returns-in-Err : goal.returns-in-Err
+returns-in-Err c =
+    let is = refused HasPeriodForm IsPeriodOf IsPeriodError one_period _ c.in-Some.numbers c.in-Err.component c.in-Some.ensures.value c.in-Err.ensures.error in
+    record { every = is.every; value = is.value; syntax_error = is.syntax_error; position = is.position; out_of_range = is.out_of_range }
+
+pub overflow_sub-position : goal.overflow_sub-position
+overflow_sub-position c = (stopped_large HasPeriodForm (λ more. Period more End) period_shape _ _ c.in-None.ensures.scans).within
+
+pub returns-in-None : goal.returns-in-None
+returns-in-None c =
+    let e = c.unexpected.ensures in
+    let is = unmatched HasPeriodForm IsPeriodOf IsPeriodError _ _ c.unexpected.result (stopped_large HasPeriodForm (λ more. Period more End) period_shape _ _ c.in-None.ensures.scans) e.byte e.end e.form in
+    record { every = is.every; value = is.value; syntax_error = is.syntax_error; position = is.position; out_of_range = is.out_of_range }

@@ -1,0 +1,7 @@
+pub mod Form
+pub mod DurationShape
+pub mod ErrorText
+pub mod Parsing
+pub mod Values
+pub mod DurationText
+pub mod PeriodBytes
