@@ -7,12 +7,14 @@
 
 #include <algorithm>
 #include <array>
+#include <chrono>
 #include <cstddef>
 #include <cstdint>
 #include <cstdlib>
 #include <filesystem>
 #include <fstream>
 #include <functional>
+#include <iterator>
 #include <map>
 #include <mutex>
 #include <optional>
@@ -25,16 +27,14 @@
 #include <utility>
 #include <vector>
 
-#if __cplusplus >= 202002L
-#include <chrono>
-#endif
-
 #include "fotsevindre.h"
 #ifdef FOTSEVINDRE_ZONE_DATA
 #include "fotsevindre_zone_data.h"
 #endif
 
 namespace fotsevindre {
+
+class Zone;
 
 // Thrown by a call without a result. status() says why.
 class error : public std::runtime_error {
@@ -294,6 +294,19 @@ private:
     fots_duration value_;
 };
 
+namespace detail {
+
+// Returns the Unix time of the clock of the system.
+inline Duration unix_time_now()
+{
+    const auto now = std::chrono::system_clock::now().time_since_epoch();
+    const auto seconds = std::chrono::duration_cast<std::chrono::seconds>(now);
+    const auto rest = std::chrono::duration_cast<std::chrono::nanoseconds>(now - seconds);
+    return Duration(fots_duration{seconds.count(), static_cast<std::int32_t>(rest.count())});
+}
+
+} // namespace detail
+
 // A time of day in nanoseconds.
 class Time : public detail::Ordered<Time> {
 public:
@@ -310,6 +323,8 @@ public:
         return Time(detail::value_or_throw(fots_time_from_hms_nano(hour, minute, second, nanosecond)).time, {});
     }
 
+    // Returns the time of day that the clocks of a zone show now.
+    static Time now(const Zone &zone);
     // Parses a time of day, such as "9:05" or "23:59:59.25".
     static Time parse(std::string_view text) { return Time(detail::parsed_or_throw(fots_time_parse(detail::data(text), text.size())).time, {}); }
     // Parses the text of a value by a format, and no other text.
@@ -472,6 +487,8 @@ public:
     {
         return from(fots_date_from_iso_week_date(year, week, static_cast<std::uint32_t>(weekday)));
     }
+    // Returns the date that the clocks of a zone show now.
+    static Date today(const Zone &zone);
     // Parses a calendar date, an ordinal date or an ISO week date, such as "2024-W09-4".
     static Date parse(std::string_view text) { return Date(detail::parsed_or_throw(fots_date_parse(detail::data(text), text.size())).date, {}); }
     // Parses the text of a value by a format, and no other text.
@@ -633,6 +650,61 @@ private:
     }
 
     fots_date value_;
+};
+
+// The steps of a period from a start, from the start itself on to the end of the range: by months from
+// 31 January 2024 they are 31 January, 29 February, 31 March and so on. Each is counted from the start,
+// so nothing drifts. To be read in a loop: for (const Date date : Steps(start, period)).
+template <class Value> class Steps {
+public:
+    // Throws a std::invalid_argument if the period isn't positive, or has a duration and the start is a date.
+    Steps(Value start, const Period &period) : start_(start), period_(period)
+    {
+        if (!start.step_of(period, start)) {
+            throw std::invalid_argument("steps of a period that isn't positive, or of dates by a duration");
+        }
+    }
+
+    class iterator {
+    public:
+        using iterator_category = std::input_iterator_tag;
+        using value_type = Value;
+        using difference_type = std::ptrdiff_t;
+        using pointer = const Value *;
+        using reference = const Value &;
+
+        reference operator*() const { return *step_; }
+        pointer operator->() const { return &*step_; }
+        iterator &operator++()
+        {
+            ++number_;
+            step_ = steps_->start_.nth_period(steps_->period_, number_);
+            return *this;
+        }
+        iterator operator++(int)
+        {
+            const iterator before = *this;
+            ++*this;
+            return before;
+        }
+        friend bool operator==(const iterator &one, const iterator &other) { return one.step_ == other.step_; }
+        friend bool operator!=(const iterator &one, const iterator &other) { return !(one == other); }
+
+    private:
+        friend class Steps;
+        iterator(const Steps *steps, std::optional<Value> step) : steps_(steps), step_(step) {}
+
+        const Steps *steps_;
+        std::optional<Value> step_;
+        std::int32_t number_ = 0;
+    };
+
+    iterator begin() const { return {this, start_}; }
+    iterator end() const { return {this, std::nullopt}; }
+
+private:
+    Value start_;
+    Period period_;
 };
 
 // The days from a date up to another, which isn't in the range. There may be none.
@@ -985,13 +1057,14 @@ inline std::optional<std::pair<Date, Time>> unix_pair(Duration duration, UtcOffs
 }
 
 class OffsetDateTime;
-class Zone;
 class ZonedDateTime;
 
 // A date and a time of day without an offset.
 class PlainDateTime : public detail::Ordered<PlainDateTime> {
 public:
     PlainDateTime(Date date, Time time) : value_(detail::value_or_throw(fots_moment_new(date.c(), time.c(), fots_offset{0})).moment) {}
+    // Returns what the clocks of a zone show now.
+    static PlainDateTime now(const Zone &zone);
     // Parses a date and a time of day, such as "2024-02-29 23:59:59.25" or "2024-W09-4T9:05".
     static PlainDateTime parse(std::string_view text) { return from(fots_pair_parse(detail::data(text), text.size())); }
     // Parses the text of a value by a format, and no other text.
@@ -1066,6 +1139,8 @@ public:
     static OffsetDateTime new_utc(Date date, Time time) { return new_in_offset(date, time, UtcOffset::utc()); }
     static OffsetDateTime from_unix_timestamp(std::int64_t seconds) { return from(fots_moment_from_unix_timestamp(seconds)); }
     static OffsetDateTime from_unix_duration(Duration duration) { return from(fots_moment_from_unix_time(duration.c())); }
+    // Returns the current time at UTC, by std::chrono::system_clock.
+    static OffsetDateTime now_utc() { return from_unix_duration(detail::unix_time_now()); }
     // Parses a date, a time of day and an offset, such as "2024-02-29 9:05 +01:00".
     static OffsetDateTime parse(std::string_view text)
     {
@@ -1347,6 +1422,9 @@ public:
     ZonedDateTime(OffsetDateTime moment, const Zone &zone) : ZonedDateTime(moment.in_zone(zone).c(), &zone) {}
     ZonedDateTime(OffsetDateTime, const Zone &&) = delete;
 
+    // Returns the current time in a zone, by std::chrono::system_clock.
+    static ZonedDateTime now(const Zone &zone) { return from_unix_duration(detail::unix_time_now(), zone); }
+    static ZonedDateTime now(const Zone &&) = delete;
     static ZonedDateTime from_unix_duration(Duration duration, const Zone &zone) { return from(&zone, fots_zoned_at, duration.c()); }
     // Creates the date-time that a local one means in a zone, or throws FOTS_SKIPPED_TIME or
     // FOTS_REPEATED_TIME by Policy::Reject.
@@ -1424,6 +1502,10 @@ private:
     fots_moment value_;
     const Zone *zone_;
 };
+
+inline PlainDateTime PlainDateTime::now(const Zone &zone) { return ZonedDateTime::now(zone).local(); }
+inline Date Date::today(const Zone &zone) { return PlainDateTime::now(zone).date(); }
+inline Time Time::now(const Zone &zone) { return PlainDateTime::now(zone).time(); }
 
 inline ZonedDateTime Zone::start_of_day(Date date) const { return ZonedDateTime::from(this, fots_zoned_start_of_day, date.c()); }
 

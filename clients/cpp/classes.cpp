@@ -1,6 +1,7 @@
 // Checks the classes of fotsevindre.hpp: worked rows, order, errors, empty results, and <chrono>.
 #include <array>
 #include <cstdio>
+#include <ctime>
 #include <initializer_list>
 #include <map>
 #include <sstream>
@@ -407,6 +408,21 @@ void zoned()
     check(berlin.add_days({}, {}).errors == 0 && berlin.starts_of_day({}).errors == 0, "no rows");
 }
 
+// The current time is between two readings of another clock of the system.
+void current_time()
+{
+    const Zone berlin = Zone::from_posix("CET-1CEST,M3.5.0,M10.5.0/3");
+    const std::time_t before = std::time(nullptr);
+    const OffsetDateTime utc = OffsetDateTime::now_utc();
+    const ZonedDateTime here = ZonedDateTime::now(berlin);
+    const PlainDateTime local = PlainDateTime::now(berlin), again(Date::today(berlin), Time::now(berlin));
+    const std::time_t after = std::time(nullptr);
+    check(utc.offset() == UtcOffset::utc() && utc.unix_timestamp() >= before - 1 && utc.unix_timestamp() <= after, "the time at UTC");
+    check(&here.zone() == &berlin && here.to_offset_date_time() >= utc && here.unix_timestamp() <= after, "the time in a zone");
+    check(local >= here.local() || here.offset() != ZonedDateTime::now(berlin).offset(), "the local time");
+    check(again - local < Duration::hours(1) || again.date() != local.date(), "the date and the time of day");
+}
+
 void periods()
 {
     const Date january = Date::parse("2024-01-31");
@@ -417,6 +433,23 @@ void periods()
     check(month == Period(0, 1, 0, 0) && month != day && Period::from_years(1) != Period::from_months(12), "equality");
     const PlainDateTime night(january, Time::from_hms(23, 30, 0));
     check(night.checked_add_period(Period(0, 1, 0, 0, Duration::hours(2))) == PlainDateTime(Date::parse("2024-03-01"), Time::from_hms(1, 30, 0)), "a pair");
+    std::vector<Date> days;
+    for (const Date step : Steps(january, month)) {
+        if (step > Date::parse("2024-04-30")) {
+            break;
+        }
+        days.push_back(step);
+    }
+    check(days == std::vector<Date>{january, Date::parse("2024-02-29"), Date::parse("2024-03-31"), Date::parse("2024-04-30")}, "steps of a month");
+    const Steps<Date> last(Date::max(), day);
+    check(std::distance(last.begin(), last.end()) == 1 && *last.begin() == Date::max(), "the steps end with the range");
+    bool is_rejected = false;
+    try {
+        const Steps<Date> none(january, Period::from_days(0));
+    } catch (const std::invalid_argument &) {
+        is_rejected = true;
+    }
+    check(is_rejected, "steps of nothing");
     throws([] { Period(1, -1, 0, 0); }, FOTS_INVALID_PERIOD, "invalid period", "two signs");
     throws([&] { january.checked_add_period(Period::from_duration(Duration::hours(1))); }, FOTS_PERIOD_HAS_DURATION, "period has a duration", "a date and a duration");
 }
@@ -536,6 +569,7 @@ int main()
     plain_moments();
     zones();
     zoned();
+    current_time();
     periods();
     named_zones();
     times_of_day();
