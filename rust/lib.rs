@@ -197,6 +197,8 @@ pub mod zone {
     pub use crate::cal_tzif::{ZoneError, ZoneErrorKind};
     pub use crate::cal_zone::{Change, Gap, Local, LocalType, Policy, Yearly, Zone};
     pub use crate::cal_zoned::{ZonedDateTime, start_of_day};
+    #[cfg(feature = "std")]
+    pub use crate::std_clock::LocalClock;
 }
 
 /// The pages for Rust, whose examples are tested.

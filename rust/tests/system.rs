@@ -1,7 +1,7 @@
 //! The clock, and time zones by name.
 
 use fotsevindre::error::NamedZoneError;
-use fotsevindre::{Duration, OffsetDateTime, Zone};
+use fotsevindre::{Date, Duration, OffsetDateTime, PlainDateTime, Time, UtcOffset, Zone, ZonedDateTime};
 use std::fs;
 use std::process::Command;
 use std::time::SystemTime;
@@ -45,6 +45,22 @@ fn zones_by_name() {
 
     fs::remove_dir_all(&folder).unwrap();
     assert!(std::ptr::eq(Zone::named("Europe/Berlin").unwrap(), berlin), "the zone is kept");
+}
+
+#[test]
+fn now_at_offsets_and_in_zones() {
+    let zone = Zone::parse_posix("<+05>-5").unwrap();
+    let offset = UtcOffset::from_hms(5, 0, 0).unwrap();
+    let before = OffsetDateTime::now_utc();
+    let (zoned, in_zone, at_offset) = (ZonedDateTime::now(&zone), OffsetDateTime::now(&zone), OffsetDateTime::now(&offset));
+    let (plain, date, time) = (PlainDateTime::now(&zone), Date::today(&offset), Time::now(&zone));
+    let after = OffsetDateTime::now_utc();
+    for moment in [zoned.to_offset_date_time(), in_zone, at_offset, plain.assume_offset(offset)] {
+        assert!(before <= moment && moment <= after && moment.offset() == offset, "{before} {moment} {after}");
+    }
+    let (first, last) = (before.to_offset(offset), after.to_offset(offset));
+    assert!(first.date() <= date && date <= last.date());
+    assert!(first.date() < last.date() || first.time() <= time && time <= last.time());
 }
 
 #[test]

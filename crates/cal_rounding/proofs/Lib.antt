@@ -1,2 +1,3 @@
 pub mod Multiples
 pub mod OneResult
+pub mod Starts

@@ -65,7 +65,7 @@ rounded-multiple mode u z r k e p =
     let h : distance z r ≤ distance z z = subst (λ (x : ℤ). distance z r ≤ distance z x) (sym e) (p.nearest k (subst (IsAllowed mode z) e (allows mode z))) in
     omega (arith, ints, h)
 
-some-one : {T : Type 0} (P : Type 0) (x : T) (a b : Option T) → SomeIff a P x → SomeIff b P x → a ≡ b
+pub some-one : {T : Type 0} (P : Type 0) (x : T) (a b : Option T) → SomeIff a P x → SomeIff b P x → a ≡ b
 some-one P x None None p q = refl
 some-one P x (Some a) None p q = absurd (q p.0)
 some-one P x None (Some b) p q = absurd (p q.0)

@@ -34,7 +34,7 @@ pub fn round_duration(
 }
 
 /// Returns the magnitude in nanoseconds.
-fn magnitude(duration: SignedDuration) -> u128
+pub(crate) fn magnitude(duration: SignedDuration) -> u128
     ensures value { result ≡ unsigned_abs duration }
     ensures range { result < 2 ^ 94 }
 {

@@ -29,7 +29,7 @@ pub(crate) fn rounded_magnitude(
 
 /// Returns `true` if a number is rounded away from zero. Its magnitude is a multiple of the unit and
 /// the part past it.
-fn is_away_from_zero(
+pub(crate) fn is_away_from_zero(
     number: u128,
     past: u128,
     unit: u128,

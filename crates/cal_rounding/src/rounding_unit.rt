@@ -1,5 +1,6 @@
 //! Units that divide a day.
-ghost use Rattle.std.specs.Prelude.{◌≡◌, pos, ◌<ℤ◌, unsigned_abs, SomeIff};
+ghost use Rattle.std.specs.Prelude.{◌≡◌, ◌↔◌, pos, ◌<ℤ◌, unsigned_abs, IsTrue, SomeIff};
+ghost use Rattle.cal_time.specs.SignedDuration.{day};
 ghost use Rattle.cal_rounding.specs.Rounding.{IsRoundingUnit};
 
 use cal_time::SignedDuration;
@@ -84,6 +85,13 @@ impl RoundingUnit {
         ensures range { IsRoundingUnit self }
     {
         SignedDuration::nanoseconds(self.nanoseconds as i64)
+    }
+
+    /// Returns `true` if the unit is a whole day.
+    pub(crate) fn is_day(self) -> bool
+        ensures { IsTrue result ↔ (self ≡ day) }
+    {
+        self.nanoseconds == NANOSECONDS_PER_DAY
     }
 
     /// Returns the nanoseconds.

@@ -17,6 +17,7 @@ mod order;
 mod periods;
 mod printing;
 mod recurrences;
+mod rounding;
 mod sets;
 mod texts;
 mod times;
@@ -46,5 +47,6 @@ fn main(rt: HostRuntime) -> io::Result<()> {
     sets::show(&rt)?;
     zones::show(&rt)?;
     periods::show(&rt)?;
+    rounding::show(&rt)?;
     arrival::main(rt)
 }
