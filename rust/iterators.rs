@@ -8,5 +8,6 @@ use core::iter::FusedIterator;
 impl ExactSizeIterator for DateIter {}
 impl FusedIterator for DateIter {}
 impl FusedIterator for Steps {}
+impl FusedIterator for crate::cal_zoned::Steps {}
 impl<C: Cycle> FusedIterator for CycleIter<C> {}
 impl<C: Cycle> FusedIterator for Rev<CycleIter<C>> {}

@@ -172,6 +172,7 @@ pub mod schedule {
         ByDay, CalendarUnit, Convention, DateRange, DayCount, Frequency, Pattern, Period, PeriodUnit, Rule, RuleDays, Steps,
         Values, Workdays, YearFraction,
     };
+    pub use crate::cal_zoned::Steps as DateTimeSteps;
 }
 
 /// Strings of dates, date-times, periods and durations.

@@ -42,7 +42,7 @@ const METHODS: &[(&str, &str, &[&str])] = &[
         ],
     ),
     ("cal_zone", "OffsetDateTime", &["in_zone"]),
-    ("cal_zoned", "PlainDateTime", &["checked_add_period", "period_until"]),
+    ("cal_zoned", "PlainDateTime", &["checked_add_period", "nth_period", "period_until", "step_of"]),
     ("cal_rounding", "Time", &["round_time"]),
     ("cal_rounding", "PlainDateTime", &["round_date_time"]),
     ("cal_rounding", "OffsetDateTime", &["round_offset_date_time"]),

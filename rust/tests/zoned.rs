@@ -1,6 +1,7 @@
 //! Date-times in a zone: rows of the documentation of Temporal and of Python's `zoneinfo`.
 
 use fotsevindre::error::{LocalTimeError, PeriodError};
+use fotsevindre::schedule::DateTimeSteps;
 use fotsevindre::zone::start_of_day;
 use fotsevindre::{
     CalendarUnit, Date, Month, OffsetDateTime, Period, PlainDateTime, Policy, SignedDuration, Time, UtcOffset, Weekday, Workdays,
@@ -152,6 +153,95 @@ fn periods_keep_the_clock() {
     }
     let next = later.checked_add_period(Period::from_weeks(52), Policy::Reject);
     assert_eq!(shown(next), Err(LocalTimeError::Repeated));
+}
+
+/// The clocks of Berlin go forward at 2:00 on 2024-03-31, and back at 3:00 on 2024-10-27. Offsets are
+/// those of `zoneinfo`.
+#[test]
+fn periods_between_date_times_in_a_zone() {
+    let berlin = Zone::parse_posix(CET).unwrap();
+    let at = |text: &str| ZonedDateTime::from_local(reading(text), &berlin, Policy::Compatible).unwrap();
+    use CalendarUnit::{Day, Month, Week, Year};
+    for (from, to, unit, wanted) in [
+        ("2024-03-30 12:00:00", "2024-03-31 12:00:00", Day, period(0, 0, 0, 1, 0)),
+        ("2024-03-30 12:00:00", "2024-03-31 13:00:00", Day, period(0, 0, 0, 1, 1)),
+        ("2024-03-30 12:00:00", "2024-03-31 11:00:00", Day, period(0, 0, 0, 0, 22)),
+        ("2024-10-26 12:00:00", "2024-10-27 11:00:00", Day, period(0, 0, 0, 0, 24)),
+        ("2024-01-31 12:00:00", "2024-04-01 11:00:00", Month, period(0, 2, 0, 0, 23)),
+        ("2023-01-31 12:00:00", "2024-04-01 11:00:00", Year, period(1, 2, 0, 0, 23)),
+        ("2024-03-17 12:00:00", "2024-04-01 12:00:00", Week, period(0, 0, 2, 1, 0)),
+        ("2024-04-01 12:00:00", "2024-03-17 13:00:00", Week, period(0, 0, -2, 0, -23)),
+        // The clocks skip 2:30, which means 3:30.
+        ("2024-03-30 2:30:00", "2024-03-31 3:15:00", Day, SignedDuration::minutes(1425).into()),
+        ("2024-03-30 2:30:00", "2024-03-31 3:45:00", Day, period(0, 0, 0, 1, 0).with_duration(SignedDuration::minutes(15)).unwrap()),
+    ] {
+        let (from, to) = (at(from), at(to));
+        let found = from.period_until(&to, unit, Policy::Compatible).unwrap();
+        assert_eq!(found, wanted, "{from} to {to} by {unit:?}");
+        assert_eq!(from.checked_add_period(found, Policy::Compatible), Ok(to), "{from} to {to}");
+    }
+    // From the second half of a fold, less than a day.
+    let later = ZonedDateTime::from_local(reading("2024-10-27 2:30:00"), &berlin, Policy::Later).unwrap();
+    let end = at("2024-10-28 2:00:00");
+    let found = later.period_until(&end, Day, Policy::Compatible).unwrap();
+    assert_eq!((found, later.checked_add_period(found, Policy::Compatible)), (SignedDuration::minutes(1410).into(), Ok(end)));
+    // What the clocks of the other zone show can be out of the range.
+    let utc = Zone::parse_posix("UTC0").unwrap();
+    let last = ZonedDateTime::from_offset_date_time(PlainDateTime::MAX.assume_utc(), &utc).unwrap();
+    assert_eq!(later.period_until(&last, Day, Policy::Compatible), None);
+}
+
+/// A month after 31 January is 29 February, and two months after it 31 March.
+#[test]
+fn steps_of_date_times() {
+    let berlin = Zone::parse_posix(CET).unwrap();
+    let start = ZonedDateTime::from_local(reading("2024-01-31 2:30:00"), &berlin, Policy::Compatible).unwrap();
+    let month = Period::from_months(1);
+    let nth = |n, policy| shown(start.nth_period(month, n, policy));
+    for (n, wanted) in [
+        (-1, "2023-12-31 2:30:00.0 +01:00:00"),
+        (0, "2024-01-31 2:30:00.0 +01:00:00"),
+        (1, "2024-02-29 2:30:00.0 +01:00:00"),
+        (2, "2024-03-31 3:30:00.0 +02:00:00"),
+        (3, "2024-04-30 2:30:00.0 +02:00:00"),
+    ] {
+        assert_eq!(nth(n, Policy::Compatible).as_deref(), Ok(wanted), "{n}");
+    }
+    assert_eq!(nth(2, Policy::Reject), Err(LocalTimeError::Skipped));
+    assert_eq!(nth(i32::MAX, Policy::Compatible), Err(LocalTimeError::OutOfRange));
+    // 12 hours are exact.
+    let half = Period::from_duration(SignedDuration::hours(12));
+    let change = ZonedDateTime::from_local(reading("2024-03-30 12:00:00"), &berlin, Policy::Compatible).unwrap();
+    assert_eq!(shown(change.nth_period(half, 2, Policy::Compatible)).as_deref(), Ok("2024-03-31 13:00:00.0 +02:00:00"));
+}
+
+/// A month after 31 January is 29 February, and two months after it 31 March.
+#[test]
+fn steps_of_local_date_times() {
+    let start = reading("2024-01-31 8:00:00");
+    let month = Period::from_months(1);
+    let steps: Vec<_> = DateTimeSteps::new(start, month).unwrap().take(3).collect();
+    assert_eq!(steps, ["2024-01-31 8:00:00", "2024-02-29 8:00:00", "2024-03-31 8:00:00"].map(reading));
+    assert_eq!(start.nth_period(month, 3), Some(reading("2024-04-30 8:00:00")));
+    for (end, wanted) in [
+        ("2024-01-31 7:59:59", None),
+        ("2024-01-31 8:00:00", Some(0)),
+        ("2024-02-29 7:59:59", Some(0)),
+        ("2024-02-29 8:00:00", Some(1)),
+        ("2025-01-31 8:00:00", Some(12)),
+    ] {
+        assert_eq!(start.step_of(month, reading(end)), wanted, "{end}");
+    }
+    let hours = Period::from_duration(SignedDuration::hours(8));
+    assert_eq!(start.step_of(hours, reading("2024-02-01 8:00:00")), Some(3));
+    for none in [Period::from_days(0), Period::from_days(-1)] {
+        assert_eq!((start.step_of(none, start), DateTimeSteps::new(start, none).is_none()), (None, true));
+    }
+    // The last step in the range, and the last one with a number in an `i32`.
+    let last = PlainDateTime::MAX;
+    assert_eq!(last.nth_period(Period::from_duration(SignedDuration::NANOSECOND), 1), None);
+    assert_eq!(PlainDateTime::MIN.step_of(Period::from_duration(SignedDuration::SECOND), last), Some(i32::MAX));
+    assert_eq!(DateTimeSteps::new(last, month).unwrap().collect::<Vec<_>>(), [last]);
 }
 
 #[test]

@@ -58,6 +58,22 @@ fn answer(kind: &str, zone: &'static Zone<'static>, numbers: &[i64]) -> String {
         ("start_of", &[instant, unit]) => edge(at(instant, zone).start_of(UNITS[unit as usize])),
         ("end_of", &[instant, unit]) => edge(at(instant, zone).end_of(UNITS[unit as usize])),
         ("until", &[start, end, unit]) => parts(local(start).period_until(local(end), UNITS[unit as usize])),
+        ("until_in", &[start, end, unit, policy]) => {
+            let period = at(start, zone).period_until(&at(end, zone), UNITS[unit as usize], POLICIES[policy as usize]);
+            parts(period.expect("a period"))
+        }
+        ("nth", &[instant, years, months, weeks, days, seconds, n, policy]) => {
+            let period = period(years, months, weeks, days, seconds);
+            shown(at(instant, zone).nth_period(period, n as i32, POLICIES[policy as usize]))
+        }
+        ("plain_nth", &[reading, years, months, weeks, days, seconds, n]) => {
+            let later = local(reading).nth_period(period(years, months, weeks, days, seconds), n as i32);
+            later.map_or("none".to_owned(), |later| later.assume_utc().unix_timestamp_nanos().to_string())
+        }
+        ("plain_step", &[start, years, months, weeks, days, seconds, end]) => {
+            let step = local(start).step_of(period(years, months, weeks, days, seconds), local(end));
+            step.map_or("none".to_owned(), |step| step.to_string())
+        }
         ("until_days", &[start, end, unit]) => parts(date(start).period_until_by(date(end), UNITS[unit as usize])),
         ("step_of", &[start, years, months, weeks, days, day]) => {
             let step = date(start).step_of(period(years, months, weeks, days, 0), date(day));

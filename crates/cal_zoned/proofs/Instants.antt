@@ -1,6 +1,7 @@
 -- Instants in nanoseconds, and what the clocks of a zone show at them.
-use Rattle.std.proofs.Common.{FitsSigned, w64, ◌≡◌, refl, sym, ap, ◌∙◌, subst, arith}
-use Rattle.std.proofs.lemmas.Int.{ints}
+use Rattle.std.proofs.Common.{FitsSigned, w32, w64, ℕ, ◌≡◌, ◌≤◌, ◌<◌, ◌^◌, unsigned_abs, refl, sym, ap, ◌∙◌, subst, arith}
+use Rattle.std.proofs.Math.Nat.{mul-le-mul}
+use Rattle.std.proofs.lemmas.Int.{ints, unsigned_abs-mul}
 use Rattle.std.specs.Prelude.{Option, None, Ok, Err, SomeIff, ℤ, pos, negsuc, ◌<ℤ◌, ◌≤ℤ◌, ◌+ℤ◌, ◌-ℤ◌, ◌*ℤ◌}
 use Rattle.std.specs.Int.{int_div_euclid, int_rem_euclid}
 use Rattle.cal_time.specs.SignedDuration.{second, IsDuration}
@@ -115,8 +116,25 @@ sum_at_instant n d z v e f = omega (arith, ints, e, f)
 pub magnitude_of : (o : ℤ) → time.IsOffset o → IsOffset o
 magnitude_of o h = record { magnitude = omega (arith, ints, h.0, h.1) }
 
-pub sum_fits : (n d z v : ℤ) → n ≡ z -ℤ unix_epoch → d ≡ v → IsInstant z → IsDuration v → FitsSigned w128 (n +ℤ d)
-sum_fits n d z v e f i j = omega (arith, ints, e, f, i.not_before, i.not_after, j.at_least, j.at_most)
+pub duration_within : (d v : ℤ) → d ≡ v → IsDuration v → unsigned_abs d < 2 ^ 126
+duration_within d v e j = omega (arith, ints, e, j.at_least, j.at_most)
+
+-- a duration n times
+pub times_is : (n v a d : ℤ) → a ≡ n → d ≡ v → a *ℤ d ≡ n *ℤ v
+times_is n v a d e f = ap (λ (x : ℤ). x *ℤ d) e ∙ ap (λ (x : ℤ). n *ℤ x) f
+
+pub times_within : (n v a d : ℤ) → FitsSigned w32 n → a ≡ n → d ≡ v → IsDuration v → unsigned_abs (a *ℤ d) < 2 ^ 126
+times_within n v a d g e f j =
+    let x : unsigned_abs a ≤ 2 ^ 31 = omega (arith, ints, e, g.sfits) in
+    let y : unsigned_abs d ≤ 2 ^ 94 = omega (arith, ints, f, j.at_least, j.at_most) in
+    let z = mul-le-mul x y in
+    subst (λ (k : ℕ). k < 2 ^ 126) (sym (unsigned_abs-mul a d)) (omega (arith, z))
+
+pub times_fits : (n v a d : ℤ) → FitsSigned w32 n → a ≡ n → d ≡ v → IsDuration v → FitsSigned w128 (a *ℤ d)
+times_fits n v a d g e f j = let within = times_within n v a d g e f j in omega (arith, ints, within)
+
+pub sum_fits : (n d z : ℤ) → n ≡ z -ℤ unix_epoch → IsInstant z → unsigned_abs d < 2 ^ 126 → FitsSigned w128 (n +ℤ d)
+sum_fits n d z e i j = omega (arith, ints, e, i.not_before, i.not_after, j)
 
 pub difference_at_instant : (n d z v : ℤ) → n ≡ z -ℤ unix_epoch → d ≡ v → unix_epoch +ℤ (n -ℤ d) ≡ z -ℤ v
 difference_at_instant n d z v e f = omega (arith, ints, e, f)

@@ -5,3 +5,6 @@ pub mod Periods
 pub mod ZoneResults
 pub mod UnitEnds
 pub mod PeriodsUntil
+pub mod Shown
+pub mod UntilInZone
+pub mod StepsInOrder

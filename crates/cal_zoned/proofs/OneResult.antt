@@ -5,7 +5,7 @@ use Rattle.cal_datetime.specs.DateTime.{IsDateTime, date_at, last_date_time}
 use Rattle.std.proofs.lemmas.Int.{ints, by_lt_z}
 use Rattle.cal_zone.proofs.Orders.{not_less}
 use Rattle.cal_time.specs.Date.{IsDate}
-use Rattle.cal_schedule.specs.Period.{days_of, months_of, IsDaysLater, Parts}
+use Rattle.cal_schedule.specs.Period.{IsDaysLater}
 use Rattle.cal_schedule.proofs.Periods.{no_value, zero_or_not}
 use Rattle.cal_datetime.specs.OffsetDateTime.{LocalAndOffset, instant, unix_seconds}
 use Rattle.cal_zone.specs.Local.{IsLocalOf, Shows}
@@ -13,7 +13,7 @@ use Rattle.cal_zone.specs.declared.local.Local.{Local}
 use Rattle.cal_zone.specs.declared.local.Local.TheVariants.{Single, Gap, Fold}
 use Rattle.cal_zone.specs.Timeline.{Timeline, offset_at}
 use Rattle.cal_zoned.specs.Zoned.{InZone, IsSeen, at_instant, reading_at}
-use Rattle.cal_zoned.specs.Period.{IsExact, IsMovedThen, IsPeriodLater}
+use Rattle.cal_zoned.specs.Period.{IsExact, IsMovedBy, IsMovedThen}
 use Rattle.cal_zoned.specs.Resolved.{IsKept, IsResolved, IsMeant}
 use Rattle.cal_zone.specs.declared.policy.Policy.{Policy}
 use Rattle.cal_zone.specs.declared.policy.Policy.TheVariants as policy
@@ -77,7 +77,7 @@ abbrev SeenAt : Timeline → ℤ → Result InZone LocalTimeError → Result InZ
 SeenAt zone exact r (Ok m) = IsSeen zone (instant m.moment +ℤ exact) r
 SeenAt zone exact r (Err e) = Unit {0}
 
-abbrev IsFine : Result InZone LocalTimeError → Type 0
+abbrev pub IsFine : Result InZone LocalTimeError → Type 0
 IsFine (Ok m) = Unit {0}
 IsFine (Err e) = ⊥
 
@@ -97,6 +97,11 @@ pub if_ok : {A : Type 0} (r : Result InZone LocalTimeError) → A → IfOk r (λ
 if_ok (Ok m) a = a
 if_ok (Err e) a = tt
 
+-- months and days, or none of both
+pub exact_or_not : (months days : ℤ) (A : Type 0) → (IsExact months days → A) → (¬ IsExact months days → A) → A
+exact_or_not months days A still other =
+    zero_or_not months A (λ zero. zero_or_not days A (λ none. still (zero, none)) (λ some. other (λ e. some e.1))) (λ some. other (λ e. some e.0))
+
 -- ---- one result of a period
 moved_then-one : (p : Policy) (zone : Timeline) (reading exact : ℤ) (a b : Result InZone LocalTimeError) → ((r : ℤ) (x y : Local) → IsLocalOf zone r x → IsLocalOf zone r y → x ≡ y)
     → IsMovedThen p zone reading exact a → IsMovedThen p zone reading exact b → a ≡ b
@@ -106,24 +111,23 @@ moved_then-one p zone reading exact a b one h k = by_middle h.middle refl (resol
     by_middle (Ok m) e f = seen-one zone _ a b (h.later m e) (k.later m f)
     by_middle (Err w) e f = h.error w e ∙ sym (k.error w f)
 
-pub period_later-one : (p : Policy) (m : InZone) (period : Parts) (a b : Result InZone LocalTimeError) → ((r : ℤ) (x y : Local) → IsLocalOf m.zone r x → IsLocalOf m.zone r y → x ≡ y)
-    → (found : Option ℕ) → ((n : ℕ) → IsDate n → IsDaysLater (date_at m.moment.local) (months_of period) (days_of period) n → found ≡ Some n)
-    → IfSome found (λ n. IsDate n × IsDaysLater (date_at m.moment.local) (months_of period) (days_of period) n)
-    → IsPeriodLater p m period a → IsPeriodLater p m period b → a ≡ b
-period_later-one p m period a b one found every value h k =
-    zero_or_not (months_of period) (a ≡ b)
-    (λ zero. zero_or_not (days_of period) (a ≡ b)
-    (λ none. seen-one m.zone _ a b (h.exact (zero, none)) (k.exact (zero, none)))
-    (λ some. clock found every value (λ e. some e.1)))
-    (λ some. clock found every value (λ e. some e.0))
+pub moved_by-one : (p : Policy) (m : InZone) (months days exact : ℤ) (a b : Result InZone LocalTimeError) → ((r : ℤ) (x y : Local) → IsLocalOf m.zone r x → IsLocalOf m.zone r y → x ≡ y)
+    → (found : Option ℕ) → ((n : ℕ) → IsDate n → IsDaysLater (date_at m.moment.local) months days n → found ≡ Some n)
+    → IfSome found (λ n. IsDate n × IsDaysLater (date_at m.moment.local) months days n)
+    → IsMovedBy p m months days exact a → IsMovedBy p m months days exact b → a ≡ b
+moved_by-one p m months days exact a b one found every value h k =
+    exact_or_not months days (a ≡ b) (λ still. seen-one m.zone _ a b (h.exact still) (k.exact still)) (λ calendar. clock found every value calendar)
   where
-    clock : (found : Option ℕ) → ((n : ℕ) → IsDate n → IsDaysLater (date_at m.moment.local) (months_of period) (days_of period) n → found ≡ Some n)
-        → IfSome found (λ n. IsDate n × IsDaysLater (date_at m.moment.local) (months_of period) (days_of period) n)
-        → ¬ IsExact period → a ≡ b
+    clock : (found : Option ℕ) → ((n : ℕ) → IsDate n → IsDaysLater (date_at m.moment.local) months days n → found ≡ Some n)
+        → IfSome found (λ n. IsDate n × IsDaysLater (date_at m.moment.local) months days n)
+        → ¬ IsExact months days → a ≡ b
     clock None every value calendar = h.none calendar (λ n i j. no_value n (every n i j)) ∙ sym (k.none calendar (λ n i j. no_value n (every n i j)))
-    clock (Some n) every value calendar = moved_then-one p m.zone _ period.exact a b one (h.moved calendar n value.0 value.1) (k.moved calendar n value.0 value.1)
+    clock (Some n) every value calendar = moved_then-one p m.zone _ exact a b one (h.moved calendar n value.0 value.1) (k.moved calendar n value.0 value.1)
 
 -- ---- one result of another date or time
+pub equal_or_not : (x y : ℤ) (A : Type 0) → (x ≡ y → A) → ((x ≡ y → ⊥) → A) → A
+equal_or_not x y A same other = by_lt_z x y (λ less. other (λ e. absurd (omega (arith, ints, e, less)))) (λ least. by_lt_z y x (λ more. other (λ e. absurd (omega (arith, ints, e, more)))) (λ most. same (omega (arith, ints))))
+
 pub kept-one : (p : Policy) (m : InZone) (reading : ℤ) (a b : Result InZone LocalTimeError) → ((r : ℤ) (x y : Local) → IsLocalOf m.zone r x → IsLocalOf m.zone r y → x ≡ y)
     → IsKept p m reading a → IsKept p m reading b → a ≡ b
 kept-one p m reading a b one h k =
@@ -131,6 +135,3 @@ kept-one p m reading a b one h k =
     equal_or_not m.moment.offset (offset_at m.zone (unix_seconds (instant own))) (a ≡ b)
     (λ e. let shows : Shows m.zone reading own = record { same = refl; offset = e } in h.kept shows ∙ sym (k.kept shows))
     (λ other. resolved-one p m.zone reading a b one (h.moved (λ shows. other shows.offset)) (k.moved (λ shows. other shows.offset)))
-  where
-    equal_or_not : (x y : ℤ) (A : Type 0) → (x ≡ y → A) → ((x ≡ y → ⊥) → A) → A
-    equal_or_not x y A same other = by_lt_z x y (λ less. other (λ e. absurd (omega (arith, ints, e, less)))) (λ least. by_lt_z y x (λ more. other (λ e. absurd (omega (arith, ints, e, more)))) (λ most. same (omega (arith, ints))))

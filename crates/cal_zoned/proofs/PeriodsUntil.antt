@@ -1,10 +1,8 @@
 -- Periods between local date-times.
-use Rattle.std.proofs.Common.{◌≡◌, ℕ, ◌+◌, ◌-◌, ◌*◌, ◌<◌, ◌≤◌, sym, ap, subst, ◌∙◌, arith, inl, inr}
-use Rattle.std.specs.Prelude.{ℤ, pos, ◌+ℤ◌, ◌-ℤ◌, ◌*ℤ◌, ◌≤ℤ◌, ◌<ℤ◌}
-use Rattle.std.proofs.lemmas.Bool.{cases_lt}
+use Rattle.std.proofs.Common.{◌≡◌, ℕ, ◌≤◌, subst, arith, inl, inr}
+use Rattle.std.specs.Prelude.{ℤ, pos, ◌+ℤ◌, ◌-ℤ◌, ◌≤ℤ◌}
 use Rattle.std.proofs.lemmas.Int.{ints, by_lt_z}
-use Rattle.cal_time.specs.SignedDuration.{day}
-use Rattle.cal_datetime.specs.DateTime.{date_at, date_time, time_at, with_date}
+use Rattle.cal_datetime.specs.DateTime.{date_at, with_date}
 use Rattle.cal_schedule.specs.Months.{IsMonthsLater}
 use Rattle.cal_schedule.specs.Period.{parts, IsDaysLater, IsNotNegative, IsNotPositive, IsOneSign, Parts, days_of, months_of}
 use Rattle.cal_schedule.specs.Units.{IsUntilBy}

@@ -1,5 +1,5 @@
 -- The first and the last instant of a unit, and moved date-times.
-use Rattle.std.proofs.Common.{◌≡◌, ◌≢◌, ℕ, ◌+◌, sym, ap, subst, arith, inl, inr, ◌∙◌}
+use Rattle.std.proofs.Common.{◌≡◌, ℕ, ◌+◌, sym, ap, subst, arith, inl, inr, ◌∙◌}
 use Rattle.std.specs.Prelude.{ℤ, pos, ◌-ℤ◌, Option, Some, None, Result, IfNone, SomeIff}
 use Rattle.std.proofs.lemmas.Bool.{cases_eq}
 use Rattle.cal_time.specs.Date.{IsDate}

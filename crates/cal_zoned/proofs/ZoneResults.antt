@@ -1,14 +1,13 @@
 -- Results of functions that take a zone apart from a date-time.
 use Rattle.std.proofs.Common.{◌≡◌, ◌∙◌, refl, sym, ap, subst}
-use Rattle.std.specs.Prelude.{Option, Some, None, Result, Ok, Err, SomeIff, IfOk, ℤ, pos, ◌+ℤ◌, ◌*ℤ◌}
-use Rattle.cal_time.specs.SignedDuration.{second}
+use Rattle.std.specs.Prelude.{Option, Some, None, Result, Ok, Err, SomeIff, IfOk, ℤ}
 use Rattle.cal_datetime.specs.DateTime.{IsDateTime}
-use Rattle.cal_datetime.specs.OffsetDateTime.{LocalAndOffset, instant, unix_epoch, unix_seconds}
+use Rattle.cal_datetime.specs.OffsetDateTime.{LocalAndOffset, instant, unix_seconds}
 use Rattle.cal_zone.specs.Timeline.{Timeline, offset_at}
 use Rattle.cal_zone.specs.declared.policy.Policy.{Policy}
 use Rattle.cal_zone.specs.declared.local_time_error.LocalTimeError.{LocalTimeError}
 use Rattle.cal_zoned.specs.Resolved.{IsKept, IsResolved}
-use Rattle.cal_zoned.specs.Unchecked.{in_zone, result_in, start_in}
+use Rattle.cal_zoned.specs.Unchecked.{in_zone, start_in}
 use Rattle.cal_zoned.specs.Zoned.{InZone, at_instant, reading_at, seen, IsSeen}
 
 pub none_seen : (zone : Timeline) (m : LocalAndOffset) (z : ℤ) (r : Option LocalAndOffset) → m ≡ seen zone z → ¬ IsDateTime m.local → r ≡ None

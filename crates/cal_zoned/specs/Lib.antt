@@ -6,3 +6,4 @@ pub mod Unchecked
 pub mod Moves
 pub mod Until
 pub mod Hash
+pub mod Steps

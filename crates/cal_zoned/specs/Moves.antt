@@ -1,14 +1,14 @@
 -- Date-times in a zone on another date, and the first and the last instant of a unit.
-use Rattle.std.specs.Prelude.{◌≡◌, ◌≢◌, ℕ, ◌+◌, pos, ◌-ℤ◌, Option, Some, None, Result, Ok, SomeIff}
+use Rattle.std.specs.Prelude.{◌≡◌, ◌≢◌, ℕ, ◌+◌, pos, ◌-ℤ◌, Option, Some, Result, Ok}
 use Rattle.cal_time.specs.Date.{IsDate}
-use Rattle.cal_datetime.specs.DateTime.{IsDateTime, date_at, date_time, with_date}
+use Rattle.cal_datetime.specs.DateTime.{date_at, date_time, with_date}
 use Rattle.cal_schedule.specs.Units.{IsFirstOf, IsLastOf}
 use Rattle.cal_schedule.specs.declared.unit.CalendarUnit.{CalendarUnit}
 use Rattle.cal_zone.specs.declared.policy.Policy.{Policy}
 use Rattle.cal_zone.specs.declared.local_time_error.LocalTimeError.{LocalTimeError}
 use Rattle.cal_zoned.specs.Day.{IsStart}
 use Rattle.cal_zoned.specs.Resolved.{IsResolved}
-use Rattle.cal_zoned.specs.Zoned.{InZone, at_instant, instant_in, reading_at}
+use Rattle.cal_zoned.specs.Zoned.{InZone, at_instant, instant_in}
 
 -- The result is a date-time in a zone, moved to day n: the clock keeps its time of day, which the
 -- policy resolves. On its own day it is the same date-time.

@@ -1,7 +1,7 @@
 -- A period after a date-time: the months and then the days move the date, and then the exact part
 -- is added. In a zone the clock keeps its reading, which is resolved once, and the exact part moves
 -- the instant.
-use Rattle.std.specs.Prelude.{ℕ, ℤ, pos, ◌≡◌, ◌+ℤ◌, Result, Ok, Err, IfOk}
+use Rattle.std.specs.Prelude.{ℕ, ℤ, pos, ◌≡◌, ◌+ℤ◌, ◌*ℤ◌, Result, Ok, Err, IfOk}
 use Rattle.cal_time.specs.Date.{IsDate}
 use Rattle.cal_datetime.specs.DateTime.{date_at, with_date}
 use Rattle.cal_datetime.specs.OffsetDateTime.{instant}
@@ -13,16 +13,23 @@ use Rattle.cal_zone.specs.declared.local_time_error.LocalTimeError.TheVariants.{
 use Rattle.cal_zoned.specs.Resolved.{IsResolved}
 use Rattle.cal_zoned.specs.Zoned.{InZone, IsSeen}
 
--- The local date-time r is a period after z.
-pub record IsLater (z : ℤ) (p : Parts) (r : ℤ) : Type 0 where
+-- The local date-time r is some months, then some days and then some nanoseconds after z.
+pub record IsLaterBy (z months days nanoseconds r : ℤ) : Type 0 where
   pub day : ℕ
   pub in_range : IsDate day
-  pub moved : IsDaysLater (date_at z) (months_of p) (days_of p) day
-  pub exact : r ≡ with_date z day +ℤ p.exact
+  pub moved : IsDaysLater (date_at z) months days day
+  pub exact : r ≡ with_date z day +ℤ nanoseconds
 
--- A period without years, months, weeks and days.
-abbrev pub IsExact : Parts → Type 0
-IsExact p = (months_of p ≡ pos 0) × (days_of p ≡ pos 0)
+-- It is a period after z, or as many of them as n says.
+abbrev pub IsLater : ℤ → Parts → ℤ → Type 0
+IsLater z p r = IsLaterBy z (months_of p) (days_of p) p.exact r
+
+abbrev pub IsNthLater : ℤ → Parts → ℤ → ℤ → Type 0
+IsNthLater z p n r = IsLaterBy z (n *ℤ months_of p) (n *ℤ days_of p) (n *ℤ p.exact) r
+
+-- No months and no days.
+abbrev pub IsExact : ℤ → ℤ → Type 0
+IsExact months days = (months ≡ pos 0) × (days ≡ pos 0)
 
 -- The result is the date-time that a reading means by the policy, moved by a duration.
 pub record IsMovedThen (p : Policy) (zone : Timeline) (reading exact : ℤ) (r : Result InZone LocalTimeError) : Type 0 where
@@ -31,14 +38,21 @@ pub record IsMovedThen (p : Policy) (zone : Timeline) (reading exact : ℤ) (r :
   pub later : (m : InZone) → middle ≡ Ok m → IsSeen zone (instant m.moment +ℤ exact) r
   pub error : (e : LocalTimeError) → middle ≡ Err e → r ≡ Err e
 
--- The result is a period after a date-time in a zone. A period without a calendar part resolves
--- nothing.
-pub record IsPeriodLater (p : Policy) (m : InZone) (period : Parts) (r : Result InZone LocalTimeError) : Type 0 where
-  pub exact : IsExact period → IsSeen m.zone (instant m.moment +ℤ period.exact) r
+-- The result is some months, then some days and then some nanoseconds after a date-time in a zone.
+-- Without months and days nothing is resolved.
+pub record IsMovedBy (p : Policy) (m : InZone) (months days nanoseconds : ℤ) (r : Result InZone LocalTimeError) : Type 0 where
+  pub exact : IsExact months days → IsSeen m.zone (instant m.moment +ℤ nanoseconds) r
   pub moved :
-      ¬ IsExact period → (n : ℕ) → IsDate n → IsDaysLater (date_at m.moment.local) (months_of period) (days_of period) n
-      → IsMovedThen p m.zone (with_date m.moment.local n) period.exact r
+      ¬ IsExact months days → (n : ℕ) → IsDate n → IsDaysLater (date_at m.moment.local) months days n
+      → IsMovedThen p m.zone (with_date m.moment.local n) nanoseconds r
   pub none :
-      ¬ IsExact period → ((n : ℕ) → IsDate n → ¬ IsDaysLater (date_at m.moment.local) (months_of period) (days_of period) n)
+      ¬ IsExact months days → ((n : ℕ) → IsDate n → ¬ IsDaysLater (date_at m.moment.local) months days n)
       → r ≡ Err OutOfRange
-  pub is : ¬ IsExact period → IfOk r (λ _. (n : ℕ) × IsDate n × IsDaysLater (date_at m.moment.local) (months_of period) (days_of period) n)
+  pub is : ¬ IsExact months days → IfOk r (λ _. (n : ℕ) × IsDate n × IsDaysLater (date_at m.moment.local) months days n)
+
+-- It is a period after the date-time, or as many of them as n says.
+abbrev pub IsPeriodLater : Policy → InZone → Parts → Result InZone LocalTimeError → Type 0
+IsPeriodLater p m period r = IsMovedBy p m (months_of period) (days_of period) period.exact r
+
+abbrev pub IsNthPeriodLater : Policy → InZone → Parts → ℤ → Result InZone LocalTimeError → Type 0
+IsNthPeriodLater p m period n r = IsMovedBy p m (n *ℤ months_of period) (n *ℤ days_of period) (n *ℤ period.exact) r

@@ -1,21 +1,22 @@
 //! Laws: each definition leaves one result.
-ghost use Rattle.std.specs.Prelude.{◌≡◌, ℕ, ℤ, Option, Some, Result};
+ghost use Rattle.std.specs.Prelude.{◌≡◌, ℕ, ℤ, Option, Some, Result, Ok, IfSome};
 ghost use Rattle.cal_schedule.specs.declared.unit.CalendarUnit.{CalendarUnit};
 ghost use Rattle.cal_zone.specs.declared.local_time_error.LocalTimeError.{LocalTimeError};
 ghost use Rattle.cal_zone.specs.declared.policy.Policy.{Policy};
 ghost use Rattle.cal_zoned.specs.Day.{IsStart};
 ghost use Rattle.cal_zoned.specs.Moves.{IsMovedTo, IsNextStart, IsStartOf};
-ghost use Rattle.cal_zoned.specs.Period.{IsPeriodLater};
-ghost use Rattle.cal_zoned.specs.Until.{IsPeriodUntil};
+ghost use Rattle.cal_zoned.specs.Period.{IsNthPeriodLater, IsPeriodLater};
+ghost use Rattle.cal_zoned.specs.Steps.{IsLastStep};
+ghost use Rattle.cal_zoned.specs.Until.{IsPeriodUntil, IsUntilInZone};
 ghost use Rattle.cal_schedule.specs.Period.{Parts};
 ghost use Rattle.cal_zoned.specs.Resolved.{IsKept, IsResolved};
-ghost use Rattle.cal_zoned.specs.Zoned.{InZone};
+ghost use Rattle.cal_zoned.specs.Zoned.{at_instant, instant_in, InZone};
 
 use crate::{ZonedDateTime, checked_add_period, period_until};
 use cal_datetime::PlainDateTime;
-use cal_schedule::{CalendarUnit, Period, date_after};
-use cal_zone::Zone;
+use cal_schedule::{CalendarUnit, Period, date_after, nth_date};
 use cal_zone::laws::one_local;
+use cal_zone::{LocalTimeError, Policy, Zone};
 
 /// Proves that a local date-time means one result by a policy.
 pub fn one_resolved(zone: &Zone<'_>)
@@ -93,4 +94,46 @@ pub fn until_adds(
     // It states that the date-time is in range.
     let _ = to.date();
     checked_add_period(from, period_until(from, to, unit))
+}
+
+/// Proves that a period, `n` times, leads to one result.
+pub fn one_nth_period_later(moment: &ZonedDateTime<'_>, period: Period, n: i32)
+    ensures { (p : Policy) (a b : Result InZone LocalTimeError)
+        → IsNthPeriodLater p moment.now period n a → IsNthPeriodLater p moment.now period n b
+        → a ≡ b }
+{
+    one_local(moment.zone());
+    let _ = nth_date(moment.date(), period, n);
+}
+
+/// Proves that a local date-time is in one step.
+pub fn one_last_step(start: PlainDateTime, period: Period, reading: PlainDateTime)
+    ensures { (m n : ℤ) → IsLastStep start reading period m → IsLastStep start reading period n
+        → m ≡ n }
+{
+    let _ = (start, period, reading);
+}
+
+/// Proves that the period between two date-times in a zone is the only one that its definition
+/// allows.
+pub fn one_until_in_zone(from: &ZonedDateTime<'_>)
+    ensures { (p : Policy) (unit : CalendarUnit) (t : InZone) (x y : Parts)
+        → IsUntilInZone p unit from.now t x → IsUntilInZone p unit from.now t y → x ≡ y }
+{
+    one_local(from.zone());
+}
+
+/// Adds the period until another date-time by the same policy, which gives its instant.
+pub fn until_adds_in_zone<'z>(
+    from: &ZonedDateTime<'z>,
+    to: &ZonedDateTime<'_>,
+    unit: CalendarUnit,
+    policy: Policy,
+) -> Option<Result<ZonedDateTime<'z>, LocalTimeError>>
+    ensures { IfSome result (λ there.
+        there ≡ Ok (at_instant from.now.zone (instant_in to.now))) }
+{
+    one_local(from.zone());
+    let period = from.period_until(to, unit, policy)?;
+    Some(from.checked_add_period(period, policy))
 }

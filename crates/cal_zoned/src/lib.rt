@@ -6,11 +6,13 @@
 mod day;
 pub mod laws;
 mod period;
+mod steps;
 pub mod unchecked;
 mod until;
 mod zoned_date_time;
 
 pub use day::start_of_day;
-pub use period::checked_add_period;
+pub use period::{checked_add_period, nth_period};
+pub use steps::{Steps, step_of};
 pub use until::period_until;
 pub use zoned_date_time::ZonedDateTime;

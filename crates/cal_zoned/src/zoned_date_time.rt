@@ -1,23 +1,25 @@
 //! Date-times in a zone.
-ghost use Rattle.std.specs.Prelude.{◌≡◌, pos, ◌+ℤ◌, ◌-ℤ◌, ◌*ℤ◌, ◌≤ℤ◌, ◌<ℤ◌, Some, SomeIff};
-ghost use Rattle.cal_time.specs.SignedDuration.{second};
+ghost use Rattle.std.specs.Prelude.{◌≡◌, ◌+ℤ◌, IfOk, SomeIff};
 ghost use Rattle.cal_datetime.specs.DateTime.{IsDateTime, date_at, time_at};
-ghost use Rattle.cal_datetime.specs.OffsetDateTime.{instant, local_at, unix_epoch, unix_nanoseconds, unix_seconds, IsInstant};
+ghost use Rattle.cal_datetime.specs.OffsetDateTime.{instant, unix_epoch, unix_nanoseconds, unix_seconds, IsInstant};
+ghost use Rattle.cal_zone.specs.Local.{Shows};
 ghost use Rattle.cal_zone.specs.Timeline.{offset_at};
-ghost use Rattle.cal_zoned.specs.Zoned.{at_instant, instant_in, reading_at, InZone, IsSeen};
-ghost use Rattle.cal_zoned.specs.Resolved.{IsKept, IsResolved};
+ghost use Rattle.cal_zoned.specs.Zoned.{at_instant, instant_in, reading_at};
+ghost use Rattle.cal_zoned.specs.Resolved.{IsResolved};
+ghost use Rattle.cal_zoned.specs.Unchecked.{result_in};
 
+use crate::unchecked::{resolved, seen_at};
 use cal_datetime::{OffsetDateTime, PlainDateTime};
-use cal_time::{Date, SignedDuration, Time, UtcOffset};
-use cal_zone::laws::in_order;
-use cal_zone::{Local, LocalTimeError, Policy, Zone};
+use cal_time::{Date, Time, UtcOffset};
+use cal_zone::{LocalTimeError, Policy, Zone};
 use std::marker::Model;
 
 mod arithmetic;
 mod days;
-pub(crate) mod moves;
+mod moves;
 mod order;
 mod units;
+mod until;
 
 /// An instant in a time zone, with the date and the time of day that the clocks of the zone show
 /// then.
@@ -49,18 +51,8 @@ impl<'z> ZonedDateTime<'z> {
         ensures { let z = unix_epoch +ℤ nanoseconds
             in SomeIff result (IsDateTime (reading_at zone.now z)) (at_instant zone.now z) }
     {
-        // It states that the changes are in order.
-        in_order(zone);
-        let past = nanoseconds.rem_euclid(1_000_000_000) as i32;
-        let Ok(seconds) = i64::try_from(nanoseconds.div_euclid(1_000_000_000)) else {
-            return None;
-        };
-        let offset = zone.utc_offset_at(seconds);
-        let local = local_date_time(seconds, past, offset)?;
-        Some(ZonedDateTime {
-            zone,
-            moment: local.assume_offset(offset),
-        })
+        let moment = seen_at(nanoseconds, zone.as_unchecked())?;
+        Some(ZonedDateTime { zone, moment })
     }
 
     /// Creates a date-time in a zone from a date-time at an offset, at the same instant. Returns
@@ -89,25 +81,7 @@ impl<'z> ZonedDateTime<'z> {
     ) -> Result<Self, LocalTimeError>
         ensures { IsResolved policy zone.now reading result }
     {
-        match zone.resolve(reading) {
-            Local::Single(moment) => Ok(ZonedDateTime { zone, moment }),
-            Local::Gap(gap) => match policy {
-                Policy::Compatible | Policy::Later => at(reading, gap.offset_before(), zone),
-                Policy::Earlier => at(reading, gap.offset_after(), zone),
-                Policy::Reject => Err(LocalTimeError::Skipped),
-            },
-            Local::Fold { earlier, later } => match policy {
-                Policy::Compatible | Policy::Earlier => Ok(ZonedDateTime {
-                    zone,
-                    moment: earlier,
-                }),
-                Policy::Later => Ok(ZonedDateTime {
-                    zone,
-                    moment: later,
-                }),
-                Policy::Reject => Err(LocalTimeError::Repeated),
-            },
-        }
+        shown_in(zone, resolved(reading, zone.as_unchecked(), policy))
     }
 
     /// Returns what the clocks show.
@@ -175,30 +149,16 @@ impl<'z> ZonedDateTime<'z> {
     }
 }
 
-/// Returns the local date-time some seconds and nanoseconds after 1970-01-01 0:00 UTC at an offset,
-/// or `None` if it is out of range.
-pub(crate) fn local_date_time(seconds: i64, past: i32, offset: UtcOffset) -> Option<PlainDateTime>
-    requires { (pos 0 ≤ℤ past) × (past <ℤ pos second) }
-    ensures { let local = unix_epoch +ℤ (seconds +ℤ offset) *ℤ pos second +ℤ past
-        in SomeIff result (IsDateTime local) local }
-{
-    let seconds = seconds.checked_add(i64::from(offset.whole_seconds()))?;
-    OffsetDateTime::unix_epoch()
-        .local()
-        .checked_add(SignedDuration::new(seconds, past))
-}
-
-/// Returns the date-time in a zone of a reading at an offset.
-fn at<'z>(
-    reading: PlainDateTime,
-    offset: UtcOffset,
+/// Returns a date-time that the clocks of a zone show as one in the zone.
+pub(crate) fn shown_in<'z>(
     zone: &'z Zone<'z>,
+    found: Result<OffsetDateTime, LocalTimeError>,
 ) -> Result<ZonedDateTime<'z>, LocalTimeError>
-    ensures { IsSeen zone.now (reading -ℤ offset *ℤ pos second) result }
+    requires { IfOk found (λ m. Shows zone.now m.local m) }
+    ensures { result ≡ result_in zone.now found }
 {
-    let nanoseconds = reading.assume_offset(offset).unix_timestamp_nanos();
-    match ZonedDateTime::from_unix_timestamp_nanos(nanoseconds, zone) {
-        Some(moment) => Ok(moment),
-        None => Err(LocalTimeError::OutOfRange),
+    match found {
+        Ok(moment) => Ok(ZonedDateTime { zone, moment }),
+        Err(error) => Err(error),
     }
 }

@@ -3,7 +3,7 @@ ghost use Rattle.std.specs.Prelude.{◌≡◌, IfNone, IfSome};
 ghost use Rattle.cal_datetime.specs.DateTime.{date_at, date_time};
 ghost use Rattle.cal_zoned.specs.Day.{HasDayLength, IsDayLength, IsStart};
 
-use crate::{ZonedDateTime, start_of_day};
+use crate::{ZonedDateTime, start_of_day, unchecked};
 use cal_time::SignedDuration;
 
 impl<'z> ZonedDateTime<'z> {
@@ -23,10 +23,6 @@ impl<'z> ZonedDateTime<'z> {
         ensures value { IfSome result (IsDayLength self.now.zone (date_at self.now.moment.local)) }
         ensures none { IfNone result (¬ (HasDayLength self.now.zone (date_at self.now.moment.local))) }
     {
-        let date = self.date();
-        let next = date.next_day()?;
-        let start = start_of_day(date, self.zone)?;
-        let end = start_of_day(next, self.zone)?;
-        Some(end.duration_since(&start))
+        unchecked::day_length(self.date(), self.zone.as_unchecked())
     }
 }

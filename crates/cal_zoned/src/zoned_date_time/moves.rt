@@ -1,19 +1,15 @@
 //! Date-times in a zone with another date, another time or a period later.
-ghost use Rattle.std.specs.Prelude.{◌≡◌, ◌↔◌, ℕ, pos, ◌+ℤ◌, Err, IfOk, IsTrue};
-ghost use Rattle.cal_time.specs.Date.{IsDate};
-ghost use Rattle.cal_datetime.specs.DateTime.{date_at, with_date, with_time};
-ghost use Rattle.cal_schedule.specs.Period.{days_of, months_of, IsDaysLater};
-ghost use Rattle.cal_zone.specs.Local.{Shows};
-ghost use Rattle.cal_zone.specs.declared.local_time_error.LocalTimeError.TheVariants.{OutOfRange};
+ghost use Rattle.cal_datetime.specs.DateTime.{with_date, with_time};
 ghost use Rattle.cal_zoned.specs.Moves.{IsMovedTo};
-ghost use Rattle.cal_zoned.specs.Period.{IsExact, IsMovedThen, IsPeriodLater};
-ghost use Rattle.cal_zoned.specs.Resolved.{IsKept, IsResolved};
-ghost use Rattle.cal_zoned.specs.Zoned.{instant_in, IsSeen};
+ghost use Rattle.cal_zoned.specs.Period.{IsNthPeriodLater, IsPeriodLater};
+ghost use Rattle.cal_zoned.specs.Resolved.{IsKept};
 
 use crate::ZonedDateTime;
+use crate::unchecked::{kept, moved_to, nth_later, period_later};
+use crate::zoned_date_time::shown_in;
 use cal_datetime::PlainDateTime;
-use cal_schedule::{Period, date_after};
-use cal_time::{Date, SignedDuration, Time};
+use cal_schedule::Period;
+use cal_time::{Date, Time};
 use cal_zone::{LocalTimeError, Policy};
 
 impl<'z> ZonedDateTime<'z> {
@@ -26,16 +22,8 @@ impl<'z> ZonedDateTime<'z> {
     pub fn with_local(&self, reading: PlainDateTime, policy: Policy) -> Result<Self, LocalTimeError>
         ensures { IsKept policy self.now reading result }
     {
-        let moment = reading.assume_offset(self.offset());
-        let offset = self.zone.utc_offset_at(moment.unix_timestamp());
-        if offset == self.offset() {
-            Ok(ZonedDateTime {
-                zone: self.zone,
-                moment,
-            })
-        } else {
-            Self::from_local(reading, self.zone, policy)
-        }
+        let zone = self.zone.as_unchecked();
+        shown_in(self.zone, kept(self.moment, reading, zone, policy))
     }
 
     /// Replaces the time of day that the clocks show, as [`ZonedDateTime::with_local`] does. In
@@ -74,13 +62,8 @@ impl<'z> ZonedDateTime<'z> {
     pub fn moved_to(&self, date: Date, policy: Policy) -> Result<Self, LocalTimeError>
         ensures { IsMovedTo policy self.now date result }
     {
-        if self.date() == date {
-            return Ok(ZonedDateTime {
-                zone: self.zone,
-                moment: self.moment,
-            });
-        }
-        Self::from_local(self.local().replace_date(date), self.zone, policy)
+        let zone = self.zone.as_unchecked();
+        shown_in(self.zone, moved_to(self.moment, date, zone, policy))
     }
 
     /// Adds a period. The years and the months move the date that the clocks show, then the weeks
@@ -98,62 +81,23 @@ impl<'z> ZonedDateTime<'z> {
     pub fn checked_add_period(&self, period: Period, policy: Policy) -> Result<Self, LocalTimeError>
         ensures { IsPeriodLater policy self.now period result }
     {
-        if is_exact(period) {
-            self.later(period.duration())
-        } else {
-            self.clock_after(period, policy)
-        }
+        let zone = self.zone.as_unchecked();
+        shown_in(self.zone, period_later(self.moment, period, zone, policy))
     }
 
-    /// Adds a duration to the instant.
-    fn later(&self, duration: SignedDuration) -> Result<Self, LocalTimeError>
-        ensures { IsSeen self.now.zone (instant_in self.now +ℤ duration) result }
+    /// Adds a period `n` times at once, as [`ZonedDateTime::checked_add_period`] adds it once: `n`
+    /// times its years and months, then `n` times its weeks and days, and then `n` times its
+    /// duration. Count each step from the start, so that none drifts: in Berlin the steps 1 to 3 of
+    /// a month from 2024-01-31 2:30 are 29 February 2:30, 31 March 3:30 by [`Policy::Compatible`],
+    /// and 30 April 2:30.
+    ///
+    /// # Errors
+    ///
+    /// Returns the errors of [`ZonedDateTime::checked_add_period`].
+    pub fn nth_period(&self, period: Period, n: i32, policy: Policy) -> Result<Self, LocalTimeError>
+        ensures { IsNthPeriodLater policy self.now period n result }
     {
-        match self.checked_add(duration) {
-            Some(moment) => Ok(moment),
-            None => Err(LocalTimeError::OutOfRange),
-        }
+        let zone = self.zone.as_unchecked();
+        shown_in(self.zone, nth_later(self.moment, period, n, zone, policy))
     }
-
-    /// Resolves a local date-time in the zone, and then adds a duration.
-    fn at_then(
-        &self,
-        reading: PlainDateTime,
-        duration: SignedDuration,
-        policy: Policy,
-    ) -> Result<Self, LocalTimeError>
-        ensures { IsMovedThen policy self.now.zone reading duration result }
-    {
-        match Self::from_local(reading, self.zone, policy) {
-            Ok(moment) => moment.later(duration),
-            Err(error) => Err(error),
-        }
-    }
-
-    /// Adds a period with years, months, weeks or days.
-    fn clock_after(&self, period: Period, policy: Policy) -> Result<Self, LocalTimeError>
-        ensures moved { (n : ℕ) → IsDate n
-            → IsDaysLater (date_at self.now.moment.local) (months_of period) (days_of period) n
-            → IsMovedThen policy self.now.zone (with_date self.now.moment.local n) period.exact
-            result }
-        ensures none { ((n : ℕ) → IsDate n
-            → ¬ IsDaysLater (date_at self.now.moment.local) (months_of period) (days_of period) n)
-            → result ≡ Err OutOfRange }
-        ensures is { IfOk result (λ _. (n : ℕ) × IsDate n
-            × IsDaysLater (date_at self.now.moment.local) (months_of period) (days_of period) n) }
-    {
-        match date_after(self.date(), period) {
-            Some(date) => {
-                self.at_then(self.local().replace_date(date), period.duration(), policy)
-            }
-            None => Err(LocalTimeError::OutOfRange),
-        }
-    }
-}
-
-/// Returns `true` if a period has no years, months, weeks and days.
-pub(crate) fn is_exact(period: Period) -> bool
-    ensures { IsTrue result ↔ IsExact period }
-{
-    period.whole_months() == 0 && period.whole_days() == 0
 }

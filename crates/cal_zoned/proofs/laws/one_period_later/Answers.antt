@@ -5,7 +5,7 @@ use Rattle.cal_schedule.specs.Period.{days_of, months_of, IsDaysLater}
 use Rattle.cal_zone.specs.Local.{IsLocalOf}
 use Rattle.cal_zone.specs.Timeline.{Timeline}
 use Rattle.cal_zone.specs.declared.local.Local.{Local}
-use Rattle.cal_zoned.proofs.OneResult.{period_later-one}
+use Rattle.cal_zoned.proofs.OneResult.{moved_by-one}
 use Rattle.cal_zoned.proofs.laws.one_period_later.Goals as goal
 
 pub returns : goal.returns
@@ -14,4 +14,4 @@ returns c = λ p a b h k.
     let found = c.date_after.result in
     let every = subst (λ (d : ℕ). (n : ℕ) → IsDate n → IsDaysLater d (months_of c.args.period) (days_of c.args.period) n → found ≡ Some n) c.date.ensures c.date_after.ensures.every in
     let value = subst (λ (d : ℕ). IfSome found (λ (n : ℕ). IsDate n × IsDaysLater d (months_of c.args.period) (days_of c.args.period) n)) c.date.ensures c.date_after.ensures.value in
-    period_later-one p c.args.moment.now c.args.period a b one found every value h k
+    moved_by-one p c.args.moment.now (months_of c.args.period) (days_of c.args.period) c.args.period.exact a b one found every value h k

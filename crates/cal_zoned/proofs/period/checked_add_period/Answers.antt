@@ -20,4 +20,4 @@ returns-clause-every c r h later =
 pub returns-clause-value : goal.returns-clause-value
 returns-clause-value c =
     let found = subst (λ (k : ℕ). IsDaysLater k (months_of c.args.period) (days_of c.args.period) c.in_ok-date.date) c.date.ensures.value c.in_ok-date.ensures.value.1 in
-    is_later c.args.start c.args.period c.in_ok-date.date c.replace_date.result c.duration.result c.checked_add.result c.in_ok-date.ensures.value.0 found c.replace_date.ensures.value c.duration.ensures c.checked_add.ensures.value
+    is_later c.args.start _ _ _ c.in_ok-date.date c.replace_date.result c.duration.result c.checked_add.result c.in_ok-date.ensures.value.0 found c.replace_date.ensures.value c.duration.ensures c.checked_add.ensures.value

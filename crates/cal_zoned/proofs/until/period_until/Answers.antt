@@ -1,8 +1,6 @@
-use Rattle.std.proofs.Common.{◌≡◌, ◌∙◌, ap, sym, subst, ℕ, ◌-ℤ◌, pos}
+use Rattle.std.proofs.Common.{◌≡◌, ◌∙◌, ap, sym, subst, ℕ, ◌-ℤ◌}
 use Rattle.cal_datetime.specs.DateTime.{date_at, with_date}
-use Rattle.cal_schedule.specs.Period.{days_of, months_of, Parts}
 use Rattle.cal_schedule.specs.Units.{IsUntilBy}
-use Rattle.cal_zoned.specs.Period.{IsLater}
 use Rattle.cal_zoned.specs.Until.{IsPeriodUntil}
 use Rattle.cal_zoned.proofs.PeriodsUntil.{is_rest, no_clock_part, rest_sign}
 use Rattle.cal_zoned.proofs.until.period_until.Goals as goal

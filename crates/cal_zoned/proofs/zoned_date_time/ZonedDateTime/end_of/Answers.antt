@@ -1,4 +1,4 @@
-use Rattle.std.proofs.Common.{◌+◌, ◌∙◌, ap, sym, arith, ℕ}
+use Rattle.std.proofs.Common.{◌+◌, ◌∙◌, ap, arith, ℕ}
 use Rattle.cal_zoned.specs.Zoned.{InZone}
 use Rattle.cal_zoned.proofs.Firsts.{no_start}
 use Rattle.cal_zoned.proofs.UnitEnds.{next_day, next_start, no_end, none_before}

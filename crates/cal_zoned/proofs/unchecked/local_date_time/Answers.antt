@@ -4,7 +4,7 @@ use Rattle.cal_time.specs.SignedDuration.{second}
 use Rattle.cal_datetime.specs.DateTime.{IsDateTime}
 use Rattle.cal_datetime.specs.OffsetDateTime.{LocalAndOffset, unix_epoch}
 use Rattle.cal_zoned.proofs.Instants.{sum_of}
-use Rattle.cal_zoned.proofs.zoned_date_time.local_date_time.Goals as goal
+use Rattle.cal_zoned.proofs.unchecked.local_date_time.Goals as goal
 
 pub returns : goal.returns
 returns c =
