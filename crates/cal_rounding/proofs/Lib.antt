@@ -1,3 +1,4 @@
 pub mod Multiples
+pub mod OneInZone
 pub mod OneResult
 pub mod Starts

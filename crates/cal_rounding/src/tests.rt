@@ -1,11 +1,15 @@
 //! Rows of the documentation of Java's `RoundingMode` and of Temporal.
 
+use crate::unchecked::round_in_zone;
 use crate::{
-    RoundingMode, RoundingUnit, round_date_time, round_duration, round_offset_date_time, round_time,
+    RoundingMode, RoundingUnit, round_date_time, round_duration, round_offset_date_time,
+    round_time, round_zoned,
 };
 use cal_datetime::laws::max_date_time;
-use cal_datetime::{PlainDateTime, with_hms};
-use cal_time::{Date, Month, SignedDuration, Time, UtcOffset};
+use cal_datetime::{OffsetDateTime, PlainDateTime, with_hms};
+use cal_time::{Date, Month, SignedDuration, Time, UtcOffset, Weekday};
+use cal_zone::{LocalType, Rule, Table, Yearly, Zone};
+use cal_zoned::ZonedDateTime;
 use std::fmt::Debug;
 use std::process::Abort;
 
@@ -159,4 +163,78 @@ fn date_times(rt: HostRuntime) {
         round_date_time(max_date_time(), RoundingUnit::HOUR, RoundingMode::Ceil),
         None,
     );
+}
+
+/// Returns the rule of a change at 1:00 UTC on the last Sunday of a month, in Berlin.
+fn last_sunday(month: Month, before: i32, after: i32) -> Yearly {
+    Yearly {
+        month,
+        week: 5,
+        weekday: Weekday::Sunday,
+        time: 3_600 + before.clamp(-93_599, 93_599),
+        kind: LocalType {
+            offset: after,
+            is_daylight: after > before,
+            name_start: 0,
+            name_end: 0,
+        },
+    }
+}
+
+fn berlin(rt: &impl Abort) -> Zone<'static> {
+    let spring = last_sunday(Month::March, 3_600, 7_200);
+    let autumn = last_sunday(Month::October, 7_200, 3_600);
+    let rule = Rule::new(spring, autumn).expect(rt, "no rule");
+    match Zone::new(rule.before(), Table::empty(b""), Some(rule)) {
+        Ok(zone) => zone,
+        Err(_) => panic!(rt; "no zone"),
+    }
+}
+
+/// Returns the date-time on this day of March 2024, at an offset of whole hours.
+fn in_march(rt: &impl Abort, day: u8, hour: u8, minute: u8, offset: i8) -> OffsetDateTime {
+    let date = Date::from_calendar_date(2024, Month::March, day).expect(rt, "no date");
+    let local = with_hms(date, hour, minute, 0).expect(rt, "no time");
+    local.assume_offset(UtcOffset::from_hms(offset, 0, 0).expect(rt, "no offset"))
+}
+
+#[test]
+fn in_a_zone(rt: HostRuntime) {
+    // On 31 March clocks go from 2:00 to 3:00, so the middle of the day is at 12:30.
+    let berlin = berlin(&rt);
+    for &(at, minutes, mode, wanted) in &[
+        ((31, 1, 50, 1), 60, RoundingMode::HalfCeil, (31, 3, 0, 2)),
+        ((31, 3, 20, 2), 60, RoundingMode::Floor, (31, 3, 0, 2)),
+        (
+            (31, 12, 29, 2),
+            1_440,
+            RoundingMode::HalfCeil,
+            (31, 0, 0, 1),
+        ),
+        ((30, 12, 0, 1), 1_440, RoundingMode::HalfCeil, (31, 0, 0, 1)),
+        ((30, 12, 0, 1), 1_440, RoundingMode::HalfEven, (30, 0, 0, 1)),
+    ] {
+        let moment = in_march(&rt, at.0, at.1, at.2, at.3);
+        let wanted = in_march(&rt, wanted.0, wanted.1, wanted.2, wanted.3);
+        let value = ZonedDateTime::from_offset_date_time(moment, &berlin).expect(&rt, "no value");
+        let unit = unit(&rt, minutes);
+        let Ok(found) = round_zoned(&value, unit, mode) else {
+            panic!(&rt; "out of range")
+        };
+        let found = found.to_offset_date_time();
+        same(
+            &rt,
+            (found.local(), found.offset()),
+            (wanted.local(), wanted.offset()),
+        );
+        let zone = berlin.as_unchecked();
+        let Ok(found) = round_in_zone(moment, unit, mode, zone) else {
+            panic!(&rt; "out of range")
+        };
+        same(
+            &rt,
+            (found.local(), found.offset()),
+            (wanted.local(), wanted.offset()),
+        );
+    }
 }

@@ -27,7 +27,10 @@ pub fn show(rt: &impl Print) -> io::Result<()> {
     let Ok(time) = Time::from_hms(9, 40, 0) else {
         return Ok(());
     };
-    match (quarter_hour(time), begun_hours(SignedDuration::minutes(100))) {
+    match (
+        quarter_hour(time),
+        begun_hours(SignedDuration::minutes(100)),
+    ) {
         (Some(quarter), Some(hours)) => println!(rt; "{quarter} {hours}"),
         _ => Ok(()),
     }
