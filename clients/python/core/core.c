@@ -65,7 +65,8 @@ typedef struct State {
     PyTypeObject *other_date, *other_time, *other_date_time, *timedelta, *tzinfo;
     PyObject *timezone;
     PyObject *has_layouts; /* True if datetime has the layouts of standard.c */
-    PyObject *weekday, *calendar_unit, *convention, *day_count, *year_fraction, *status_error, *component_range;
+    PyObject *weekday, *calendar_unit, *convention, *day_count, *year_fraction;
+    PyObject *status_error, *component_range;
     PyObject *months[12], *weekdays[7];
 } State;
 
@@ -244,7 +245,8 @@ static int to_text(const State *Py_UNUSED(state), PyObject *object, Text *text)
 static PyObject *raise_position(const State *state, int32_t status, size_t position, uint32_t part)
 {
     int is_conditional = fots_status_is_conditional(status);
-    if (is_conditional || (status >= FOTS_YEAR_OUT_OF_RANGE && status <= FOTS_TIMESTAMP_OUT_OF_RANGE)) {
+    if (is_conditional ||
+        (status >= FOTS_YEAR_OUT_OF_RANGE && status <= FOTS_TIMESTAMP_OUT_OF_RANGE)) {
         PyObject *given = Py_BuildValue("sO", fots_status_name(status),
             is_conditional ? Py_True : Py_False);
         PyErr_SetObject(state->component_range, given);

@@ -37,25 +37,27 @@ class IsoCalendarDate(structseq[int], Tuple[int, int, int]):
     @property
     def weekday(self) -> int: "The weekday from 1 (Monday) to 7."
 
-class _Value:
+class _Text:
+    def __str__(self) -> str: ...
+    def isoformat(self) -> str: "Returns the text, like str."
+    def __copy__(self) -> Self: ...
+    def __deepcopy__(self, memo: Any) -> Self: ...
+
+    def __format__(self, specification: str) -> str:
+        "Formats by a format, which has a percent sign, or else the text of the value."
+        if "%" in specification and hasattr(self, "strftime"):
+            return self.strftime(specification)
+        return format(str(self), specification)
+
+class _Value(_Text):
     def __lt__(self, other: Self) -> bool: ...
     def __le__(self, other: Self) -> bool: ...
     def __gt__(self, other: Self) -> bool: ...
     def __ge__(self, other: Self) -> bool: ...
     def __hash__(self) -> int: ...
-    def __str__(self) -> str: ...
     def __repr__(self) -> str: ...
-    def isoformat(self) -> str: "Returns the text, like str."
-    def __copy__(self) -> Self: ...
-    def __deepcopy__(self, memo: Any) -> Self: ...
     def __reduce__(self) -> tuple[Any, ...]: ...
     def __reduce_ex__(self, protocol: Any) -> tuple[Any, ...]: ...
-
-    def __format__(self, specification: str) -> str:
-        "Formats by a format, which has a percent sign, or else the text of the value."
-        if "%" in specification and not isinstance(self, SignedDuration):
-            return self.strftime(specification)
-        return format(str(self), specification)
 
 class _Moved:
     def checked_add(self, duration: SignedDuration) -> Self | None:
@@ -527,7 +529,7 @@ class Period:
     @property
     def duration(self) -> SignedDuration: "The exact duration."
     def __str__(self) -> str:
-        return f"Period({', '.join(f'{name}={part!r}' for name, part in parts_of(self).items())})"
+        return repr(self)
     def __repr__(self) -> str:
         return f"Period({', '.join(f'{name}={part!r}' for name, part in parts_of(self).items())})"
     def __reduce__(self) -> tuple[Any, ...]:

@@ -127,25 +127,11 @@ class Months(unittest.TestCase):
         for call in (lambda: DateRange(march.start, 1), lambda: march.share(1), lambda: march.overlaps(march.start), lambda: datetime.date(2024, 3, 1) in march):
             self.assertRaises(TypeError, call)
 
-    def test_steps(self):
-        start, month = day(2024, 1, 31), Period(months=1)
-        for date, step in ((start, 0), (day(2024, 2, 28), 0), (day(2024, 2, 29), 1), (day(2024, 3, 30), 1), (day(2024, 3, 31), 2), (day(2024, 1, 30), None)):
-            self.assertEqual(start.step_of(month, date), step)
-        for period in (Period(), Period(days=-1), Period(days=1, duration=SignedDuration.HOUR)):
-            self.assertIsNone(start.step_of(period, start))
-        self.assertRaises(TypeError, start.step_of, 1, start)
-        draw = random.Random(3)
-        for _ in range(300):
-            period = Period(years=draw.randrange(2), months=draw.randrange(3), weeks=draw.randrange(2), days=draw.randrange(1, 9))
-            date = start + Period(days=draw.randrange(2000))
-            step = start.step_of(period, date)
-            self.assertTrue(start.nth_period(period, step) <= date < start.nth_period(period, step + 1), (period, date))
-
     def test_periods_are_values(self):
         named = {"years": 1, "months": 12, "weeks": 7, "days": 30, "duration": SignedDuration(hours=2, nanoseconds=1)}
         period = Period(**named)
         self.assertEqual({name: getattr(period, name) for name in named}, named)
-        self.assertEqual((str(period), repr(Period()), repr(Period(days=-1))), (
+        self.assertEqual((repr(period), repr(Period()), repr(Period(days=-1))), (
             "Period(years=1, months=12, weeks=7, days=30, duration=SignedDuration(hours=2, nanoseconds=1))", "Period()", "Period(days=-1)"))
         for same in (Period(**named), copy.copy(period), copy.deepcopy(period), *(pickle.loads(pickle.dumps(period, protocol)) for protocol in range(6))):
             self.assertEqual((same, hash(same)), (period, hash(period)))

@@ -683,7 +683,7 @@ class Durations(Cases):
             (SignedDuration.milliseconds(-93784005), "-1d2h3m4s5ms"), (SignedDuration.hours(26), "1d2h"),
         ]
         for duration, text in rows:
-            self.assertEqual(str(duration), text)
+            self.assertEqual((str(duration), duration.isoformat(), f"{duration:>40}"), (text, text, text.rjust(40)))
         self.assertEqual([repr(duration) for duration in (SignedDuration.ZERO, SignedDuration.hours(26), SignedDuration.milliseconds(-3605000))],
             ["SignedDuration()", "SignedDuration(days=1, hours=2)", "SignedDuration(hours=-1, seconds=-5)"])
 
@@ -1008,13 +1008,13 @@ class Columns(Cases):
 
 class Statuses(Cases):
     def test_each_has_a_message(self):
-        messages = {number: str(fotsevindre.status_error(number)) for number in range(1, 74)}
-        self.assertEqual([number for number, text in messages.items() if text != f"unknown status {number}"], [*range(1, 73)])
+        messages = {number: str(fotsevindre.status_error(number)) for number in range(1, 100)}
+        self.assertEqual([number for number, text in messages.items() if text != f"unknown status {number}"], [*range(1, len(fotsevindre.messages.NAMES))])
         self.assertEqual(messages[14], "holidays must be in ascending order, without duplicates")
         header = (pathlib.Path(__file__).resolve().parents[3] / "include/fotsevindre.h").read_text(encoding="utf-8")
         names = dict(re.findall(r"    FOTS_(\w+) = (\d+)", header.split("enum fots_status {")[1].split("};")[0]))
         texts = [messages[int(number)] for name, number in names.items() if number != "0"]
-        self.assertEqual((len(texts), len(set(texts))), (72, 72))
+        self.assertEqual((len(texts), len(set(texts))), (len(fotsevindre.messages.NAMES) - 1,) * 2)
         self.assertTrue(all(len(text.split()) >= 4 for text in texts), texts)
 
 

@@ -138,6 +138,19 @@ class Values(unittest.TestCase):
         self.assertEqual(str(found.in_zone(Zone("America/New_York"))), "2024-03-30T21:00:00-04:00")
         self.assertEqual((f"{found:%F %T %Z}", found.strftime("%z"), f"{found:>27}"), ("2024-03-31 03:00:00 CEST", "+0200", f"  {found}"))
 
+    def test_habits_of_datetime(self):
+        value, other = of("2024-02-29T09:30:15.25", "Europe/Berlin"), datetime.datetime(2024, 2, 29, 9, 30, 15, 250000, tzinfo=zoneinfo.ZoneInfo("Europe/Berlin"))
+        self.assertEqual((value.isoformat(), value.timestamp(), value.isoweekday(), value.isocalendar(), value.microsecond, value.replace(hour=1).hour),
+            (other.isoformat(), other.timestamp(), other.isoweekday(), tuple(other.isocalendar()), other.microsecond, 1))
+        self.assertEqual((ZonedDateTime.fromtimestamp(other.timestamp(), value.zone), copy.copy(value) is value, copy.deepcopy(value) is value), (value, True, True))
+        night = of("2024-02-29T02:30", "Europe/Berlin")
+        self.assertEqual([str(one) for one in (night.add_months(1), night.replace(month=3, day=31, policy=Policy.Earlier), night.add_years(1), night - Period(months=1))],
+            ["2024-03-29T02:30:00+01:00", "2024-03-31T01:30:00+01:00", "2025-02-28T02:30:00+01:00", "2024-01-29T02:30:00+01:00"])
+        self.assertEqual(str(of("2024-02-29T02:30", "Europe/Berlin").replace(day=28).add_months(1, Policy.Later)), "2024-03-28T02:30:00+01:00")
+        self.assertEqual(Zone.from_posix("CET-1"), eval(repr(Zone.from_posix("CET-1"))))
+        for wrong in ({"hours": 1}, {"offset": UtcOffset(1)}, {"hour": "1"}):
+            self.assertRaises(TypeError, value.replace, **wrong)
+
     def test_comparison(self):
         berlin, tokyo = (ZonedDateTime.from_unix_timestamp(1711846800, Zone(key)) for key in ("Europe/Berlin", "Asia/Tokyo"))
         later = berlin + SignedDuration.NANOSECOND
