@@ -185,10 +185,9 @@ fn berlin(rt: &impl Abort) -> Zone<'static> {
     let spring = last_sunday(Month::March, 3_600, 7_200);
     let autumn = last_sunday(Month::October, 7_200, 3_600);
     let rule = Rule::new(spring, autumn).expect(rt, "no rule");
-    match Zone::new(rule.before(), Table::empty(b""), Some(rule)) {
-        Ok(zone) => zone,
-        Err(_) => panic!(rt; "no zone"),
-    }
+    Zone::new(rule.before(), Table::empty(b""), Some(rule))
+        .ok()
+        .expect(rt, "no zone")
 }
 
 /// Returns the date-time on this day of March 2024, at an offset of whole hours.
@@ -218,19 +217,16 @@ fn in_a_zone(rt: HostRuntime) {
         let wanted = in_march(&rt, wanted.0, wanted.1, wanted.2, wanted.3);
         let value = ZonedDateTime::from_offset_date_time(moment, &berlin).expect(&rt, "no value");
         let unit = unit(&rt, minutes);
-        let Ok(found) = round_zoned(&value, unit, mode) else {
-            panic!(&rt; "out of range")
-        };
-        let found = found.to_offset_date_time();
+        let found = round_zoned(&value, unit, mode).ok();
+        let found = found.expect(&rt, "no value").to_offset_date_time();
         same(
             &rt,
             (found.local(), found.offset()),
             (wanted.local(), wanted.offset()),
         );
         let zone = berlin.as_unchecked();
-        let Ok(found) = round_in_zone(moment, unit, mode, zone) else {
-            panic!(&rt; "out of range")
-        };
+        let found = round_in_zone(moment, unit, mode, zone).ok();
+        let found = found.expect(&rt, "no value");
         same(
             &rt,
             (found.local(), found.offset()),
