@@ -9,5 +9,6 @@ impl ExactSizeIterator for DateIter {}
 impl FusedIterator for DateIter {}
 impl FusedIterator for Steps {}
 impl FusedIterator for crate::cal_zoned::Steps {}
+impl FusedIterator for crate::cal_zoned::ZonedSteps<'_> {}
 impl<C: Cycle> FusedIterator for CycleIter<C> {}
 impl<C: Cycle> FusedIterator for Rev<CycleIter<C>> {}

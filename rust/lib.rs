@@ -197,7 +197,7 @@ pub mod util {
 pub mod zone {
     pub use crate::cal_tzif::{ZoneError, ZoneErrorKind};
     pub use crate::cal_zone::{Change, Gap, Local, LocalType, Policy, Yearly, Zone};
-    pub use crate::cal_zoned::{ZonedDateTime, start_of_day};
+    pub use crate::cal_zoned::{ZonedDateTime, ZonedSteps, start_of_day};
     #[cfg(feature = "std")]
     pub use crate::std_clock::LocalClock;
 }

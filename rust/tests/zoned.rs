@@ -2,7 +2,7 @@
 
 use fotsevindre::error::{LocalTimeError, PeriodError};
 use fotsevindre::schedule::DateTimeSteps;
-use fotsevindre::zone::start_of_day;
+use fotsevindre::zone::{ZonedSteps, start_of_day};
 use fotsevindre::{
     CalendarUnit, Date, Month, OffsetDateTime, Period, PlainDateTime, Policy, SignedDuration, Time, UtcOffset, Weekday, Workdays,
     Zone, ZonedDateTime,
@@ -207,6 +207,14 @@ fn steps_of_date_times() {
     ] {
         assert_eq!(nth(n, Policy::Compatible).as_deref(), Ok(wanted), "{n}");
     }
+    let steps: Vec<_> = ZonedSteps::new(start, month, Policy::Reject).take(4).map(shown).collect();
+    let [first, second, third, fourth] = steps.try_into().unwrap();
+    assert_eq!(first.as_deref(), Ok("2024-01-31 2:30:00.0 +01:00:00"));
+    assert_eq!(second.as_deref(), Ok("2024-02-29 2:30:00.0 +01:00:00"));
+    assert_eq!(third, Err(LocalTimeError::Skipped));
+    assert_eq!(fourth.as_deref(), Ok("2024-04-30 2:30:00.0 +02:00:00"));
+    let years = ZonedSteps::new(start, Period::from_years(500_000), Policy::Compatible);
+    assert_eq!(years.map(|step| step.unwrap().date().year()).collect::<Vec<_>>(), [2024, 502_024]);
     assert_eq!(nth(2, Policy::Reject), Err(LocalTimeError::Skipped));
     assert_eq!(nth(i32::MAX, Policy::Compatible), Err(LocalTimeError::OutOfRange));
     // 12 hours are exact.

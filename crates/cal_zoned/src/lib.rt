@@ -10,9 +10,11 @@ mod steps;
 pub mod unchecked;
 mod until;
 mod zoned_date_time;
+mod zoned_steps;
 
 pub use day::start_of_day;
 pub use period::{checked_add_period, nth_period};
 pub use steps::{Steps, step_of};
 pub use until::period_until;
 pub use zoned_date_time::ZonedDateTime;
+pub use zoned_steps::ZonedSteps;

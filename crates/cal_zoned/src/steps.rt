@@ -10,7 +10,7 @@ use cal_schedule::Period;
 use std::marker::Model;
 
 /// One more than the number of the last step.
-const END: u32 = 2_147_483_648;
+pub(crate) const END: u32 = 2_147_483_648;
 
 /// Returns the step that a local date-time is in, if a period is repeated from a start: the
 /// greatest `n` for which [`nth_period`] isn't after it, or 2147483647 if that is more. In steps of

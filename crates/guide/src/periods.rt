@@ -1,5 +1,5 @@
 //! Invoices and bookings by periods, and date-times in a zone.
-ghost use Rattle.std.specs.Prelude.{◌≡◌, ℕ, ◌-◌, ◌≤◌, ◌*ℤ◌, pos, IfOk, IfSome, SomeIff};
+ghost use Rattle.std.specs.Prelude.{◌≡◌, ℕ, ◌-◌, ◌≤◌, ◌*ℤ◌, pos, Ok, IfOk, IfSome, SomeIff};
 ghost use Rattle.cal_time.specs.Date.{year_at, month_at, HasCalendarDate};
 ghost use Rattle.cal_time.specs.Lengths.{days_in_month};
 ghost use Rattle.cal_datetime.specs.DateTime.{date_at};
@@ -14,8 +14,10 @@ ghost use Rattle.cal_zoned.specs.Zoned.{InZone};
 
 use crate::zones::european;
 use cal_datetime::{PlainDateTime, with_hms_nano};
+use cal_schedule::laws::until_adds;
 use cal_schedule::{
-    CalendarUnit, DateRange, Period, last_of_month, nth_period, period_until_by, step_of,
+    CalendarUnit, DateRange, Period, PeriodError, last_of_month, nth_date, nth_period,
+    period_until_by, step_of,
 };
 use cal_time::{Date, Month, SignedDuration};
 use cal_zone::{LocalTimeError, Policy, Zone};
@@ -41,6 +43,26 @@ fn invoice_at(first: Date, every: Period, date: Date) -> Option<i32>
     ensures { IfSome result (IsGreatestStep first date every) }
 {
     step_of(first, every, date)
+}
+
+/// Returns the last due date up to a date, or `None` as [`invoice_at`] does.
+fn last_due(first: Date, every: Period, date: Date) -> Option<Date>
+    ensures { IfSome result (λ due. due ≤ date) }
+{
+    match step_of(first, every, date) {
+        Some(n) => match nth_date(first, every, n) {
+            Some(due) => Some(due),
+            None => None,
+        },
+        None => None,
+    }
+}
+
+/// Adds the months and days between two dates to the first one, which gives the second one.
+fn and_back(from: Date, to: Date) -> Result<Date, PeriodError>
+    ensures { result ≡ Ok to }
+{
+    until_adds(from, to, CalendarUnit::Month)
 }
 
 /// Returns the period from one date to another in weeks and days.
@@ -114,6 +136,11 @@ fn show_dates(rt: &impl Print, first: Date, last: Date) -> io::Result<()> {
         "{:?} {:?}",
         due_date(first, month, 1),
         due_date(first, month, 2)
+    )?;
+    println!(rt;
+        "{:?} {:?}",
+        last_due(first, month, last),
+        and_back(first, last)
     )?;
     let stay = weeks_between(first, last);
     println!(rt;
