@@ -60,7 +60,9 @@ fn exact_durations() {
         assert_eq!(Duration::parse_iso8601(printed), Ok(value));
     }
     // A day has no exact length.
-    for (text, error) in [("P1D", UnexpectedByte(1)), ("P1DT1H", UnexpectedByte(1)), ("P", UnexpectedEnd(1)), ("PT", UnexpectedEnd(2))] {
+    for (text, error) in
+        [("P1D", UnexpectedByte(1)), ("P1DT1H", UnexpectedByte(1)), ("P", UnexpectedEnd(1)), ("PT", UnexpectedEnd(2))]
+    {
         assert_eq!(Duration::parse_iso8601(text), Err(error), "{text}");
     }
 }
@@ -188,7 +190,9 @@ fn walk(rule: &Rule, text: &[u8], at: usize, furthest: &mut usize, then: &mut dy
         }
         Row(rules) => match rules.split_first() {
             None => then(at, furthest),
-            Some((first, _)) => walk(first, text, at, furthest, &mut |at, furthest| walk_row(&rules[1..], text, at, furthest, then)),
+            Some((first, _)) => {
+                walk(first, text, at, furthest, &mut |at, furthest| walk_row(&rules[1..], text, at, furthest, then))
+            }
         },
         Choice(rules) => rules.iter().any(|rule| walk(rule, text, at, furthest, then)),
     }
@@ -221,7 +225,8 @@ fn value(text: &[u8]) -> Result<Period, ParseDurationError> {
     let (sign, rest) = text.strip_prefix("-P").map_or((1, &text[1..]), |rest| (-1, rest));
     let (date, time) = rest.split_once('T').unwrap_or((rest, ""));
     let number = |text: &str, letter: char| -> i128 {
-        let digits = text.split_once(letter).map_or("0", |(front, _)| front.rsplit(|c: char| c.is_ascii_alphabetic()).next().unwrap());
+        let digits =
+            text.split_once(letter).map_or("0", |(front, _)| front.rsplit(|c: char| c.is_ascii_alphabetic()).next().unwrap());
         sign * digits.parse::<i128>().unwrap_or(i128::MAX).min(1 << 80)
     };
     let fits = |value: i128, part: DurationComponent| i32::try_from(value).map_err(|_| OutOfRange(part));

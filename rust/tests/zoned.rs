@@ -173,7 +173,12 @@ fn periods_between_date_times_in_a_zone() {
         ("2024-04-01 12:00:00", "2024-03-17 13:00:00", Week, period(0, 0, -2, 0, -23)),
         // The clocks skip 2:30, which means 3:30.
         ("2024-03-30 2:30:00", "2024-03-31 3:15:00", Day, SignedDuration::minutes(1425).into()),
-        ("2024-03-30 2:30:00", "2024-03-31 3:45:00", Day, period(0, 0, 0, 1, 0).with_duration(SignedDuration::minutes(15)).unwrap()),
+        (
+            "2024-03-30 2:30:00",
+            "2024-03-31 3:45:00",
+            Day,
+            period(0, 0, 0, 1, 0).with_duration(SignedDuration::minutes(15)).unwrap(),
+        ),
     ] {
         let (from, to) = (at(from), at(to));
         let found = from.period_until(&to, unit, Policy::Compatible).unwrap();
