@@ -19,7 +19,7 @@ use strip::{Edits, Fault, Options, Source};
 use zones::Zones;
 
 /// The libraries, as modules of the crate.
-const CRATES: [&str; 16] = [
+const CRATES: [&str; 17] = [
     "cal_units",
     "cal_span",
     "cal_clock",
@@ -33,6 +33,7 @@ const CRATES: [&str; 16] = [
     "cal_zone",
     "cal_zoned",
     "cal_rounding",
+    "cal_holidays",
     "cal_tzif",
     "cal_recurrence",
     "cal_c",

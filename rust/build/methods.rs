@@ -47,6 +47,7 @@ const METHODS: &[(&str, &str, &[&str])] = &[
     ("cal_rounding", "PlainDateTime", &["round_date_time"]),
     ("cal_rounding", "OffsetDateTime", &["round_offset_date_time"]),
     ("cal_rounding", "SignedDuration", &["round_duration"]),
+    ("cal_holidays", "Date", &["easter", "julian_easter"]),
 ];
 
 /// Returns the name of the method. The functions of `cal_rounding` have the type in their names.

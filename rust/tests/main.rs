@@ -7,6 +7,7 @@ mod durations;
 mod errors;
 mod every_day;
 mod formats;
+mod holidays;
 mod moments;
 mod rounding;
 mod rows;

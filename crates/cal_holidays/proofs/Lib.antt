@@ -1,0 +1,4 @@
+pub mod Epacts
+pub mod Sundays
+pub mod ClosedForms
+pub mod JulianDays

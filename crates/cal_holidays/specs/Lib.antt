@@ -1,0 +1,3 @@
+pub mod Epacts
+pub mod Easter
+pub mod ClosedForm
