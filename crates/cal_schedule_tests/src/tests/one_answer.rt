@@ -3,12 +3,12 @@
 //! A proof knows only the clauses, so a second result would leave the line of its call open.
 ghost use Rattle.std.specs.Prelude.{◌≡◌};
 
-use cal_schedule::{CalendarUnit, DayCount, Period, YearFraction};
+use cal_schedule::{CalendarUnit, DayCount, Period, Rule, YearFraction};
 use cal_time::error::ComponentRange;
 use cal_time::{Date, Month, Weekday};
 
 /// The results of two calls.
-type Twice<T> = (T, T);
+pub(super) type Twice<T> = (T, T);
 
 macro_rules! twice {
     ($call:expr) => {
@@ -131,4 +131,10 @@ fn day_count(from: Date, to: Date, convention: DayCount) -> Twice<YearFraction>
     ensures { result.0 ≡ result.1 }
 {
     twice!(cal_schedule::day_count(from, to, convention))
+}
+
+fn ranks(rule: &Rule, date: Date) -> Twice<(u32, u32)>
+    ensures { result.0 ≡ result.1 }
+{
+    twice!(rule.ranks(date))
 }

@@ -73,7 +73,8 @@ fn counts(rt: HostRuntime) {
 /// The text for debugging is the text of Rust's `derive`: the type and its fields.
 #[test]
 fn debug(rt: HostRuntime) -> Result<(), Fail> {
-    let walk = rule(&rt, Daily, 2024_01_01).first_days(2);
+    let rt = &rt;
+    let walk = rule(rt, Daily, 2024_01_01).first_days(2);
     let text = format!(in rt.alloc(); "{walk:?}")?;
     let rule = "Rule { start: 2024-01-01, until: None, pattern: Pattern { frequency: Daily, \
         interval: 1, week_start: Monday, months: [], weeks: [], year_days: [], month_days: [], \
@@ -81,6 +82,6 @@ fn debug(rt: HostRuntime) -> Result<(), Fail> {
     let wanted = format!(in rt.alloc();
         "RuleDays {{ rule: {rule}, front: Some(2024-01-01), left: 2 }}"
     )?;
-    same(&rt, text.as_str(), wanted.as_str());
+    same(rt, text.as_str(), wanted.as_str());
     Ok(())
 }

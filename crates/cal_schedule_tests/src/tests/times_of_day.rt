@@ -10,8 +10,6 @@ use cal_time::Weekday::{Friday, Monday, Thursday, Tuesday, Wednesday};
 use std::process::Abort;
 use std::test::Fail;
 
-mod one_answer;
-
 /// Creates the reading with the digits of a date and of a time, such as 1997_09_02 and 9_20_00.
 pub(super) fn reading(rt: &impl Abort, (date, time): (i64, u32)) -> PlainDateTime {
     let hour = u8::try_from(time / 10_000).expect(rt, "no hour");

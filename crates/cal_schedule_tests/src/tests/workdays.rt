@@ -5,6 +5,7 @@
 //! from its documentation of `busday_offset` and `busday_count`.
 ghost use Rattle.std.specs.Prelude.{◌≡◌};
 
+use crate::tests::one_answer::Twice;
 use crate::tests::{date, same};
 use cal_schedule::{Convention, Workdays};
 use cal_time::Date;
@@ -258,9 +259,6 @@ fn debug(rt: HostRuntime) -> Result<(), Fail> {
     );
     Ok(())
 }
-
-/// Two answers of `new`.
-type Twice<T> = (T, T);
 
 /// Its clause allows only one result.
 fn one_answer<'a>(marks: [bool; 7], holidays: &'a [Date]) -> Twice<Option<Workdays<'a>>>

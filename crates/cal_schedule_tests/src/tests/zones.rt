@@ -78,6 +78,16 @@ fn lord_howe(rt: &impl Abort) -> Zone<'static> {
     )
 }
 
+/// Returns what the policies compatible, earlier, later and reject make of a reading.
+fn by_policy(zone: &Zone<'_>, reading: PlainDateTime) -> [Moment; 4] {
+    [
+        moment(zone.resolve(reading).compatible()),
+        moment(zone.resolve(reading).earlier()),
+        moment(zone.resolve(reading).later()),
+        moment(zone.resolve(reading).reject()),
+    ]
+}
+
 /// Checks what each policy makes of a reading that the clocks skip.
 fn check_gap(
     rt: &impl Abort,
@@ -86,10 +96,8 @@ fn check_gap(
     earlier: (i64, i32),
     later: (i64, i32),
 ) {
-    same(rt, moment(zone.resolve(reading).compatible()), Some(later));
-    same(rt, moment(zone.resolve(reading).earlier()), Some(earlier));
-    same(rt, moment(zone.resolve(reading).later()), Some(later));
-    same(rt, moment(zone.resolve(reading).reject()), None);
+    let wanted = [Some(later), Some(earlier), Some(later), None];
+    same(rt, by_policy(zone, reading), wanted);
 }
 
 /// Checks what each policy makes of a reading that the clocks show twice.
@@ -100,20 +108,13 @@ fn check_fold(
     earlier: (i64, i32),
     later: (i64, i32),
 ) {
-    same(
-        rt,
-        moment(zone.resolve(reading).compatible()),
-        Some(earlier),
-    );
-    same(rt, moment(zone.resolve(reading).earlier()), Some(earlier));
-    same(rt, moment(zone.resolve(reading).later()), Some(later));
-    same(rt, moment(zone.resolve(reading).reject()), None);
+    let wanted = [Some(earlier), Some(earlier), Some(later), None];
+    same(rt, by_policy(zone, reading), wanted);
 }
 
 /// Checks a reading that the clocks show once.
 fn check_single(rt: &impl Abort, zone: &Zone<'_>, reading: PlainDateTime, wanted: (i64, i32)) {
-    same(rt, moment(zone.resolve(reading).compatible()), Some(wanted));
-    same(rt, moment(zone.resolve(reading).reject()), Some(wanted));
+    same(rt, by_policy(zone, reading), [Some(wanted); 4]);
 }
 
 #[test]

@@ -239,7 +239,7 @@ fn days_from_both_ends(rt: HostRuntime) {
 }
 
 /// Checks that a walk over a set has these days.
-fn has_set_days(rt: &impl Abort, mut walk: RecurrenceSetDays<'_>, days: &[i64]) {
+pub(super) fn has_set_days(rt: &impl Abort, mut walk: RecurrenceSetDays<'_>, days: &[i64]) {
     for digits in days {
         same_day(rt, "the set", walk.next(), Some(day(rt, *digits)));
     }

@@ -1,4 +1,5 @@
 //! Recurrence sets in text, as in a calendar file. The days and readings are rows of `dateutil` 2.9.
+use crate::tests::recurrences::searches::has_set_days;
 use crate::tests::recurrences::{count_of, read};
 use crate::tests::times_of_day::reading;
 use crate::tests::{day, same, same_at};
@@ -150,39 +151,31 @@ fn long_counts(rt: HostRuntime) {
     same(rt, walk.next(), Some(next));
 }
 
+/// Checks all days of the set that a text says.
+fn check_days(rt: &impl Abort, text: &str, rows: &[i64]) {
+    let days = read_set(rt, text).days().expect(rt, "no set of days");
+    has_set_days(rt, days.set().days(), rows);
+}
+
 /// The dates of the second example of RFC 5545, section 3.8.5.2, and a `COUNT`.
 #[test]
 fn days_of_sets(rt: HostRuntime) {
     let rt = &rt;
     let text = "DTSTART;VALUE=DATE:19970101\nRDATE;VALUE=DATE:19970101,19970120,19970217,19970421,\
         19970526,19970704,19970901,19971014,19971128,19971129,19971225";
-    let days = read_set(rt, text).days().expect(rt, "no set of days");
-    let set = days.set();
-    let mut walk = set.days();
-    for row in [
+    let rows = [
         1997_01_01, 1997_01_20, 1997_02_17, 1997_04_21, 1997_05_26, 1997_07_04, 1997_09_01,
         1997_10_14, 1997_11_28, 1997_11_29, 1997_12_25,
-    ] {
-        same_at(rt, row, walk.next(), Some(day(rt, row)));
-    }
-    same(rt, walk.next(), None);
+    ];
+    check_days(rt, text, &rows);
     let text = "DTSTART:20240101\nRRULE:FREQ=MONTHLY;BYDAY=-1FR;COUNT=5\nEXDATE:20240126\n\
         RDATE:20240704";
-    let days = read_set(rt, text).days().expect(rt, "no set of days");
-    let set = days.set();
-    let mut walk = set.days();
-    for row in [2024_02_23, 2024_03_29, 2024_04_26, 2024_05_31, 2024_07_04] {
-        same_at(rt, row, walk.next(), Some(day(rt, row)));
-    }
-    same(rt, walk.next(), None);
+    let rows = [2024_02_23, 2024_03_29, 2024_04_26, 2024_05_31, 2024_07_04];
+    check_days(rt, text, &rows);
     // No 30 February.
     let text = "DTSTART:20240101\nRRULE:FREQ=YEARLY;BYMONTH=2;BYMONTHDAY=30;COUNT=3\n\
         RDATE:20240704";
-    let days = read_set(rt, text).days().expect(rt, "no set of days");
-    let set = days.set();
-    let mut walk = set.days();
-    same(rt, walk.next(), Some(day(rt, 2024_07_04)));
-    same(rt, walk.next(), None);
+    check_days(rt, text, &[2024_07_04]);
 }
 
 /// Every seventh day from a Saturday is a Saturday, so the rule has no Monday, and only the other

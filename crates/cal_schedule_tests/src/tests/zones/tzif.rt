@@ -6,59 +6,11 @@ mod one_answer;
 
 use crate::tests::same;
 use crate::tests::zones::tzif::files::{APIA, CASABLANCA, FREETOWN};
-use crate::tests::zones::{moment, reading};
-use cal_datetime::PlainDateTime;
+use crate::tests::zones::{check_fold, check_gap, check_single, moment, reading};
 use cal_time::Month;
 use cal_tzif::{ZoneError, ZoneErrorKind, parse, parse_parts, parse_posix, parse_posix_parts};
 use cal_zone::{ChangeError, Guesses, Span, TimelineError, UncheckedZone, Zone, ZoneParts};
 use std::process::Abort;
-
-/// A Unix time and an offset, in seconds.
-type Moment = (i64, i32);
-
-/// Checks a reading that the clocks skip, or show twice.
-fn check_twice(
-    rt: &impl Abort,
-    zone: &Zone<'_>,
-    reading: PlainDateTime,
-    compatible: Moment,
-    earlier: Moment,
-    later: Moment,
-) {
-    same(
-        rt,
-        moment(zone.resolve(reading).compatible()),
-        Some(compatible),
-    );
-    same(rt, moment(zone.resolve(reading).earlier()), Some(earlier));
-    same(rt, moment(zone.resolve(reading).later()), Some(later));
-    same(rt, moment(zone.resolve(reading).reject()), None);
-}
-
-fn check_gap(
-    rt: &impl Abort,
-    zone: &Zone<'_>,
-    reading: PlainDateTime,
-    earlier: Moment,
-    later: Moment,
-) {
-    check_twice(rt, zone, reading, later, earlier, later);
-}
-
-fn check_fold(
-    rt: &impl Abort,
-    zone: &Zone<'_>,
-    reading: PlainDateTime,
-    earlier: Moment,
-    later: Moment,
-) {
-    check_twice(rt, zone, reading, earlier, earlier, later);
-}
-
-/// Checks a reading that the clocks show once.
-fn check_single(rt: &impl Abort, zone: &Zone<'_>, reading: PlainDateTime, wanted: Moment) {
-    same(rt, moment(zone.resolve(reading).reject()), Some(wanted));
-}
 
 /// Checks the abbreviation at a Unix time, and whether it is daylight time.
 fn check_name(
@@ -286,30 +238,26 @@ fn error_of(parsed: Result<Zone<'_>, ZoneError>) -> Option<ZoneError> {
     }
 }
 
+/// Checks the error of a file.
+fn check_error(rt: &impl Abort, bytes: &[u8], kind: ZoneErrorKind, position: usize) {
+    let wanted = Some(ZoneError { kind, position });
+    same(rt, error_of(parse(bytes)), wanted);
+}
+
 /// Checks the error of the file of Freetown with another byte at a position.
 fn check_byte(rt: &impl Abort, at: usize, byte: u8, kind: ZoneErrorKind, position: usize) {
     let mut bytes = FREETOWN;
     if at < bytes.len() {
         bytes[at] = byte;
     }
-    same(
-        rt,
-        error_of(parse(&bytes)),
-        Some(ZoneError { kind, position }),
-    );
+    check_error(rt, &bytes, kind, position);
 }
 
 #[test]
 fn errors_of_headers(rt: HostRuntime) {
     let rt = &rt;
-    let (kind, position) = (ZoneErrorKind::Truncated, 0);
-    same(rt, error_of(parse(b"")), Some(ZoneError { kind, position }));
-    let position = 100;
-    same(
-        rt,
-        error_of(parse(&FREETOWN[..100])),
-        Some(ZoneError { kind, position }),
-    );
+    check_error(rt, b"", ZoneErrorKind::Truncated, 0);
+    check_error(rt, &FREETOWN[..100], ZoneErrorKind::Truncated, 100);
     check_byte(rt, 0, b'X', ZoneErrorKind::Magic, 0);
     check_byte(rt, 51, 0, ZoneErrorKind::Magic, 51);
     check_byte(rt, 4, b'1', ZoneErrorKind::Version, 4);
@@ -327,12 +275,7 @@ fn check_count(rt: &impl Abort, at: usize) {
         bytes[at + 2] = 255;
         bytes[at + 3] = 255;
     }
-    let (kind, position) = (ZoneErrorKind::Truncated, 324);
-    same(
-        rt,
-        error_of(parse(&bytes)),
-        Some(ZoneError { kind, position }),
-    );
+    check_error(rt, &bytes, ZoneErrorKind::Truncated, 324);
 }
 
 #[test]
@@ -346,21 +289,11 @@ fn errors_of_counts(rt: HostRuntime) {
     let mut bytes = FREETOWN;
     bytes[82] = 1;
     bytes[94] = 10;
-    let (kind, position) = (ZoneErrorKind::LeapSeconds, 79);
-    same(
-        rt,
-        error_of(parse(&bytes)),
-        Some(ZoneError { kind, position }),
-    );
+    check_error(rt, &bytes, ZoneErrorKind::LeapSeconds, 79);
     let mut bytes = FREETOWN;
     bytes[90] = 0;
     bytes[94] = 52;
-    let (kind, position) = (ZoneErrorKind::NoType, 87);
-    same(
-        rt,
-        error_of(parse(&bytes)),
-        Some(ZoneError { kind, position }),
-    );
+    check_error(rt, &bytes, ZoneErrorKind::NoType, 87);
 }
 
 #[test]

@@ -1,14 +1,11 @@
-//! Each contract leaves one answer: two calls with the same arguments are proved to return the
-//! same.
+//! Each contract that isn't a plain equation allows only one result: two calls return the same.
 ghost use Rattle.std.specs.Prelude.{◌≡◌};
 
+use crate::tests::one_answer::Twice;
 use cal_datetime::OffsetDateTime;
-use cal_recurrence::{CountedZonedSet, SetInstants, SetLine, SetParts, ZonedSet};
+use cal_recurrence::{CountedZonedSet, ZonedSet};
 use cal_zone::Zone;
 use cal_zone::laws::one_local;
-
-/// The results of two calls.
-type Twice<T> = (T, T);
 
 fn next_after(set: &ZonedSet<'_>, moment: OffsetDateTime) -> Twice<Option<OffsetDateTime>>
     ensures { result.0 ≡ result.1 }
@@ -56,10 +53,4 @@ fn counted_first_from(
 {
     one_local(zone);
     (set.first_from(moment), set.first_from(moment))
-}
-
-fn instants(parts: &SetParts<'_>) -> Twice<Result<SetInstants, SetLine>>
-    ensures { result.0 ≡ result.1 }
-{
-    (parts.instants(), parts.instants())
 }

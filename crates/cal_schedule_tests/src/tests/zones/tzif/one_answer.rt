@@ -1,15 +1,10 @@
-//! Each contract leaves one answer: two calls with the same bytes are proved to return the same.
-//!
-//! A proof knows only the clauses of a call. If they allow a second answer, the proof of that call
-//! fails.
+//! Each contract that isn't a plain equation allows only one result: two calls return the same.
 ghost use Rattle.std.specs.Prelude.{◌≡◌};
 ghost use Rattle.cal_zone.specs.Timeline.{InOrder, IsMoment};
 
+use crate::tests::one_answer::Twice;
 use cal_tzif::ZoneError;
 use cal_zone::{Guesses, Span, UncheckedZone, Zone};
-
-/// The results of two calls.
-type Twice<T> = (T, T);
 
 fn parse(bytes: &[u8]) -> Twice<Result<Zone<'_>, ZoneError>>
     ensures { result.0 ≡ result.1 }
