@@ -14,7 +14,7 @@ use cal_date::day_number::to_date;
 use cal_datetime::{PlainDateTime, midnight};
 use std::marker::Model;
 
-/// A recurrence set of a recurrence with a `COUNT` or without one. A search counts the readings of
+/// The searches of a recurrence set, with a `COUNT` or without one. A search counts the readings of
 /// a `COUNT` from the start, as far as it needs them. Contracts see the set, up to the last reading
 /// of the `COUNT`.
 #[derive(Debug, Drop)]
@@ -85,8 +85,9 @@ impl Recurrence {
 }
 
 impl<'a> DateTimeSet<'a> {
-    /// Returns a copy of the set, which has nothing left to count.
-    pub(crate) fn counted(&self) -> CountedSet<'a>
+    /// Returns the set with its searches, which have no `COUNT` to count. In the set of 9:00 on every
+    /// day without 2024-01-02 9:00, 2024-01-03 9:00 comes after 2024-01-01 9:00.
+    pub fn counted(&self) -> CountedSet<'a>
         ensures { result ≡ self.now }
     {
         let left = self.rule.first_readings(0);

@@ -95,8 +95,9 @@ impl Recurrence {
 }
 
 impl<'a> ZonedSet<'a> {
-    /// Returns a copy of the set, which has nothing left to count.
-    pub(crate) fn counted(&self) -> CountedZonedSet<'a>
+    /// Returns the set with its searches, which have no `COUNT` to count. For 2:30 on every day in
+    /// Berlin, 2024-03-31 3:30 +02:00:00 comes after 2024-03-31 0:00 UTC.
+    pub fn counted(&self) -> CountedZonedSet<'a>
         ensures { result ≡ self.now }
     {
         let mut readings = self.readings.copy();

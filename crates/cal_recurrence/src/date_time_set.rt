@@ -1,17 +1,17 @@
 //! Recurrence sets of date-times without a zone.
-ghost use Rattle.std.specs.Prelude.{◌≡◌, ◌<ℤ◌, IfSome, slice_get, true, pos};
+ghost use Rattle.std.specs.Prelude.{◌≡◌, ◌<ℤ◌, IfSome, slice_get, true};
 ghost use Rattle.cal_datetime.specs.DateTime.{IsDateTime};
 ghost use Rattle.cal_recurrence.specs.DateTimeSet.{is_in_set, set_readings_after, set_readings_from};
 
 use crate::counted_set::CountedSet;
 use crate::date_time_rule::DateTimeRule;
 use crate::nearest::nearest;
-use cal_date::day_number::to_date;
-use cal_datetime::{PlainDateTime, midnight};
+use cal_datetime::PlainDateTime;
 use std::marker::Model;
 
 /// A recurrence set of RFC 5545 with times of day: the readings of a rule and of `RDATE`, without
-/// the readings of `EXDATE`. The lists can be in any order, and can have a reading twice.
+/// the readings of `EXDATE`. The lists can be in any order, and can have a reading twice. `counted`
+/// returns the set with its searches.
 #[derive(Debug, Drop)]
 pub struct DateTimeSet<'a> {
     /// The rule (`DTSTART` and `RRULE`).
@@ -38,10 +38,9 @@ impl<'a> DateTimeSet<'a> {
         }
     }
 
-    /// Returns `true` if a reading is in the set. The set of 9:00 on every day without 2024-01-02
-    /// 9:00 has 2024-01-01 9:00, and not 2024-01-02 9:00.
+    /// Returns `true` if a reading is in the set.
     #[tactic(auto, unfolding(crate::specs::DateTimeSet::is_in_set))]
-    pub fn contains(&self, reading: PlainDateTime) -> bool
+    fn contains(&self, reading: PlainDateTime) -> bool
         ensures value { result ≡ is_in_set self.now reading }
         ensures in_range { IsDateTime reading }
     {
@@ -50,10 +49,8 @@ impl<'a> DateTimeSet<'a> {
             && !self.exceptions.contains(&reading)
     }
 
-    /// Returns the first reading of the set after a reading, or `None` if the range has no such
-    /// reading. In the set of 9:00 on every day without 2024-01-02 9:00, 2024-01-03 9:00 comes
-    /// after 2024-01-01 9:00.
-    pub fn next_after(&self, reading: PlainDateTime) -> Option<PlainDateTime>
+    /// Returns the first reading of the set after a reading.
+    pub(crate) fn next_after(&self, reading: PlainDateTime) -> Option<PlainDateTime>
         ensures value { result ≡ slice_get (set_readings_after self.now reading) 0 }
         ensures found { IfSome result (λ z. (reading <ℤ z) × (is_in_set self.now z ≡ true)) }
     {
@@ -70,10 +67,8 @@ impl<'a> DateTimeSet<'a> {
         None
     }
 
-    /// Returns the first reading of the set that isn't before a reading, or `None` if the range has
-    /// no such reading. In the set of 9:00 on every day without 2024-01-02 9:00, 2024-01-03 9:00 is
-    /// the first from 2024-01-02 9:00 on.
-    pub fn first_from(&self, reading: PlainDateTime) -> Option<PlainDateTime>
+    /// Returns the first reading of the set that isn't before a reading.
+    pub(crate) fn first_from(&self, reading: PlainDateTime) -> Option<PlainDateTime>
         ensures { result ≡ slice_get (set_readings_from self.now reading) 0 }
     {
         if self.contains(reading) {
@@ -81,24 +76,6 @@ impl<'a> DateTimeSet<'a> {
         } else {
             self.next_after(reading)
         }
-    }
-
-    /// Returns an iterator over the readings of the set from a reading on, in ascending order, each
-    /// once. It doesn't go through the readings before it. For 9:00 on every day without 2024-01-02
-    /// 9:00, it begins with 2024-01-03 9:00 from 2024-01-02 9:00 on.
-    pub fn readings_from(&self, reading: PlainDateTime) -> DateTimeSetReadings<'a>
-        ensures { result ≡ set_readings_from self.now reading }
-    {
-        self.counted().readings_from(reading)
-    }
-
-    /// Returns an iterator over all readings of the set, in ascending order, each once. The set of
-    /// 9:00 on every day from 2024-01-01 on without this day begins with 2024-01-02 9:00.
-    pub fn readings(&self) -> DateTimeSetReadings<'a>
-        ensures { result ≡ set_readings_from self.now (pos 0) }
-    {
-        // The first reading of the range.
-        self.readings_from(midnight(to_date(0)))
     }
 }
 

@@ -1,11 +1,5 @@
 //! The iterator over the occurrences of a set in a zone.
-ghost use Rattle.std.specs.Prelude.{◌≡◌};
-ghost use Rattle.cal_datetime.specs.OffsetDateTime.{instant};
-ghost use Rattle.cal_recurrence.specs.Occurrences.{before_all};
-ghost use Rattle.cal_recurrence.specs.ZonedSet.{IsNextAfter, Occurs};
-
 use crate::counted_zoned_set::CountedZonedSet;
-use crate::zoned_set::ZonedSet;
 use cal_datetime::OffsetDateTime;
 use std::marker::Model;
 
@@ -23,27 +17,6 @@ impl<'a> Model for Occurrences<'a> {
     ghost Value = { OccurrencesLeft };
 
     ghost view = { λ walk. record { set = walk.set; front = walk.front } };
-}
-
-impl<'a> ZonedSet<'a> {
-    /// Returns an iterator over all occurrences, in ascending order. For 2:30 on every day in
-    /// Berlin from 2024-03-31 on it begins with 2024-03-31 3:30 +02:00:00.
-    pub fn occurrences(&self) -> Occurrences<'a>
-        ensures set { result.set ≡ self.now }
-        ensures first { IsNextAfter (Occurs self.now) before_all result.front }
-    {
-        self.counted().occurrences()
-    }
-
-    /// Returns an iterator over the occurrences after an instant, in ascending order. It doesn't go
-    /// through the occurrences before it. For 2:30 on every day in Berlin, it begins with 2024-03-31
-    /// 3:30 +02:00:00 after 2024-03-31 0:00 UTC.
-    pub fn occurrences_after(&self, moment: OffsetDateTime) -> Occurrences<'a>
-        ensures set { result.set ≡ self.now }
-        ensures first { IsNextAfter (Occurs self.now) (instant moment) result.front }
-    {
-        self.counted().occurrences_after(moment)
-    }
 }
 
 impl Iterator for Occurrences<'_> {

@@ -21,7 +21,7 @@ use cal_zone::laws::one_local;
 /// instant. The lists can be in any order.
 ///
 /// A count (`COUNT`) and exceptions without a zone go by the readings, and belong to the set of
-/// readings.
+/// readings. `counted` returns the set with its searches.
 #[derive(Debug, Drop)]
 pub struct ZonedSet<'a> {
     /// The readings (`DTSTART`, `RRULE`, `RDATE` and `EXDATE` with local times).
@@ -191,28 +191,17 @@ impl<'a> ZonedSet<'a> {
         earlier(&self.first_meant(start, after), &self.first_listed(after))
     }
 
-    /// Returns the first occurrence after an instant, or `None` if the set has no such occurrence.
-    /// For 2:30 on every day in Berlin, 2024-03-31 3:30 +02:00:00 comes after 2024-03-31 0:00 UTC.
-    pub fn next_after(&self, moment: OffsetDateTime) -> Option<OffsetDateTime>
+    /// Returns the first occurrence after an instant.
+    pub(crate) fn next_after(&self, moment: OffsetDateTime) -> Option<OffsetDateTime>
         ensures { IsNextAfter (Occurs self.now) (instant moment) result }
     {
         self.first_after(earliest_reading(moment), nanoseconds(moment))
     }
 
-    /// Returns the first occurrence that isn't before an instant, or `None` if the set has no such
-    /// occurrence. For 2:30 on every day in Berlin, 2024-03-31 3:30 +02:00:00 is the first from
-    /// 2024-03-31 1:30 UTC on.
-    pub fn first_from(&self, moment: OffsetDateTime) -> Option<OffsetDateTime>
+    /// Returns the first occurrence that isn't before an instant.
+    pub(crate) fn first_from(&self, moment: OffsetDateTime) -> Option<OffsetDateTime>
         ensures { IsNextAfter (Occurs self.now) (instant moment -ℤ pos 1) result }
     {
         self.first_after(earliest_reading(moment), nanoseconds(moment) - 1)
-    }
-
-    /// Returns `true` if an instant is an occurrence. For 2:30 on every day in Berlin, 2024-03-31
-    /// 1:30 UTC is one, and 2024-10-27 1:30 UTC isn't.
-    pub fn contains(&self, moment: OffsetDateTime) -> bool
-        ensures { IsTrue result ↔ HasInstant self.now (instant moment) }
-    {
-        is_at(self.first_from(moment), moment)
     }
 }

@@ -40,7 +40,8 @@ fn at(rt: &impl Abort, timestamp: i64) -> OffsetDateTime {
 
 /// Checks the first occurrences of a set, and that it has them.
 fn check(rt: &impl Abort, set: &ZonedSet<'_>, wanted: &[(i64, i32)]) {
-    let mut occurrences = set.occurrences();
+    let mut occurrences = set.counted().occurrences();
+    let mut set = set.counted();
     for one in wanted {
         same(rt, moment(occurrences.next()), Some(*one));
         same(rt, set.contains(at(rt, one.0)), true);
@@ -67,7 +68,7 @@ fn gaps_and_folds(rt: HostRuntime) {
     let set = in_zone(daily(start, &[]), &berlin);
     check(rt, &set, &rows);
     // The later one of the fold.
-    same(rt, set.contains(at(rt, 1_729_992_600)), false);
+    same(rt, set.counted().contains(at(rt, 1_729_992_600)), false);
 }
 
 /// 2:30 is skipped, and is the same instant as 3:30. A local `EXDATE` leaves out its reading only.
@@ -137,18 +138,19 @@ fn ends_and_exceptions(rt: HostRuntime) {
     set.until = Some(second);
     same(
         rt,
-        moment(set.next_after(at(rt, 1_711_762_200))),
+        moment(set.counted().next_after(at(rt, 1_711_762_200))),
         Some((1_711_848_600, 7_200)),
     );
-    same(rt, moment(set.next_after(second)), None);
+    same(rt, moment(set.counted().next_after(second)), None);
     set.until = Some(at(rt, 1_711_848_599));
-    same(rt, moment(set.next_after(at(rt, 1_711_762_200))), None);
+    let next = set.counted().next_after(at(rt, 1_711_762_200));
+    same(rt, moment(next), None);
     let rows = [(1_711_762_200, 3_600), (1_711_931_400, 7_200)];
     let left_out = [second];
     set.until = None;
     set.exceptions = &left_out;
     check(rt, &set, &rows);
-    same(rt, set.contains(second), false);
+    same(rt, set.counted().contains(second), false);
     let left_out = [reading(rt, (2024, Month::March, 31), 2, 30)];
     check(rt, &in_zone(daily(start, &left_out), &berlin), &rows);
 }
@@ -169,7 +171,7 @@ fn daily_until_christmas(rt: HostRuntime) {
     set.until = Some(at(rt, 882_921_600));
     let mut counts = (0u32, 0u32);
     let mut last = None;
-    for occurrence in set.occurrences() {
+    for occurrence in set.counted().occurrences() {
         if occurrence.offset().whole_seconds() == -14_400 {
             counts.0 = counts.0.saturating_add(1);
         } else {
