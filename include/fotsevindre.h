@@ -231,7 +231,9 @@ enum fots_status {
     FOTS_PERIOD_HAS_DURATION = 69, /* a date has no time of day, so a period of it has no duration */
     FOTS_WRONG_OFFSET = 70, /* the offset of the moment isn't that of the zone at its instant */
     FOTS_INVALID_UNIT = 71, /* expected 1 (day) to 5 (year) */
-    FOTS_INVALID_RANGE = 72 /* expected two dates, and no end before the start */
+    FOTS_INVALID_RANGE = 72, /* expected two dates, and no end before the start */
+    FOTS_INVALID_ROUNDING_UNIT = 73, /* expected a positive duration, which divides 24 h for times of day */
+    FOTS_INVALID_ROUNDING_MODE = 74 /* expected 0 (floor) to 4 (half even) */
 };
 
 /* Returns the name of a status: the component, such as "day", or words such as "result out of
@@ -312,6 +314,8 @@ static inline const char *fots_status_name(int32_t status)
     case FOTS_WRONG_OFFSET: return "wrong offset";
     case FOTS_INVALID_UNIT: return "invalid unit";
     case FOTS_INVALID_RANGE: return "invalid range";
+    case FOTS_INVALID_ROUNDING_UNIT: return "invalid rounding unit";
+    case FOTS_INVALID_ROUNDING_MODE: return "invalid rounding mode";
     default: return "unknown";
     }
 }
@@ -468,6 +472,12 @@ typedef struct fots_period_result {
     int32_t weeks;
     int32_t days;
 } fots_period_result;
+
+/* A period with its duration. After an error each part is the minimum of its type. */
+typedef struct fots_exact_period_result {
+    int32_t status;
+    fots_period period;
+} fots_exact_period_result;
 
 /* The number of dates that were written. */
 typedef struct fots_days_result {
@@ -998,6 +1008,21 @@ fots_time_result fots_time_truncate_to_second(fots_time time);
 fots_time_result fots_time_truncate_to_millisecond(fots_time time);
 fots_time_result fots_time_truncate_to_microsecond(fots_time time);
 
+/* How to round to a multiple of a unit, with the names of Temporal. For -7.5 and 2.5 and whole
+ * numbers: -8, 2; -7, 3; -7, 2; -7, 3; -8, 2. */
+enum fots_rounding_mode {
+    FOTS_FLOOR = 0, /* down */
+    FOTS_CEIL = 1, /* up */
+    FOTS_TRUNC = 2, /* toward zero */
+    FOTS_HALF_CEIL = 3, /* to the nearest multiple, of two to the greater */
+    FOTS_HALF_EVEN = 4 /* to the nearest multiple, of two to the even one */
+};
+
+/* Returns the time rounded to a multiple of a unit since midnight; 24:00 is 0:00. The unit divides a
+ * day of 24 hours. FOTS_INVALID_ROUNDING_UNIT, FOTS_INVALID_ROUNDING_MODE. 9:07:30 to 15 minutes by
+ * FOTS_HALF_CEIL is 9:15. */
+fots_time_result fots_time_round(fots_time time, fots_duration unit, uint32_t mode);
+
 /* ---- move times of day */
 
 /* Return the time of day a duration later or earlier, modulo 24 hours. 23:00 plus 2 h is 1:00. */
@@ -1084,6 +1109,11 @@ fots_duration_result fots_duration_abs(fots_duration duration);
 /* Returns -1, 0 or 1 if the duration is less than, equal to or greater than the other one. */
 fots_number_result fots_duration_compare(fots_duration duration, fots_duration other);
 
+/* Returns the duration rounded to a multiple of a positive unit by a fots_rounding_mode;
+ * FOTS_INVALID_ROUNDING_UNIT, FOTS_INVALID_ROUNDING_MODE, FOTS_RESULT_OUT_OF_RANGE. -90 s to a
+ * minute by FOTS_HALF_CEIL is -60 s. */
+fots_duration_result fots_duration_round(fots_duration duration, fots_duration unit, uint32_t mode);
+
 /* ---- arithmetic of durations */
 
 /* Return the sum, the difference, the product, the quotient truncated toward zero, and the
@@ -1126,10 +1156,27 @@ uint32_t fots_weeks_in_year(int32_t year);
 fots_pair_result fots_add_to_pair(fots_date date, fots_time time, fots_duration duration);
 fots_pair_result fots_sub_from_pair(fots_date date, fots_time time, fots_duration duration);
 
-/* Returns the date and time a period later: the date as fots_date_add_period moves it, and then the
- * duration is added. FOTS_INVALID_PERIOD, FOTS_RESULT_OUT_OF_RANGE. A month and 2 h after
- * 2000-01-31 23:00 is 2000-03-01 1:00. */
+/* Returns the date and time rounded as by fots_time_round, where 24:00 is the next date;
+ * FOTS_RESULT_OUT_OF_RANGE. 2024-02-29 23:50 to an hour by FOTS_HALF_CEIL is 2024-03-01 0:00. */
+fots_pair_result fots_pair_round(fots_date date, fots_time time, fots_duration unit, uint32_t mode);
+
+/* Return the date and time a period later, or `n` periods later at once: the date as
+ * fots_date_nth_period moves it, and then the duration is added. FOTS_INVALID_PERIOD,
+ * FOTS_RESULT_OUT_OF_RANGE. A month and 2 h after 2000-01-31 23:00 is 2000-03-01 1:00. */
 fots_pair_result fots_pair_add_period(fots_date date, fots_time time, fots_period period);
+fots_pair_result fots_pair_nth_period(fots_date date, fots_time time, fots_period period, int32_t n);
+
+/* Returns the step that a date and time are in: the greatest `n` for which fots_pair_nth_period of
+ * the start isn't after them, at most INT32_MAX. FOTS_INVALID_PERIOD, and FOTS_RESULT_OUT_OF_RANGE
+ * if they are before the start, or if the period isn't positive. By months from 2000-01-31 8:00,
+ * 2000-02-29 7:59 is in step 0, and 8:00 in step 1. */
+fots_number_result fots_pair_step_of(fots_date start_date, fots_time start_time, fots_period period, fots_date date, fots_time time);
+
+/* Returns the period from one date and time to another: whole units as fots_date_period_until_by
+ * counts them, and then the exact rest, less than a day. fots_pair_add_period leads back to the
+ * second. FOTS_INVALID_UNIT. From 2024-01-31 12:00 to 2024-03-01 11:00: a month and 23 h by
+ * FOTS_MONTH. */
+fots_exact_period_result fots_pair_period_until(fots_date date, fots_time time, fots_date other_date, fots_time other_time, uint32_t unit);
 
 /* ---- Unix times: durations from 1970-01-01 0:00 UTC, without leap seconds */
 
@@ -1168,6 +1215,9 @@ fots_moment_result fots_moment_saturating_sub(fots_moment moment, fots_duration 
 /* Returns the duration from the instant of `other` to the instant of `moment`, negative if `other`
  * is later. From 0:00 +01:00 to 0:00 UTC: 1 h. */
 fots_duration_result fots_moment_duration_since(fots_moment moment, fots_moment other);
+
+/* Returns the moment whose date and time are rounded as by fots_pair_round, at the same offset. */
+fots_moment_result fots_moment_round(fots_moment moment, fots_duration unit, uint32_t mode);
 
 /* Returns -1, 0 or 1 if the instant is before, the same as or after the other one. */
 fots_number_result fots_moment_compare(fots_moment moment, fots_moment other);
@@ -1564,6 +1614,28 @@ fots_moment_result fots_zoned_checked_sub(const fots_zone *zone, fots_moment mom
  * 2024-03-31 3:30 +02:00. */
 fots_moment_result fots_zoned_add_period(const fots_zone *zone, fots_moment moment, fots_period period, uint32_t policy);
 
+/* Returns the moment `n` periods later at once, without a drift. 2 months after 2024-01-31 2:30
+ * +01:00 is 2024-03-31 3:30 +02:00. */
+fots_moment_result fots_zoned_nth_period(const fots_zone *zone, fots_moment moment, fots_period period, int32_t n, uint32_t policy);
+
+/* Returns the period from one moment to another: the whole units up to the last day on which the
+ * time of day, by the policy, isn't past the other moment, and then the exact rest. Adding it by the
+ * same policy gives the other moment. `unit` is a fots_calendar_unit; FOTS_INVALID_UNIT. From
+ * 2024-03-30 12:00 +01:00 to 2024-03-31 13:00 +02:00: a day and 1 h by FOTS_DAY. */
+fots_exact_period_result fots_zoned_period_until(const fots_zone *zone, fots_moment moment, fots_moment other, uint32_t unit, uint32_t policy);
+
+/* Moves a moment to another date, such as the next working day. The time of day stays, by the policy
+ * as in fots_zoned_from_local. On its own date it stays as it is, also in the second half of a fold.
+ * 2024-03-30 2:30 +01:00 on 2024-03-31 is 3:30 +02:00. */
+fots_moment_result fots_zoned_moved_to(const fots_zone *zone, fots_moment moment, fots_date date, uint32_t policy);
+
+/* Return the start of the day, ISO week, month, quarter or year, as fots_zoned_start_of_day does,
+ * and its end, a nanosecond before the start of the next one. `unit` is a fots_calendar_unit;
+ * FOTS_INVALID_UNIT. The month of 2024-03-31 12:00 +02:00 starts at 2024-03-01 0:00 +01:00 and ends
+ * at 2024-03-31 23:59:59.999999999 +02:00. */
+fots_moment_result fots_zoned_start_of(const fots_zone *zone, fots_moment moment, uint32_t unit);
+fots_moment_result fots_zoned_end_of(const fots_zone *zone, fots_moment moment, uint32_t unit);
+
 /* Return the first instant at which the clocks have reached a date, and the length of the day from
  * there to the start of the next. 2024-03-31 has 23 h. In Toronto 1919-03-31 starts at 0:30. */
 fots_moment_result fots_zoned_start_of_day(const fots_zone *zone, fots_date date);
@@ -1572,7 +1644,7 @@ fots_duration_result fots_zoned_day_length(const fots_zone *zone, fots_date date
 /* Write the Unix times some days or months after Unix times, by the clocks of the zone, as
  * fots_zoned_add_period does and other calls for columns do. Errors: FOTS_INVALID_POLICY,
  * FOTS_RESULT_OUT_OF_RANGE, FOTS_SKIPPED_TIME and FOTS_REPEATED_TIME for FOTS_REJECT. */
-size_t fots_zoned_add_days(const fots_zone *zone, const int64_t *seconds, size_t seconds_length, const int32_t *days, size_t days_length,
+size_t fots_zoned_add_days(const fots_zone *zone, const int64_t *seconds, size_t seconds_length, const int64_t *days, size_t days_length,
     uint32_t policy, int64_t *moved, size_t moved_length, uint8_t *statuses, size_t length);
 size_t fots_zoned_add_months(const fots_zone *zone, const int64_t *seconds, size_t seconds_length, const int32_t *months, size_t months_length,
     uint32_t policy, int64_t *moved, size_t moved_length, uint8_t *statuses, size_t length);

@@ -253,6 +253,10 @@ private:
     fots_format value_;
 };
 
+// How to round to a multiple of a unit: down, up, toward zero, and to the nearest multiple, of two to the
+// greater or to the even one.
+enum class RoundingMode : std::uint32_t { Floor = FOTS_FLOOR, Ceil = FOTS_CEIL, Trunc = FOTS_TRUNC, HalfCeil = FOTS_HALF_CEIL, HalfEven = FOTS_HALF_EVEN };
+
 // A signed length of time in nanoseconds.
 class Duration : public detail::Ordered<Duration> {
 public:
@@ -277,6 +281,11 @@ public:
     std::int64_t whole_seconds() const noexcept { return value_.seconds; }
     std::int32_t subsec_nanoseconds() const noexcept { return value_.nanoseconds; }
     Duration abs() const { return from(fots_duration_abs(value_)); }
+    // Rounds to a multiple of a positive unit.
+    Duration round(Duration unit, RoundingMode mode) const
+    {
+        return from(fots_duration_round(value_, unit.value_, static_cast<std::uint32_t>(mode)));
+    }
 
     friend Duration operator+(Duration one, Duration other) { return from(fots_duration_checked_add(one.value_, other.value_)); }
     friend Duration operator-(Duration one, Duration other) { return from(fots_duration_checked_sub(one.value_, other.value_)); }
@@ -353,6 +362,12 @@ public:
         return detail::written([&](char *bytes, std::size_t length) { return fots_time_format(value_, format.c(), bytes, length); });
     }
 
+    // Rounds to a multiple of a unit since midnight, which divides 24 hours; 24:00 is 0:00.
+    Time round(Duration unit, RoundingMode mode) const
+    {
+        return Time(detail::value_or_throw(fots_time_round(value_, unit.c(), static_cast<std::uint32_t>(mode))).time, {});
+    }
+
     fots_time c() const noexcept { return value_; }
     fots_time key() const noexcept { return value_; }
 
@@ -420,6 +435,8 @@ public:
             throw error(FOTS_INVALID_PERIOD);
         }
     }
+    Period(const fots_period &value, detail::Unchecked) noexcept : value_(value) {}
+
     static Period from_years(std::int32_t years) { return {years, 0, 0, 0}; }
     static Period from_months(std::int32_t months) { return {0, months, 0, 0}; }
     static Period from_weeks(std::int32_t weeks) { return {0, 0, weeks, 0}; }
@@ -1078,12 +1095,34 @@ public:
     PlainDateTime replace_date(Date date) const { return {date, time()}; }
     PlainDateTime replace_time(Time time) const { return {date(), time}; }
 
+    // Rounds to a multiple of a unit since midnight, which divides 24 hours.
+    PlainDateTime round(Duration unit, RoundingMode mode) const
+    {
+        const fots_pair_result found =
+            detail::value_or_throw(fots_pair_round(value_.date, value_.time, unit.c(), static_cast<std::uint32_t>(mode)));
+        return {Date(found.date, {}), Time(found.time, {})};
+    }
+
     std::optional<PlainDateTime> checked_add(Duration duration) const { return if_any(fots_moment_checked_add(value_, duration.c())); }
     std::optional<PlainDateTime> checked_sub(Duration duration) const { return if_any(fots_moment_checked_sub(value_, duration.c())); }
-    std::optional<PlainDateTime> checked_add_period(const Period &period) const
+    // Return the date-time a period later, or some periods later at once, without a drift.
+    std::optional<PlainDateTime> checked_add_period(const Period &period) const { return nth_period(period, 1); }
+    std::optional<PlainDateTime> nth_period(const Period &period, std::int32_t n) const
     {
-        const fots_pair_result found = fots_pair_add_period(value_.date, value_.time, period.c());
-        return detail::is_in_range(found) ? std::optional(PlainDateTime(Date(found.date, {}), Time(found.time, {}))) : std::nullopt;
+        return if_any(fots_pair_nth_period(value_.date, value_.time, period.c(), n));
+    }
+    // The step that a date-time is in, or none if it is before this one, or if the period isn't positive.
+    std::optional<std::int32_t> step_of(const Period &period, PlainDateTime other) const
+    {
+        const fots_number_result found = fots_pair_step_of(value_.date, value_.time, period.c(), other.value_.date, other.value_.time);
+        return found.status == FOTS_OK ? std::optional<std::int32_t>(found.number) : std::nullopt;
+    }
+    // Returns the period to another date-time: whole units, the largest of which is given, and then the
+    // exact rest.
+    Period period_until(PlainDateTime other, CalendarUnit unit) const
+    {
+        return Period(detail::value_or_throw(fots_pair_period_until(value_.date, value_.time, other.value_.date, other.value_.time,
+                          static_cast<std::uint32_t>(unit))).period, {});
     }
     PlainDateTime saturating_add(Duration duration) const { return from(fots_moment_saturating_add(value_, duration.c())); }
     PlainDateTime saturating_sub(Duration duration) const { return from(fots_moment_saturating_sub(value_, duration.c())); }
@@ -1120,6 +1159,10 @@ private:
     static std::optional<PlainDateTime> if_any(fots_moment_result result)
     {
         return detail::is_in_range(result) ? std::optional<PlainDateTime>(PlainDateTime(result.moment)) : std::nullopt;
+    }
+    static std::optional<PlainDateTime> if_any(fots_pair_result result)
+    {
+        return detail::is_in_range(result) ? std::optional(PlainDateTime(Date(result.date, {}), Time(result.time, {}))) : std::nullopt;
     }
 
     // At offset 0.
@@ -1172,6 +1215,12 @@ public:
     std::string format(const Format &format, const Zone &zone) const;
     // Returns the same date and time at another offset, which is another instant.
     OffsetDateTime replace_offset(UtcOffset offset) const { return from(fots_moment_replace_offset(value_, offset.c())); }
+
+    // Rounds the local date-time to a multiple of a unit since midnight, which divides 24 hours.
+    OffsetDateTime round(Duration unit, RoundingMode mode) const
+    {
+        return from(fots_moment_round(value_, unit.c(), static_cast<std::uint32_t>(mode)));
+    }
 
     std::optional<OffsetDateTime> checked_add(Duration duration) const { return if_any(fots_moment_checked_add(value_, duration.c())); }
     std::optional<OffsetDateTime> checked_sub(Duration duration) const { return if_any(fots_moment_checked_sub(value_, duration.c())); }
@@ -1338,7 +1387,7 @@ public:
 
     // Return the Unix times some days or months after Unix times, and of the starts of their days, by
     // the clocks of the zone.
-    InstantColumn add_days(const std::vector<std::int64_t> &seconds, const std::vector<std::int32_t> &days, Policy policy = Policy::Compatible) const
+    InstantColumn add_days(const std::vector<std::int64_t> &seconds, const std::vector<std::int64_t> &days, Policy policy = Policy::Compatible) const
     {
         return moved(fots_zoned_add_days, seconds, days, policy);
     }
@@ -1366,8 +1415,8 @@ private:
     }
 
     // Returns the column of a call with as many steps as Unix times, or throws a std::invalid_argument.
-    template <class Call>
-    InstantColumn moved(Call call, const std::vector<std::int64_t> &seconds, const std::vector<std::int32_t> &steps, Policy policy) const
+    template <class Call, class Step>
+    InstantColumn moved(Call call, const std::vector<std::int64_t> &seconds, const std::vector<Step> &steps, Policy policy) const
     {
         if (seconds.size() != steps.size()) {
             throw std::invalid_argument("columns of different lengths");
@@ -1455,6 +1504,13 @@ public:
     ZonedDateTime with_date(Date date, Policy policy = Policy::Compatible) const { return with_local({date, time()}, policy); }
     ZonedDateTime with_time(Time time, Policy policy = Policy::Compatible) const { return with_local({date(), time}, policy); }
 
+    // Returns the date-time on another date, such as the next working day. The time of day stays, by the
+    // policy on the new date. On its own date it stays as it is.
+    ZonedDateTime moved_to(Date date, Policy policy = Policy::Compatible) const
+    {
+        return from(zone_, fots_zoned_moved_to, value_, date.c(), static_cast<std::uint32_t>(policy));
+    }
+
     // Returns the date-time a period later: the date is moved, the time of day stays, by the policy
     // on the new date, and then the duration moves the instant.
     ZonedDateTime add_period(const Period &period, Policy policy = Policy::Compatible) const
@@ -1462,6 +1518,19 @@ public:
         return from(zone_, fots_zoned_add_period, value_, period.c(), static_cast<std::uint32_t>(policy));
     }
     friend ZonedDateTime operator+(const ZonedDateTime &one, const Period &period) { return one.add_period(period); }
+    // Returns the date-time some periods later at once, without a drift.
+    ZonedDateTime nth_period(const Period &period, std::int32_t n, Policy policy = Policy::Compatible) const
+    {
+        return from(zone_, fots_zoned_nth_period, value_, period.c(), n, static_cast<std::uint32_t>(policy));
+    }
+    // Returns the period to another date-time, which is seen in this zone: whole units, the largest of
+    // which is given, up to the last day that doesn't pass it, and then the exact rest.
+    Period period_until(const ZonedDateTime &other, CalendarUnit unit, Policy policy = Policy::Compatible) const
+    {
+        const fots_zone held = zone_->c();
+        return Period(detail::value_or_throw(fots_zoned_period_until(&held, value_, other.in_zone(*zone_).value_, static_cast<std::uint32_t>(unit),
+                          static_cast<std::uint32_t>(policy))).period, {});
+    }
     // Durations move the instant.
     friend ZonedDateTime operator+(const ZonedDateTime &one, Duration duration)
     {
@@ -1479,6 +1548,9 @@ public:
     // Return the start of the day, and its length.
     ZonedDateTime start_of_day() const { return zone_->start_of_day(date()); }
     Duration day_length() const { return zone_->day_length(date()); }
+    // Return the first and the last instant of the day, ISO week, month, quarter or year.
+    ZonedDateTime start_of(CalendarUnit unit) const { return from(zone_, fots_zoned_start_of, value_, static_cast<std::uint32_t>(unit)); }
+    ZonedDateTime end_of(CalendarUnit unit) const { return from(zone_, fots_zoned_end_of, value_, static_cast<std::uint32_t>(unit)); }
 
     // Returns the text by a format, such as "03:00 CEST" by "%H:%M %Z".
     std::string format(const Format &format) const { return to_offset_date_time().format(format, *zone_); }

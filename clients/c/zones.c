@@ -154,9 +154,14 @@ static void is_rejected(const fots_zone *zone, long long which)
     check(fots_zoned_checked_add(zone, no_moment, no_duration).status == FOTS_INVALID_ZONE, "a duration later", which, 0);
     check(fots_zoned_checked_sub(zone, no_moment, no_duration).status == FOTS_INVALID_ZONE, "a duration earlier", which, 0);
     check(fots_zoned_add_period(zone, no_moment, no_period, 4).status == FOTS_INVALID_ZONE, "a period later", which, 0);
+    check(fots_zoned_nth_period(zone, no_moment, no_period, 2, 4).status == FOTS_INVALID_ZONE, "some periods later", which, 0);
+    check(fots_zoned_period_until(zone, no_moment, no_moment, 0, 4).status == FOTS_INVALID_ZONE, "the period until a moment", which, 0);
+    check(fots_zoned_moved_to(zone, no_moment, no_day, 4).status == FOTS_INVALID_ZONE, "on another date", which, 0);
+    check(fots_zoned_start_of(zone, no_moment, 0).status == FOTS_INVALID_ZONE, "the start of a unit", which, 0);
+    check(fots_zoned_end_of(zone, no_moment, 0).status == FOTS_INVALID_ZONE, "the end of a unit", which, 0);
     check(fots_zoned_start_of_day(zone, no_day).status == FOTS_INVALID_ZONE, "start of a day", which, 0);
     check(fots_zoned_day_length(zone, no_day).status == FOTS_INVALID_ZONE, "length of a day", which, 0);
-    check(fots_zoned_add_days(zone, &second, 1, &offset, 1, 4, &second, 1, &status, 1) == 1 && status == FOTS_INVALID_ZONE, "days", which, second);
+    check(fots_zoned_add_days(zone, &second, 1, &second, 1, 4, &second, 1, &status, 1) == 1 && status == FOTS_INVALID_ZONE, "days", which, second);
     check(fots_zoned_add_months(zone, &second, 1, &offset, 1, 4, &second, 1, &status, 1) == 1 && status == FOTS_INVALID_ZONE, "months", which, second);
     check(fots_zoned_starts_of_day(zone, &second, 1, &second, 1, &status, 1) == 1 && status == FOTS_INVALID_ZONE, "starts of days", which, second);
 }
@@ -274,9 +279,14 @@ static void is_safe(const fots_zone *zone)
         fots_zoned_checked_sub(zone, from.moment, time);
         fots_zoned_add_period(zone, from.moment, step, (uint32_t)row);
         fots_zoned_day_length(zone, from.moment.date);
+        fots_zoned_moved_to(zone, from.moment, day(2024, 3, 31), (uint32_t)row);
+        fots_zoned_nth_period(zone, from.moment, step, row, (uint32_t)row);
+        fots_zoned_period_until(zone, from.moment, fots_zoned_add_period(zone, from.moment, step, 0).moment, 1 + (uint32_t)row, (uint32_t)row);
+        fots_zoned_start_of(zone, from.moment, (uint32_t)row);
+        fots_zoned_end_of(zone, from.moment, (uint32_t)row);
     }
     fots_zoned_start_of_day(zone, day(2024, 3, 31));
-    fots_zoned_add_days(zone, seconds, 4, offsets, 4, FOTS_LATER, found, 4, statuses, 4);
+    fots_zoned_add_days(zone, seconds, 4, seconds, 4, FOTS_LATER, found, 4, statuses, 4);
     fots_zoned_add_months(zone, seconds, 4, offsets, 4, FOTS_EARLIER, found, 4, statuses, 4);
     fots_zoned_starts_of_day(zone, seconds, 4, found, 4, statuses, 4);
 }
@@ -409,6 +419,117 @@ static void moves(void)
     check(fots_zoned_day_length(&azores, skipping).duration.seconds == 23 * 3600, "23 hours from 1:00", 0, 0);
 }
 
+/* From the examples of Temporal for startOfDay and disambiguation, by the calendar. */
+static void moved_and_ends(void)
+{
+    const fots_zone berlin = posix(CET), azores = posix("<-01>1<+00>,M3.5.0/0,M10.5.0/1");
+    const fots_date skipping = day(2024, 3, 31), repeating = day(2024, 10, 27), last = {FOTS_MAX_JULIAN_DAY}, none = {FOTS_NO_VALUE};
+    const fots_moment winter = moment(day(2024, 3, 30), 2, 30, 1), second = moment(repeating, 2, 30, 1), noon = moment(skipping, 12, 0, 2);
+    const fots_moment wrong = moment(skipping, 12, 0, 1), invalid = moment(none, 0, 0, 1), at_end = moment(last, 12, 0, 1);
+    fots_moment end = moment(skipping, 23, 59, 2);
+    end.time = FOTS_MAX_TIME;
+    is_moment(fots_zoned_moved_to(&berlin, winter, skipping, FOTS_COMPATIBLE), moment(skipping, 3, 30, 2), "moved into a gap");
+    is_moment(fots_zoned_moved_to(&berlin, winter, repeating, FOTS_COMPATIBLE), moment(repeating, 2, 30, 2), "moved into a fold");
+    is_moment(fots_zoned_moved_to(&berlin, second, repeating, FOTS_REJECT), second, "moved to its own date");
+    is_moment(fots_zoned_start_of(&berlin, noon, FOTS_DAY), moment(skipping, 0, 0, 1), "the start of a day");
+    is_moment(fots_zoned_start_of(&berlin, noon, FOTS_WEEK), moment(day(2024, 3, 25), 0, 0, 1), "the start of a week");
+    is_moment(fots_zoned_start_of(&berlin, noon, FOTS_MONTH), moment(day(2024, 3, 1), 0, 0, 1), "the start of a month");
+    is_moment(fots_zoned_start_of(&berlin, noon, FOTS_QUARTER), moment(day(2024, 1, 1), 0, 0, 1), "the start of a quarter");
+    is_moment(fots_zoned_start_of(&berlin, moment(repeating, 2, 30, 1), FOTS_YEAR), moment(day(2024, 1, 1), 0, 0, 1), "the start of a year");
+    is_moment(fots_zoned_start_of(&azores, moment(skipping, 12, 0, 0), FOTS_DAY), moment(skipping, 1, 0, 0), "a midnight that is skipped");
+    is_moment(fots_zoned_end_of(&berlin, winter, FOTS_MONTH), end, "the end of a month");
+    is_moment(fots_zoned_end_of(&berlin, winter, FOTS_WEEK), end, "the end of a week");
+    is_moment(fots_zoned_end_of(&berlin, winter, FOTS_QUARTER), end, "the end of a quarter");
+    end = moment(day(2024, 12, 31), 0, 0, 1);
+    end.time = FOTS_MAX_TIME;
+    is_moment(fots_zoned_end_of(&berlin, noon, FOTS_YEAR), end, "the end of a year");
+    end = moment(day(2024, 3, 30), 0, 0, -1);
+    end.time = FOTS_MAX_TIME;
+    is_moment(fots_zoned_end_of(&azores, moment(end.date, 12, 0, -1), FOTS_DAY), end, "the end before a gap at midnight");
+    is_not_moment(fots_zoned_moved_to(&berlin, invalid, none, 4), FOTS_INVALID_MOMENT, "no moment on a date");
+    is_not_moment(fots_zoned_moved_to(&berlin, wrong, none, 4), FOTS_WRONG_OFFSET, "another offset on a date");
+    is_not_moment(fots_zoned_moved_to(&berlin, noon, none, 4), FOTS_INVALID_DATE, "on no date");
+    is_not_moment(fots_zoned_moved_to(&berlin, noon, skipping, 4), FOTS_INVALID_POLICY, "on its own date by no policy");
+    is_not_moment(fots_zoned_moved_to(&berlin, winter, skipping, FOTS_REJECT), FOTS_SKIPPED_TIME, "a gap, rejected");
+    is_not_moment(fots_zoned_start_of(&berlin, invalid, 0), FOTS_INVALID_MOMENT, "the start around no moment");
+    is_not_moment(fots_zoned_start_of(&berlin, wrong, 0), FOTS_WRONG_OFFSET, "the start around another offset");
+    is_not_moment(fots_zoned_start_of(&berlin, noon, 0), FOTS_INVALID_UNIT, "the start of no unit");
+    is_not_moment(fots_zoned_end_of(&berlin, invalid, 6), FOTS_INVALID_MOMENT, "the end around no moment");
+    is_not_moment(fots_zoned_end_of(&berlin, wrong, 6), FOTS_WRONG_OFFSET, "the end around another offset");
+    is_not_moment(fots_zoned_end_of(&berlin, noon, 6), FOTS_INVALID_UNIT, "the end of no unit");
+    is_not_moment(fots_zoned_end_of(&berlin, at_end, FOTS_YEAR), FOTS_RESULT_OUT_OF_RANGE, "the end of the last year");
+}
+
+static void is_period(fots_exact_period_result found, fots_period wanted, const char *what)
+{
+    check(found.status == FOTS_OK && found.period.years == wanted.years && found.period.months == wanted.months && found.period.weeks == wanted.weeks
+        && found.period.days == wanted.days && found.period.duration.seconds == wanted.duration.seconds
+        && found.period.duration.nanoseconds == wanted.duration.nanoseconds, what, found.period.days, found.period.duration.seconds);
+}
+
+/* From 2019-01-31 15:30 to 2020-03-01 9:00, which are 394 days and 17:30 h apart, by each unit, and back. */
+static void periods_between(void)
+{
+    const fots_date from = day(2019, 1, 31), to = day(2020, 3, 1), none = {FOTS_NO_VALUE};
+    const fots_time start = half_past(15), end = half_past(9) - UINT64_C(1800000000000);
+    const int64_t rest = 17 * 3600 + 1800;
+    is_period(fots_pair_period_until(from, start, to, end, FOTS_DAY), period(0, 0, 0, 394, rest), "days");
+    is_period(fots_pair_period_until(from, start, to, end, FOTS_WEEK), period(0, 0, 56, 2, rest), "weeks");
+    is_period(fots_pair_period_until(from, start, to, end, FOTS_MONTH), period(0, 13, 0, 0, rest), "months");
+    is_period(fots_pair_period_until(from, start, to, end, FOTS_YEAR), period(1, 1, 0, 0, rest), "years");
+    is_period(fots_pair_period_until(to, end, from, start, FOTS_DAY), period(0, 0, 0, -394, -rest), "back");
+    is_period(fots_pair_period_until(to, end, to, end, FOTS_YEAR), period(0, 0, 0, 0, 0), "nothing");
+    const fots_pair_result second_month = fots_pair_nth_period(from, start, period(0, 1, 0, 0, 60), 2);
+    check(second_month.date.julian_day == day(2019, 3, 31).julian_day && second_month.time == start + UINT64_C(120000000000), "two months at once", second_month.status, 0);
+    check(fots_pair_step_of(from, start, period(0, 1, 0, 0, 0), day(2019, 2, 28), start - 1).number == 0, "step 0", 0, 0);
+    check(fots_pair_step_of(from, start, period(0, 1, 0, 0, 0), day(2019, 2, 28), start).number == 1, "step 1", 0, 0);
+    check(fots_pair_step_of(from, start, period(0, 0, 0, 0, 1800), to, end).number == (394 * 24 * 2 + 35), "steps of half an hour", 0, 0);
+    check(fots_pair_step_of(to, start, period(0, 1, 0, 0, 0), to, end).status == FOTS_RESULT_OUT_OF_RANGE, "before the start", 0, 0);
+    check(fots_pair_step_of(from, start, period(0, 0, 0, 0, 0), to, end).status == FOTS_RESULT_OUT_OF_RANGE, "steps of nothing", 0, 0);
+    check(fots_pair_step_of(none, start, period(1, -1, 0, 0, 0), none, end).status == FOTS_INVALID_DATE, "from no date", 0, 0);
+    check(fots_pair_step_of(from, FOTS_NO_TIME, period(1, -1, 0, 0, 0), none, end).status == FOTS_INVALID_TIME, "from no time", 0, 0);
+    check(fots_pair_step_of(from, start, period(1, -1, 0, 0, 0), none, end).status == FOTS_INVALID_PERIOD, "two signs", 0, 0);
+    check(fots_pair_step_of(from, start, period(1, 0, 0, 0, 0), none, end).status == FOTS_INVALID_DATE, "no date", 0, 0);
+    check(fots_pair_step_of(from, start, period(1, 0, 0, 0, 0), to, FOTS_NO_TIME).status == FOTS_INVALID_TIME, "no time", 0, 0);
+    check(fots_pair_nth_period(none, FOTS_NO_TIME, period(1, -1, 0, 0, 0), 1).status == FOTS_INVALID_DATE, "no date", 0, 0);
+    check(fots_pair_nth_period(from, FOTS_NO_TIME, period(1, -1, 0, 0, 0), 1).status == FOTS_INVALID_TIME, "no time", 0, 0);
+    check(fots_pair_nth_period(from, start, period(1, -1, 0, 0, 0), 1).status == FOTS_INVALID_PERIOD, "two signs", 0, 0);
+    check(fots_pair_nth_period(from, start, period(1, 0, 0, 0, 0), INT32_MAX).status == FOTS_RESULT_OUT_OF_RANGE, "past the range", 0, 0);
+    check(fots_pair_period_until(none, FOTS_NO_TIME, none, FOTS_NO_TIME, 0).status == FOTS_INVALID_DATE, "from no date", 0, 0);
+    check(fots_pair_period_until(from, FOTS_NO_TIME, none, FOTS_NO_TIME, 0).status == FOTS_INVALID_TIME, "from no time", 0, 0);
+    check(fots_pair_period_until(from, 0, none, FOTS_NO_TIME, 0).status == FOTS_INVALID_DATE, "to no date", 0, 0);
+    check(fots_pair_period_until(from, 0, to, FOTS_NO_TIME, 0).status == FOTS_INVALID_TIME, "to no time", 0, 0);
+    check(fots_pair_period_until(from, 0, to, 0, 0).status == FOTS_INVALID_UNIT, "by no unit", 0, 0);
+    check(fots_pair_period_until(from, 0, to, 0, 0).period.years == FOTS_NO_VALUE, "no period", 0, 0);
+}
+
+/* Periods in a zone: the example of Temporal for a day of 23 hours, and others by the calendar. */
+static void zoned_periods(void)
+{
+    const fots_zone berlin = posix(CET);
+    const fots_date skipping = day(2024, 3, 31), none = {FOTS_NO_VALUE};
+    const fots_moment noon = moment(day(2024, 3, 30), 12, 0, 1), later = moment(skipping, 13, 0, 2), january = moment(day(2024, 1, 31), 2, 30, 1);
+    const fots_moment wrong = moment(skipping, 12, 0, 1), invalid = moment(none, 0, 0, 1);
+    const fots_period month = period(0, 1, 0, 0, 0), mixed = period(1, -1, 0, 0, 0);
+    is_period(fots_zoned_period_until(&berlin, noon, later, FOTS_DAY, FOTS_COMPATIBLE), period(0, 0, 0, 1, 3600), "a day and an hour");
+    is_period(fots_zoned_period_until(&berlin, later, noon, FOTS_DAY, FOTS_COMPATIBLE), period(0, 0, 0, -1, -3600), "back");
+    is_period(fots_zoned_period_until(&berlin, january, moment(skipping, 3, 30, 2), FOTS_MONTH, FOTS_COMPATIBLE), period(0, 2, 0, 0, 0), "two months");
+    is_moment(fots_zoned_nth_period(&berlin, january, month, 2, FOTS_COMPATIBLE), moment(skipping, 3, 30, 2), "two months at once");
+    is_moment(fots_zoned_nth_period(&berlin, january, month, -1, FOTS_REJECT), moment(day(2023, 12, 31), 2, 30, 1), "a month back");
+    is_moment(fots_zoned_nth_period(&berlin, january, month, 0, FOTS_REJECT), january, "no month");
+    is_not_moment(fots_zoned_nth_period(&berlin, invalid, mixed, 1, 4), FOTS_INVALID_MOMENT, "after no moment");
+    is_not_moment(fots_zoned_nth_period(&berlin, wrong, mixed, 1, 4), FOTS_WRONG_OFFSET, "after another offset");
+    is_not_moment(fots_zoned_nth_period(&berlin, january, mixed, 1, 4), FOTS_INVALID_PERIOD, "two signs");
+    is_not_moment(fots_zoned_nth_period(&berlin, january, month, 1, 4), FOTS_INVALID_POLICY, "by no policy");
+    is_not_moment(fots_zoned_nth_period(&berlin, january, month, 2, FOTS_REJECT), FOTS_SKIPPED_TIME, "into a gap");
+    check(fots_zoned_period_until(&berlin, invalid, invalid, 0, 4).status == FOTS_INVALID_MOMENT, "from no moment", 0, 0);
+    check(fots_zoned_period_until(&berlin, wrong, invalid, 0, 4).status == FOTS_WRONG_OFFSET, "from another offset", 0, 0);
+    check(fots_zoned_period_until(&berlin, noon, invalid, 0, 4).status == FOTS_INVALID_MOMENT, "to no moment", 0, 0);
+    check(fots_zoned_period_until(&berlin, noon, wrong, 0, 4).status == FOTS_WRONG_OFFSET, "to another offset", 0, 0);
+    check(fots_zoned_period_until(&berlin, noon, later, 0, 4).status == FOTS_INVALID_UNIT, "by no unit", 0, 0);
+    check(fots_zoned_period_until(&berlin, noon, later, 1, 4).status == FOTS_INVALID_POLICY, "by no policy", 0, 0);
+}
+
 static void periods(void)
 {
     const fots_date january = day(2024, 1, 31);
@@ -474,12 +595,19 @@ static void wrong_moves(void)
     check(fots_pair_add_period(last, 0, exact).status == FOTS_RESULT_OUT_OF_RANGE, "a pair past the range", 0, 0);
 }
 
+/* Days that don't fit in 32 bits go past the range either way. */
+static int32_t clamped(int64_t days)
+{
+    return (int32_t)(days < INT32_MIN ? INT32_MIN : days > INT32_MAX ? INT32_MAX : days);
+}
+
 /* Each row of a column is the result of the single calls. */
 static void moved_columns(const fots_zone *zone)
 {
     enum { ROWS_OF_COLUMN = 4096 };
     static int64_t seconds[ROWS_OF_COLUMN], moved[ROWS_OF_COLUMN], starts[ROWS_OF_COLUMN];
     static int32_t steps[ROWS_OF_COLUMN];
+    static int64_t days[ROWS_OF_COLUMN];
     static uint8_t statuses[ROWS_OF_COLUMN], start_statuses[ROWS_OF_COLUMN];
     uint64_t state = 88172645463325252ULL;
     for (int k = 0; k < ROWS_OF_COLUMN; k++) {
@@ -488,20 +616,24 @@ static void moved_columns(const fots_zone *zone)
         state ^= state << 17;
         const fots_int64_result change = fots_zone_next_change(zone, (int64_t)(state % 4000000000ULL));
         seconds[k] = (change.status == FOTS_OK ? change.number : 0) + (int64_t)(state >> 40) % 200000 - 100000;
-        steps[k] = (int32_t)(state >> 20) % 50 - 25;
+        days[k] = steps[k] = (int32_t)(state >> 20) % 50 - 25;
     }
     seconds[0] = INT64_MIN;
     seconds[1] = INT64_MAX;
-    steps[2] = INT32_MAX;
+    days[2] = steps[2] = INT32_MAX;
+    days[3] = INT64_MAX;
+    days[4] = INT64_MIN;
+    days[5] = (int64_t)1 << 32;
     for (uint32_t policy = 0; policy <= 4; policy++) {
         for (int months = 0; months < 2; months++) {
             size_t errors = 0;
-            const size_t found = (months ? fots_zoned_add_months : fots_zoned_add_days)(zone, seconds, ROWS_OF_COLUMN, steps, ROWS_OF_COLUMN, policy, moved,
-                ROWS_OF_COLUMN, statuses, ROWS_OF_COLUMN);
+            const size_t found = months
+                ? fots_zoned_add_months(zone, seconds, ROWS_OF_COLUMN, steps, ROWS_OF_COLUMN, policy, moved, ROWS_OF_COLUMN, statuses, ROWS_OF_COLUMN)
+                : fots_zoned_add_days(zone, seconds, ROWS_OF_COLUMN, days, ROWS_OF_COLUMN, policy, moved, ROWS_OF_COLUMN, statuses, ROWS_OF_COLUMN);
             for (int k = 0; k < ROWS_OF_COLUMN; k++) {
                 const fots_duration time = {seconds[k], 0};
                 const fots_moment_result from = fots_zoned_at(zone, time);
-                const fots_moment_result one = fots_zoned_add_period(zone, from.moment, months ? period(0, steps[k], 0, 0, 0) : period(0, 0, 0, steps[k], 0), policy);
+                const fots_moment_result one = fots_zoned_add_period(zone, from.moment, months ? period(0, steps[k], 0, 0, 0) : period(0, 0, 0, clamped(days[k]), 0), policy);
                 const int32_t status = policy > 3 ? FOTS_INVALID_POLICY : from.status ? from.status : one.status;
                 check(statuses[k] == status && moved[k] == (status ? INT64_MIN : fots_moment_unix_timestamp(one.moment).number), "a moved row", k, statuses[k]);
                 errors += status != FOTS_OK;
@@ -517,7 +649,7 @@ static void moved_columns(const fots_zone *zone)
         check(start_statuses[k] == status && starts[k] == (status ? INT64_MIN : fots_moment_unix_timestamp(one.moment).number), "a start of a day", k, status);
         check(status || starts[k] <= seconds[k], "a start after its day", k, starts[k]);
     }
-    check(fots_zoned_add_days(zone, seconds, 2, steps, 1, 0, moved, 2, statuses, 2) == SIZE_MAX, "unequal lengths", 0, 0);
+    check(fots_zoned_add_days(zone, seconds, 2, days, 1, 0, moved, 2, statuses, 2) == SIZE_MAX, "unequal lengths", 0, 0);
     check(fots_zoned_add_months(zone, seconds, 2, steps, 2, 0, moved, 1, statuses, 2) == SIZE_MAX, "unequal lengths", 0, 0);
     check(fots_zoned_starts_of_day(zone, seconds, 2, starts, 2, statuses, 1) == SIZE_MAX, "unequal lengths", 0, 0);
 }
@@ -531,6 +663,9 @@ int main(int count, char **arguments)
     lenient();
     equal_bytes();
     moves();
+    moved_and_ends();
+    periods_between();
+    zoned_periods();
     periods();
     wrong_moves();
     const fots_zone berlin = posix(CET);

@@ -402,10 +402,30 @@ void zoned()
     check(start.start_of_day().unix_timestamp() == 1711839600 && start.day_length() == Duration::hours(23), "a day of 23 hours");
     check(berlin.day_length(repeating) == Duration::hours(25) && berlin.start_of_day(repeating).local().time() == Time(0), "a day of 25 hours");
     check(start.format(Format("%H:%M %Z")) == "03:00 CEST" && start.to_offset_date_time().local() == start.local(), "a text");
+    const ZonedDateTime before = ZonedDateTime::from_local({Date::parse("2024-03-30"), Time::from_hms(2, 30, 0)}, berlin);
+    check(before.moved_to(skipping).time() == Time::from_hms(3, 30, 0) && second.moved_to(repeating) == second, "on another date");
+    check(start.start_of(CalendarUnit::Month).local() == PlainDateTime(Date::parse("2024-03-01"), Time(0)), "the start of a month");
+    check(before.end_of(CalendarUnit::Week).local() == PlainDateTime(skipping, Time(FOTS_MAX_TIME)), "the end of a week");
+    check(before.nth_period(Period::from_days(1), 2).local() == PlainDateTime(Date::parse("2024-04-01"), Time::from_hms(2, 30, 0)), "two days at once");
+    check(before.period_until(start, CalendarUnit::Day) == Period(0, 0, 0, 0, Duration::of(84600, 0)), "less than a day");
+    check(before.period_until(second.in_zone(utc), CalendarUnit::Month) == Period(0, 6, 0, 27, Duration::hours(1)), "the period until a date-time");
     const InstantColumn days = berlin.add_days({1711846800, 1711760400}, {1, 1}), months = berlin.add_months({1711846800}, {1});
     check(days.seconds == std::vector<std::int64_t>{1711933200, 1711846800} && days.errors == 0, "a column of days");
     check(months.seconds == std::vector<std::int64_t>{1714438800} && berlin.starts_of_day({1711846800}).seconds[0] == 1711839600, "columns");
     check(berlin.add_days({}, {}).errors == 0 && berlin.starts_of_day({}).errors == 0, "no rows");
+}
+
+// The examples of Temporal.
+void rounding()
+{
+    const Time time = Time::from_hms_nano(19, 39, 9, 68346205);
+    const PlainDateTime local(Date::parse("1995-12-07"), Time::from_hms_nano(3, 24, 30, 3500));
+    check(time.round(Duration::hours(1), RoundingMode::HalfCeil) == Time::from_hms(20, 0, 0), "a time to an hour");
+    check(time.round(Duration::minutes(30), RoundingMode::Floor) == Time::from_hms(19, 30, 0), "a time down");
+    check(local.round(Duration::minutes(30), RoundingMode::HalfCeil).time() == Time::from_hms(3, 30, 0), "a local date-time");
+    check(local.assume_utc().round(Duration::hours(24), RoundingMode::Ceil).date() == Date::parse("1995-12-08"), "a date-time at an offset");
+    check(Duration::seconds(-90).round(Duration::minutes(1), RoundingMode::HalfEven) == Duration::minutes(-2), "a duration");
+    throws([&] { time.round(Duration::minutes(7), RoundingMode::Ceil); }, FOTS_INVALID_ROUNDING_UNIT, "invalid rounding unit", "7 minutes");
 }
 
 // The current time is between two readings of another clock of the system.
@@ -433,6 +453,7 @@ void periods()
     check(month == Period(0, 1, 0, 0) && month != day && Period::from_years(1) != Period::from_months(12), "equality");
     const PlainDateTime night(january, Time::from_hms(23, 30, 0));
     check(night.checked_add_period(Period(0, 1, 0, 0, Duration::hours(2))) == PlainDateTime(Date::parse("2024-03-01"), Time::from_hms(1, 30, 0)), "a pair");
+    check(night.period_until({Date::parse("2024-03-01"), Time(0)}, CalendarUnit::Month) == Period(0, 1, 0, 0, Duration::minutes(30)), "the period between pairs");
     std::vector<Date> days;
     for (const Date step : Steps(january, month)) {
         if (step > Date::parse("2024-04-30")) {
@@ -441,6 +462,10 @@ void periods()
         days.push_back(step);
     }
     check(days == std::vector<Date>{january, Date::parse("2024-02-29"), Date::parse("2024-03-31"), Date::parse("2024-04-30")}, "steps of a month");
+    check(night.nth_period(month, 2) == PlainDateTime(Date::parse("2024-03-31"), Time::from_hms(23, 30, 0)), "two months after a pair");
+    check(night.step_of(month, *night.nth_period(month, 3)) == 3 && night.step_of(day, PlainDateTime(january, Time(0))) == std::nullopt, "the step of a pair");
+    const Steps<PlainDateTime> hours(night, Period::from_duration(Duration::hours(1)));
+    check(*++hours.begin() == PlainDateTime(Date::parse("2024-02-01"), Time::from_hms(0, 30, 0)), "steps of an hour");
     const Steps<Date> last(Date::max(), day);
     check(std::distance(last.begin(), last.end()) == 1 && *last.begin() == Date::max(), "the steps end with the range");
     bool is_rejected = false;
@@ -570,6 +595,7 @@ int main()
     zones();
     zoned();
     current_time();
+    rounding();
     periods();
     named_zones();
     times_of_day();

@@ -10,7 +10,7 @@ use std::path::{Path, PathBuf};
 use std::process::ExitCode;
 
 /// The libraries, as modules of the crate.
-const CRATES: [&str; 14] = [
+const CRATES: [&str; 15] = [
     "cal_units",
     "cal_span",
     "cal_clock",
@@ -23,6 +23,7 @@ const CRATES: [&str; 14] = [
     "cal_zone",
     "cal_tzif",
     "cal_zoned",
+    "cal_rounding",
     "cal_recurrence",
     "cal_c",
 ];

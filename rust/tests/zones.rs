@@ -118,14 +118,17 @@ fn columns_of_moves() {
     let berlin = Zone::parse_posix("CET-1CEST,M3.5.0,M10.5.0/3").unwrap();
     let rows: Vec<i64> = (0..4000).map(|row| 1_711_846_800 - 200_000 + 37 * 60 * row).chain([i64::MIN, i64::MAX]).collect();
     let steps: Vec<i32> = (0..).map(|row| row % 50 - 25).take(rows.len()).collect();
+    let days: Vec<i64> = steps.iter().map(|&step| step.into()).collect();
     let (mut moved, mut statuses) = (vec![0; rows.len()], vec![0; rows.len()]);
     let at = |seconds: i64| ZonedDateTime::from_unix_timestamp_nanos(i128::from(seconds) * 1_000_000_000, &berlin);
     let seconds_of = |moment: ZonedDateTime<'_>| i64::try_from(moment.unix_timestamp_nanos() / 1_000_000_000).unwrap();
     for policy in [Policy::Compatible, Policy::Earlier, Policy::Later, Policy::Reject] {
         for period in [Period::from_days as fn(i32) -> Period, Period::from_months] {
-            let is_days = period(1) == Period::from_days(1);
-            let column = if is_days { zoned_add_days } else { zoned_add_months };
-            let errors = column(&berlin, &rows, &steps, policy, &mut moved, &mut statuses);
+            let errors = if period(1) == Period::from_days(1) {
+                zoned_add_days(&berlin, &rows, &days, policy, &mut moved, &mut statuses)
+            } else {
+                zoned_add_months(&berlin, &rows, &steps, policy, &mut moved, &mut statuses)
+            };
             let singles =
                 rows.iter().zip(&steps).map(|(&row, &step)| at(row)?.checked_add_period(period(step), policy).ok().map(seconds_of));
             let singles: Vec<Option<i64>> = singles.collect();
@@ -134,6 +137,7 @@ fn columns_of_moves() {
             assert_eq!(found.collect::<Vec<_>>(), singles);
         }
     }
+    assert_eq!(zoned_add_days(&berlin, &[0; 3], &[i64::MIN, 1 << 32, i64::MAX], Policy::Later, &mut [0; 3], &mut [0; 3]), 3);
     assert_eq!(zoned_starts_of_day(&berlin, &rows, &mut moved, &mut statuses), 2);
     for (&row, &start) in rows.iter().zip(&moved).take(4000) {
         assert_eq!(at(row).unwrap().start_of_day().map(seconds_of), Some(start));

@@ -24,6 +24,8 @@ pub mod Periods
 pub mod OnePass
 pub mod IsoDates
 pub mod OneZone
+pub mod OneZoned
+pub mod Stable
 pub mod FormatItems
 pub mod FormatPrinting
 pub mod FormatParsing

@@ -3,8 +3,8 @@ use Rattle.std.proofs.Common.{◌≡◌, ◌∙◌, sym, ap, subst, ℕ}
 use Rattle.std.specs.Prelude.{Option, Some, None, SomeIff, ℤ}
 use Rattle.cal_datetime.specs.DateTime.{IsDateTime, date_at, time_at}
 use Rattle.cal_schedule.specs.Period.{parts, Parts, IsOneSign}
-use Rattle.cal_zoned.specs.Period.{IsLater}
-use Rattle.cal_c.specs.Periods.{parts_in, IsPairAfter, IsPeriod}
+use Rattle.cal_zoned.specs.Period.{IsLaterBy}
+use Rattle.cal_c.specs.Periods.{parts_in, IsPairAfterBy, IsPeriod}
 use Rattle.cal_c.specs.Results.{pair_at_local, pair_error, pair_ok}
 use Rattle.cal_c.specs.declared.results.PairResult.{PairResult}
 use Rattle.cal_c.specs.declared.status.TheConstants.{RESULT_OUT_OF_RANGE}
@@ -29,14 +29,14 @@ value_or : ℤ → Option ℤ → ℤ
 value_or z None = z
 value_or z (Some l) = l
 
-pub no_pair : (z : ℤ) (p : Parts) (r : PairResult) → ((l : ℤ) → IsDateTime l → IsLater z p l → None ≡ Some l) → r ≡ pair_error RESULT_OUT_OF_RANGE → IsPairAfter z p r
+pub no_pair : (z m d e : ℤ) (r : PairResult) → ((l : ℤ) → IsDateTime l → IsLaterBy z m d e l → None ≡ Some l) → r ≡ pair_error RESULT_OUT_OF_RANGE → IsPairAfterBy z m d e r
 unfolding IsNone
-no_pair z p r every e = record { every = λ l inside later. absurd (subst IsNone (every l inside later) tt); none = λ _. e }
+no_pair z m d e r every is = record { every = λ l inside later. absurd (subst IsNone (every l inside later) tt); none = λ _. is }
 
-pub pair_is : (z later : ℤ) (d t : ℕ) (p : Parts) (r : PairResult) → d ≡ date_at later → t ≡ time_at later → r ≡ pair_ok d t → IsDateTime later → IsLater z p later
-    → ((l : ℤ) → IsDateTime l → IsLater z p l → Some later ≡ Some l) → IsPairAfter z p r
+pub pair_is : (z m d e later : ℤ) (n t : ℕ) (r : PairResult) → n ≡ date_at later → t ≡ time_at later → r ≡ pair_ok n t → IsDateTime later → IsLaterBy z m d e later
+    → ((l : ℤ) → IsDateTime l → IsLaterBy z m d e l → Some later ≡ Some l) → IsPairAfterBy z m d e r
 unfolding value_or
-pair_is z later d t p r day time e within moved every = record {
-  every = λ l inside h. e ∙ ap (λ (n : ℕ). pair_ok n t) day ∙ ap (λ (n : ℕ). pair_ok (date_at later) n) time ∙ ap pair_at_local (ap (value_or z) (every l inside h));
+pair_is z m d e later n t r day time is within moved every = record {
+  every = λ l inside h. is ∙ ap (λ (n : ℕ). pair_ok n t) day ∙ ap (λ (n : ℕ). pair_ok (date_at later) n) time ∙ ap pair_at_local (ap (value_or z) (every l inside h));
   none = λ no. absurd (no later within moved);
 }

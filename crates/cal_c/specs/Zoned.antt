@@ -5,18 +5,22 @@ use Rattle.cal_time.specs.Time.{IsTime}
 use Rattle.cal_datetime.specs.DateTime.{IsDateTime, date_at, date_time}
 use Rattle.cal_datetime.specs.OffsetDateTime.{instant, unix_epoch, unix_seconds}
 use Rattle.cal_schedule.specs.Period.{Parts}
+use Rattle.cal_schedule.specs.declared.unit.CalendarUnit.{CalendarUnit}
 use Rattle.cal_zone.specs.Local.{Shows}
 use Rattle.cal_zone.specs.Timeline.{Timeline}
 use Rattle.cal_zone.specs.declared.local_time_error.LocalTimeError.{LocalTimeError}
 use Rattle.cal_zone.specs.declared.policy.Policy.{Policy}
 use Rattle.cal_zoned.specs.Day.{HasDayLength, IsDayLength, IsStart}
-use Rattle.cal_zoned.specs.Period.{IsPeriodLater}
+use Rattle.cal_zoned.specs.Moves.{end_before, IsMovedTo, IsNextStart, IsStartOf}
+use Rattle.cal_zoned.specs.Period.{IsNthPeriodLater, IsPeriodLater}
 use Rattle.cal_zoned.specs.Resolved.{IsKept, IsResolved}
 use Rattle.cal_zoned.specs.Unchecked.{in_zone}
-use Rattle.cal_zoned.specs.Zoned.{InZone, at_instant, reading_at, IsSeen}
+use Rattle.cal_zoned.specs.Until.{IsUntilInZone}
+use Rattle.cal_zoned.specs.Zoned.{InZone, at_instant, instant_in, reading_at, IsSeen}
 use Rattle.cal_c.specs.Moments.{local_and_offset_in, local_in, moment_error, moment_ok, IsMoment}
-use Rattle.cal_c.specs.Periods.{parts_in, IsPeriod}
+use Rattle.cal_c.specs.Periods.{exact_period_error, parts_in, IsExactPeriodWith, IsPeriod}
 use Rattle.cal_c.specs.Results.{duration_error, duration_ok, int64_error, int64_ok}
+use Rattle.cal_c.specs.Schedule.{unit_number, IsUnit}
 use Rattle.cal_c.specs.Values.{need◌else◌then◌, day_of, nanoseconds_in, IsDurationPair, IsJulianDay}
 use Rattle.cal_c.specs.Zones.{local_time_status, policy_number, IsForZone, IsPolicy}
 use Rattle.cal_c.specs.declared.results.Duration.{Duration}
@@ -24,8 +28,9 @@ use Rattle.cal_c.specs.declared.results.DurationResult.{DurationResult}
 use Rattle.cal_c.specs.declared.results.Int64Result.{Int64Result}
 use Rattle.cal_c.specs.declared.results.Moment.{Moment}
 use Rattle.cal_c.specs.declared.results.MomentResult.{MomentResult}
+use Rattle.cal_c.specs.declared.schedule.pair_periods.ExactPeriodResult.{ExactPeriodResult}
 use Rattle.cal_c.specs.declared.schedule.periods.PeriodParts.{PeriodParts}
-use Rattle.cal_c.specs.declared.status.TheConstants.{INVALID_DATE, INVALID_DURATION, INVALID_MOMENT, INVALID_PERIOD, INVALID_POLICY, INVALID_TIME, INVALID_ZONE, RESULT_OUT_OF_RANGE, WRONG_OFFSET}
+use Rattle.cal_c.specs.declared.status.TheConstants.{INVALID_DATE, INVALID_DURATION, INVALID_MOMENT, INVALID_PERIOD, INVALID_POLICY, INVALID_TIME, INVALID_UNIT, INVALID_ZONE, RESULT_OUT_OF_RANGE, WRONG_OFFSET}
 use Rattle.cal_c.specs.declared.zones.checked_zone.CheckedZone.{CheckedZone}
 
 -- The offset of a moment is the offset of the zone at its instant.
@@ -110,6 +115,32 @@ IsPeriodLaterResult z moment period policy r =
     (p : Policy) × (policy_number p ≡ policy)
     × IsZonedWith (IsPeriodLater p (zoned_in z moment) (parts_in period)) r
 
+-- A moment a period later, n times at once.
+abbrev pub IsNthPeriodResult : Timeline → Moment → PeriodParts → ℤ → ℕ → MomentResult → Type 0
+IsNthPeriodResult z moment period n policy r =
+    need IsMoment moment else r ≡ moment_error INVALID_MOMENT then
+    need IsInZone z moment else r ≡ moment_error WRONG_OFFSET then
+    need IsPeriod period else r ≡ moment_error INVALID_PERIOD then
+    need IsPolicy policy else r ≡ moment_error INVALID_POLICY then
+    (p : Policy) × (policy_number p ≡ policy)
+    × IsZonedWith (IsNthPeriodLater p (zoned_in z moment) (parts_in period) n) r
+
+-- The period from a date-time in a zone to a moment, counted by a unit.
+abbrev pub IsUntilFrom : Timeline → InZone → Moment → ℕ → ℕ → ExactPeriodResult → Type 0
+IsUntilFrom z from other unit policy r =
+    need IsMoment other else r ≡ exact_period_error INVALID_MOMENT then
+    need IsInZone z other else r ≡ exact_period_error WRONG_OFFSET then
+    need IsUnit unit else r ≡ exact_period_error INVALID_UNIT then
+    need IsPolicy policy else r ≡ exact_period_error INVALID_POLICY then
+    (u : CalendarUnit) × (unit_number u ≡ unit) × ((p : Policy) × (policy_number p ≡ policy) × IsExactPeriodWith (IsUntilInZone p u from (zoned_in z other)) r)
+
+-- The same from a moment.
+abbrev pub IsUntilInZoneResult : Timeline → Moment → Moment → ℕ → ℕ → ExactPeriodResult → Type 0
+IsUntilInZoneResult z moment other unit policy r =
+    need IsMoment moment else r ≡ exact_period_error INVALID_MOMENT then
+    need IsInZone z moment else r ≡ exact_period_error WRONG_OFFSET then
+    IsUntilFrom z (zoned_in z moment) other unit policy r
+
 -- The start of a date, and the length of its day.
 abbrev pub IsStartOfDate : Timeline → ℤ → MomentResult → Type 0
 IsStartOfDate z date r =
@@ -120,6 +151,42 @@ abbrev pub IsLengthOfDate : Timeline → ℤ → DurationResult → Type 0
 IsLengthOfDate z date r =
     need IsJulianDay date else r ≡ duration_error INVALID_DATE then
     IsDayLengthResult z (day_of date) r
+
+-- A moment moved to another date by the calendar.
+abbrev pub IsMovedToDate : Timeline → Moment → ℤ → ℕ → MomentResult → Type 0
+IsMovedToDate z moment date policy r =
+    need IsMoment moment else r ≡ moment_error INVALID_MOMENT then
+    need IsInZone z moment else r ≡ moment_error WRONG_OFFSET then
+    need IsJulianDay date else r ≡ moment_error INVALID_DATE then
+    need IsPolicy policy else r ≡ moment_error INVALID_POLICY then
+    (p : Policy) × (policy_number p ≡ policy)
+    × IsZonedWith (IsMovedTo p (zoned_in z moment) (day_of date)) r
+
+-- The start of the unit that a date-time in a zone is in.
+abbrev pub IsStartOfUnitResult : CalendarUnit → InZone → MomentResult → Type 0
+IsStartOfUnitResult unit m r = (its : Option InZone) × IsStartOf unit m its × (r ≡ start_or_error its)
+
+-- Its end, or out of range if it has none.
+pub data IsEndResult (unit : CalendarUnit) (m : InZone) (r : MomentResult) : Type 0 where
+  end : (s : InZone) → IsNextStart unit m s → IsDateTime (reading_at s.zone (instant_in s -ℤ pos 1))
+      → r ≡ moment_ok (end_before s).moment → IsEndResult unit m r
+  none : ((s : InZone) → IsNextStart unit m s → ¬ IsDateTime (reading_at s.zone (instant_in s -ℤ pos 1)))
+      → r ≡ moment_error RESULT_OUT_OF_RANGE → IsEndResult unit m r
+
+-- The same for a moment and the number of a unit.
+abbrev pub IsStartOfUnit : Timeline → Moment → ℕ → MomentResult → Type 0
+IsStartOfUnit z moment unit r =
+    need IsMoment moment else r ≡ moment_error INVALID_MOMENT then
+    need IsInZone z moment else r ≡ moment_error WRONG_OFFSET then
+    need IsUnit unit else r ≡ moment_error INVALID_UNIT then
+    (its : CalendarUnit) × (unit_number its ≡ unit) × IsStartOfUnitResult its (zoned_in z moment) r
+
+abbrev pub IsEndOfUnit : Timeline → Moment → ℕ → MomentResult → Type 0
+IsEndOfUnit z moment unit r =
+    need IsMoment moment else r ≡ moment_error INVALID_MOMENT then
+    need IsInZone z moment else r ≡ moment_error WRONG_OFFSET then
+    need IsUnit unit else r ≡ moment_error INVALID_UNIT then
+    (its : CalendarUnit) × (unit_number its ≡ unit) × IsEndResult its (zoned_in z moment) r
 
 -- ---- columns
 -- The instant of a Unix time in seconds.

@@ -75,6 +75,7 @@ mod moment;
 mod offset;
 mod pair;
 mod results;
+mod rounding;
 mod schedule;
 mod status;
 mod texts;

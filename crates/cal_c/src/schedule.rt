@@ -2,14 +2,16 @@
 //! recurrences.
 
 mod date_list;
-mod date_ranges;
+pub mod date_ranges;
+pub mod laws;
 mod months;
 mod period_ends;
+pub mod pair_periods;
 pub mod periods;
 mod recurrences;
 mod results;
 mod steps;
-mod units;
+pub mod units;
 mod until;
 mod weekdays;
 pub mod workdays;

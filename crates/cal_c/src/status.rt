@@ -208,6 +208,12 @@ pub const INVALID_UNIT: i32 = 71;
 /// A date of the range is invalid, or its end is before its start.
 pub const INVALID_RANGE: i32 = 72;
 
+/// The unit of rounding is not positive, or doesn't divide a day.
+pub const INVALID_ROUNDING_UNIT: i32 = 73;
+
+/// The mode of rounding is not from 0, `Floor`, to 4, `HalfEven`.
+pub const INVALID_ROUNDING_MODE: i32 = 74;
+
 /// Returns the status of an error, by its component.
 pub fn error_status(error: ComponentRange) -> i32
     ensures { result ≡ component_status error.component }

@@ -6,10 +6,12 @@
 pub mod changes;
 pub mod checked_zone;
 pub mod laws;
+mod moves;
 mod offsets;
 pub mod parsing;
 pub mod policy;
 mod printing;
 mod resolution;
 pub mod results;
+mod until;
 mod zoned;

@@ -1,5 +1,6 @@
 //! Columns of Unix times in one zone, moved by its clocks.
 ghost use Rattle.std.specs.Prelude.{◌≡◌, pos, ◌∷◌, [], length, MatchOption, SomeIff};
+ghost use Rattle.std.specs.Int.{int_max, int_min};
 ghost use Rattle.cal_datetime.specs.DateTime.{IsDateTime};
 ghost use Rattle.cal_schedule.specs.Period.{parts};
 ghost use Rattle.cal_zone.specs.Timeline.{Timeline, InOrder};
@@ -31,7 +32,7 @@ const NO_TIME: i64 = i64::MIN;
 pub extern "C" fn fots_zoned_add_days(
     zone: &CheckedZone<'_>,
     seconds: &[i64],
-    days: &[i32],
+    days: &[i64],
     policy: u32,
     moved: &mut [i64],
     statuses: &mut [u8],
@@ -92,14 +93,21 @@ pub extern "C" fn fots_zoned_starts_of_day(
 }
 
 /// Returns the row of a Unix time plus days.
-fn row_of_days(seconds: i64, days: i32, resolver: &Resolver<'_>) -> (i64, u8)
+fn row_of_days(seconds: i64, days: i64, resolver: &Resolver<'_>) -> (i64, u8)
     ensures { MatchOption resolver.now.zone (int64_row result.0 result.1 ≡ int64_error INVALID_ZONE)
         (λ z. InOrder z → MatchOption resolver.now.policy
         (int64_row result.0 result.1 ≡ int64_error INVALID_POLICY)
         (λ policy. IsLaterSeconds z seconds (parts (pos 0) (pos 0) (pos 0) days (pos 0)) policy
         (int64_row result.0 result.1))) }
 {
-    row_after(seconds, Period::from_days(days), resolver)
+    row_after(seconds, Period::from_days(clamped_days(days)), resolver)
+}
+
+/// Clamps days to 32 bits. Days that don't fit go past the range either way.
+fn clamped_days(days: i64) -> i32
+    ensures { result ≡ int_min (int_max days i32.MIN) i32.MAX }
+{
+    days.max(i64::from(i32::MIN)).min(i64::from(i32::MAX)) as i32
 }
 
 /// Returns the row of a Unix time plus months.

@@ -1,21 +1,15 @@
-//! Dates and local date-times moved by periods.
+//! Dates moved by periods.
 ghost use Rattle.std.specs.Prelude.{◌≡◌, SomeIff, pos, ◌*ℤ◌};
 ghost use Rattle.cal_schedule.specs.Period.{days_of, months_of};
-ghost use Rattle.cal_time.specs.Time.{IsTime};
-ghost use Rattle.cal_datetime.specs.DateTime.{date_time};
-ghost use Rattle.cal_c.specs.Periods.{parts_in, IsDateAfterResult, IsPairAfter, IsPeriod};
-ghost use Rattle.cal_c.specs.Results.{date_error, pair_error};
+ghost use Rattle.cal_c.specs.Periods.{parts_in, IsDateAfterResult, IsPeriod};
+ghost use Rattle.cal_c.specs.Results.{date_error};
 ghost use Rattle.cal_c.specs.Values.{need◌else◌then◌, IsJulianDay, day_of};
 
-use crate::results::{DateResult, Duration, PairResult};
-use crate::status::{
-    INVALID_DATE, INVALID_PERIOD, INVALID_TIME, PERIOD_HAS_DURATION, RESULT_OUT_OF_RANGE,
-};
-use crate::values::{valid_date, valid_duration, valid_time};
-use cal_datetime::PlainDateTime;
+use crate::results::{DateResult, Duration};
+use crate::status::{INVALID_DATE, INVALID_PERIOD, PERIOD_HAS_DURATION, RESULT_OUT_OF_RANGE};
+use crate::values::{valid_date, valid_duration};
 use cal_schedule::{Period, PeriodError, nth_period};
 use cal_time::Date;
-use cal_zoned::checked_add_period;
 
 /// A period: years, months, weeks, days and a duration. No part is negative if another one is
 /// positive.
@@ -79,32 +73,4 @@ fn date_after(date: Date, period: Period, n: i32) -> DateResult
         Err(PeriodError::HasDuration) => DateResult::error(PERIOD_HAS_DURATION),
         Err(PeriodError::OutOfRange) => DateResult::error(RESULT_OUT_OF_RANGE),
     }
-}
-
-/// Adds a period to a date and a time: its years, months, weeks and days to the date, and then its
-/// duration. Fails if the result is out of range. One month and two hours after 2000-01-31 23:00 is
-/// 2000-03-01 1:00.
-#[unsafe(no_mangle)]
-pub extern "C" fn fots_pair_add_period(date: i32, time: u64, period: PeriodParts) -> PairResult
-    ensures { need IsJulianDay date else result ≡ pair_error INVALID_DATE then
-        need IsTime time else result ≡ pair_error INVALID_TIME then
-        need IsPeriod period else result ≡ pair_error INVALID_PERIOD then
-        IsPairAfter (date_time (day_of date) time) (parts_in period) result }
-{
-    let date = or_error!(PairResult, valid_date(date), INVALID_DATE);
-    let time = or_error!(PairResult, valid_time(time), INVALID_TIME);
-    let period = or_error!(PairResult, valid_period(period), INVALID_PERIOD);
-    pair_after(PlainDateTime::new(date, time), period)
-}
-
-/// Returns the local date-time a period after another one.
-fn pair_after(local: PlainDateTime, period: Period) -> PairResult
-    ensures { IsPairAfter local period result }
-{
-    let later = or_error!(
-        PairResult,
-        checked_add_period(local, period),
-        RESULT_OUT_OF_RANGE
-    );
-    PairResult::from_option(Some((later.date(), later.time())))
 }

@@ -5,7 +5,7 @@ ghost use Rattle.cal_zone.specs.Timeline.{Timeline, InOrder};
 ghost use Rattle.cal_zoned.specs.Unchecked.{result_in};
 ghost use Rattle.cal_c.specs.Moments.{moment_error};
 ghost use Rattle.cal_c.specs.Results.{duration_error};
-ghost use Rattle.cal_c.specs.Zoned.{zoned_or_error, IsDurationEarlier, IsDurationLater, IsFromLocal, IsLengthOfDate, IsPeriodLaterResult, IsStartOfDate, IsWithLocal, IsZonedAt};
+ghost use Rattle.cal_c.specs.Zoned.{zoned_or_error, IsDurationEarlier, IsDurationLater, IsFromLocal, IsLengthOfDate, IsNthPeriodResult, IsPeriodLaterResult, IsStartOfDate, IsWithLocal, IsZonedAt};
 ghost use Rattle.cal_c.specs.Zones.{IsForZone};
 
 use crate::moment::valid_moment;
@@ -21,11 +21,11 @@ use crate::zones::policy::{local_time_status, valid_policy};
 use cal_datetime::{OffsetDateTime, PlainDateTime};
 use cal_zone::{LocalTimeError, UncheckedZone};
 use cal_zoned::unchecked::{
-    day_length, day_start, earlier, found_at, kept, later, period_later, resolved,
+    day_length, day_start, earlier, found_at, kept, later, nth_later, period_later, resolved,
 };
 
 /// Returns `true` if the offset of a moment is the offset of the zone at its instant.
-fn is_in_zone(zone: &UncheckedZone<'_>, moment: OffsetDateTime) -> bool
+pub fn is_in_zone(zone: &UncheckedZone<'_>, moment: OffsetDateTime) -> bool
     ensures { InOrder zone.now → IsTrue result ↔ Shows zone.now moment.local moment }
 {
     match zone.utc_offset_at(moment.unix_timestamp()) {
@@ -35,7 +35,7 @@ fn is_in_zone(zone: &UncheckedZone<'_>, moment: OffsetDateTime) -> bool
 }
 
 /// Returns the result of a date-time in a zone.
-fn zoned_result(found: Result<OffsetDateTime, LocalTimeError>) -> MomentResult
+pub fn zoned_result(found: Result<OffsetDateTime, LocalTimeError>) -> MomentResult
     ensures { (z : Timeline) → result ≡ zoned_or_error (result_in z found) }
 {
     match found {
@@ -220,6 +220,44 @@ fn add_period(
     let period = or_error!(MomentResult, valid_period(period), INVALID_PERIOD);
     let policy = or_error!(MomentResult, valid_policy(policy), INVALID_POLICY);
     zoned_result(period_later(moment, period, zone, policy))
+}
+
+/// Adds a period `n` times at once to a moment in a zone, so that nothing drifts: `n` times its years
+/// and months, then `n` times its weeks and days, and then `n` times its duration. Else like
+/// `fots_zoned_add_period`. In Berlin 2 months after 2024-01-31 2:30 +01:00 is 2024-03-31 3:30
+/// +02:00 by 0.
+#[unsafe(no_mangle)]
+pub extern "C" fn fots_zoned_nth_period(
+    zone: &CheckedZone<'_>,
+    moment: Moment,
+    period: PeriodParts,
+    n: i32,
+    policy: u32,
+) -> MomentResult
+    ensures { IsForZone zone.now (λ z. IsNthPeriodResult z moment period n policy result)
+        (result ≡ moment_error INVALID_ZONE) }
+{
+    let zone = or_error!(MomentResult, zone.unchecked(), INVALID_ZONE);
+    nth_period(&zone, moment, period, n, policy)
+}
+
+/// Adds a period some times at once to a moment in a zone.
+fn nth_period(
+    zone: &UncheckedZone<'_>,
+    moment: Moment,
+    period: PeriodParts,
+    n: i32,
+    policy: u32,
+) -> MomentResult
+    ensures { InOrder zone.now → IsNthPeriodResult zone.now moment period n policy result }
+{
+    let moment = or_error!(MomentResult, valid_moment(moment), INVALID_MOMENT);
+    if !is_in_zone(zone, moment) {
+        return MomentResult::error(WRONG_OFFSET);
+    }
+    let period = or_error!(MomentResult, valid_period(period), INVALID_PERIOD);
+    let policy = or_error!(MomentResult, valid_policy(policy), INVALID_POLICY);
+    zoned_result(nth_later(moment, period, n, zone, policy))
 }
 
 /// Returns the first instant at which the clocks of a zone have reached a date. Where they skip

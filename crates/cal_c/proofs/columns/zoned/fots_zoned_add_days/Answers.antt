@@ -10,7 +10,7 @@ use Rattle.cal_c.proofs.columns.zoned.fots_zoned_add_days.Goals as goal
 pub loop-row-preserved : goal.loop-row-preserved
 loop-row-preserved c =
     let f-seconds : FitsSigned w64 (get_or c.args.seconds.now c.loop-row.row (pos 0)) = search rules in
-    let f-days : FitsSigned w32 (get_or c.args.days.now c.loop-row.row (pos 0)) = search rules in
+    let f-days : FitsSigned w64 (get_or c.args.days.now c.loop-row.row (pos 0)) = search rules in
     let fits : FitsSigned w64 c.row_of_days.result.0 = search rules in
     let found = simp to_z-of_z at c.row_of_days.ensures in
     let here = later_row c.args.zone.now c.unchecked.result c.valid_policy.result c.args.policy (get_or c.args.seconds.now c.loop-row.row (pos 0))

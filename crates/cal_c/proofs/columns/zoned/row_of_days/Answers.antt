@@ -1,4 +1,10 @@
 use Rattle.std.proofs.Math.Facts.{to_z-of_z}
+use Rattle.std.specs.Prelude.{MatchOption}
+use Rattle.cal_zone.specs.Timeline.{Timeline, InOrder}
+use Rattle.cal_zone.specs.declared.policy.Policy.{Policy}
+use Rattle.cal_c.specs.ZoneColumns.{int64_row}
+use Rattle.cal_c.proofs.HeldDays.{IsLaterSeconds-held}
+use Rattle.cal_c.proofs.ZoneResults.{match_by}
 use Rattle.cal_c.proofs.columns.zoned.row_of_days.Goals as goal
 
 pub returns : goal.returns
@@ -6,4 +12,5 @@ returns c =
     let g = c.ranges.seconds in
     let f = c.ranges.days in
     let period = simp to_z-of_z at c.from_days.ensures in
-    rw period at (simp to_z-of_z at c.row_after.ensures)
+    let found = rw period at (simp to_z-of_z at c.row_after.ensures) in
+    match_by _ _ c.args.resolver.now.zone _ (λ z held order. match_by _ _ c.args.resolver.now.policy _ (λ p row. IsLaterSeconds-held z c.args.seconds c.args.days p _ row) (held order)) found
