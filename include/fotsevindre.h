@@ -233,7 +233,13 @@ enum fots_status {
     FOTS_INVALID_UNIT = 71, /* expected 1 (day) to 5 (year) */
     FOTS_INVALID_RANGE = 72, /* expected two dates, and no end before the start */
     FOTS_INVALID_ROUNDING_UNIT = 73, /* expected a positive duration, which divides 24 h for times of day */
-    FOTS_INVALID_ROUNDING_MODE = 74 /* expected 0 (floor) to 4 (half even) */
+    FOTS_INVALID_ROUNDING_MODE = 74, /* expected 0 (floor) to 4 (half even) */
+    FOTS_YEARS_OUT_OF_RANGE = 75, /* this and the next ones name a part of a duration in text */
+    FOTS_MONTHS_OUT_OF_RANGE = 76,
+    FOTS_WEEKS_OUT_OF_RANGE = 77,
+    FOTS_DAYS_OUT_OF_RANGE = 78,
+    FOTS_HOURS_OUT_OF_RANGE = 79,
+    FOTS_MINUTES_OUT_OF_RANGE = 80
 };
 
 /* Returns the name of a status: the component, such as "day", or words such as "result out of
@@ -316,6 +322,12 @@ static inline const char *fots_status_name(int32_t status)
     case FOTS_INVALID_RANGE: return "invalid range";
     case FOTS_INVALID_ROUNDING_UNIT: return "invalid rounding unit";
     case FOTS_INVALID_ROUNDING_MODE: return "invalid rounding mode";
+    case FOTS_YEARS_OUT_OF_RANGE: return "years";
+    case FOTS_MONTHS_OUT_OF_RANGE: return "months";
+    case FOTS_WEEKS_OUT_OF_RANGE: return "weeks";
+    case FOTS_DAYS_OUT_OF_RANGE: return "days";
+    case FOTS_HOURS_OUT_OF_RANGE: return "hours";
+    case FOTS_MINUTES_OUT_OF_RANGE: return "minutes";
     default: return "unknown";
     }
 }
@@ -452,6 +464,25 @@ typedef struct fots_parse_offset_result {
     fots_offset offset; /* or {FOTS_NO_VALUE} */
     size_t position; /* as above */
 } fots_parse_offset_result;
+
+typedef struct fots_parse_duration_result {
+    int32_t status;
+    fots_duration duration; /* or {INT64_MIN, FOTS_NO_VALUE} */
+    size_t position; /* as above */
+} fots_parse_duration_result;
+
+typedef struct fots_parse_period_result {
+    int32_t status;
+    fots_period period; /* or the minimum for each part */
+    size_t position; /* as above */
+} fots_parse_period_result;
+
+/* A text of a period, which ends with a zero byte. */
+typedef struct fots_period_text_result {
+    int32_t status;
+    uint32_t length; /* without the zero byte, or 0 after an error */
+    char bytes[88];
+} fots_period_text_result;
 
 typedef struct fots_format_result {
     int32_t status;
@@ -1108,6 +1139,18 @@ fots_duration_result fots_duration_abs(fots_duration duration);
 
 /* Returns -1, 0 or 1 if the duration is less than, equal to or greater than the other one. */
 fots_number_result fots_duration_compare(fots_duration duration, fots_duration other);
+
+/* Parse a text of ISO 8601, as fots_date_parse does: a duration of hours, minutes and seconds, such as
+ * "PT2H30M0.5S" or "-PT90M", and a period, which can also have years, months, weeks and days, such
+ * as "P1Y2M10DT2H30M" or "-P1D". Errors: FOTS_YEARS_OUT_OF_RANGE to FOTS_MINUTES_OUT_OF_RANGE and
+ * FOTS_SECONDS_OUT_OF_RANGE for the first part that is too large. "P1D" isn't a duration. */
+fots_parse_duration_result fots_duration_parse(const char *text, size_t length);
+fots_parse_period_result fots_period_parse(const char *text, size_t length);
+
+/* Return a duration or a period as such a text, without parts that are zero; "PT0S" if all are.
+ * FOTS_INVALID_PERIOD. {5400, 0} is "PT1H30M". */
+fots_text_result fots_duration_text(fots_duration duration);
+fots_period_text_result fots_period_text(fots_period period);
 
 /* Returns the duration rounded to a multiple of a positive unit by a fots_rounding_mode;
  * FOTS_INVALID_ROUNDING_UNIT, FOTS_INVALID_ROUNDING_MODE, FOTS_RESULT_OUT_OF_RANGE. -90 s to a

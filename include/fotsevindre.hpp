@@ -80,7 +80,7 @@ private:
             return fots_status_name(static_cast<std::int32_t>(position)) + std::string(" contradicts the other components");
         }
         const bool is_component = (status >= FOTS_YEAR_OUT_OF_RANGE && status <= FOTS_TIMESTAMP_OUT_OF_RANGE)
-            || fots_status_is_conditional(status) != 0;
+            || (status >= FOTS_YEARS_OUT_OF_RANGE && status <= FOTS_MINUTES_OUT_OF_RANGE) || fots_status_is_conditional(status) != 0;
         return fots_status_name(status) + std::string(is_component ? " was not in range" : "");
     }
 
@@ -265,6 +265,14 @@ public:
     Duration(fots_duration value, detail::Unchecked) noexcept : value_(value) {}
 
     static Duration of(std::int64_t seconds, std::int32_t nanoseconds) { return from(fots_duration_new(seconds, nanoseconds)); }
+    // Parses hours, minutes and seconds in ISO 8601, such as "PT2H30M0.5S".
+    static Duration parse(std::string_view text)
+    {
+        return Duration(detail::parsed_or_throw(fots_duration_parse(detail::data(text), text.size())).duration, {});
+    }
+    // Returns such a text.
+    std::string text() const { return detail::value_or_throw(fots_duration_text(value_)).bytes; }
+
     static Duration weeks(std::int64_t weeks) { return from(fots_duration_weeks(weeks)); }
     static Duration days(std::int64_t days) { return from(fots_duration_days(days)); }
     static Duration hours(std::int64_t hours) { return from(fots_duration_hours(hours)); }
@@ -436,6 +444,14 @@ public:
         }
     }
     Period(const fots_period &value, detail::Unchecked) noexcept : value_(value) {}
+
+    // Parses a period in ISO 8601, such as "P1Y2M10DT2H30M" or "-P1D".
+    static Period parse(std::string_view text)
+    {
+        return Period(detail::parsed_or_throw(fots_period_parse(detail::data(text), text.size())).period, {});
+    }
+    // Returns such a text.
+    std::string text() const { return detail::value_or_throw(fots_period_text(value_)).bytes; }
 
     static Period from_years(std::int32_t years) { return {years, 0, 0, 0}; }
     static Period from_months(std::int32_t months) { return {0, months, 0, 0}; }

@@ -124,6 +124,8 @@ static const char *const recurrences[] = {"FREQ=DAILY;COUNT=10", "FREQ=WEEKLY;IN
     "FREQ=MONTHLY;BYDAY=MO,TU,WE,TH,FR;BYSETPOS=-2", "FREQ=DAILY;BYHOUR=9,17;BYMINUTE=0,30;COUNT=7", "FREQ=HOURLY"};
 static const char *const zones[] = {"CET-1CEST,M3.5.0,M10.5.0/3", "EST5EDT,M3.2.0,M11.1.0", "<+0530>-5:30", "IST-2IDT,M3.4.4/26,M10.5.0", "<-03>3<-02>,M3.5.0/-2,M10.5.0/-1", "UTC0"};
 
+static const char *const durations[] = {"P1Y2M10DT2H30M", "-P1D", "PT36H", "P2W", "PT0.5S", "PT1,000000001S", "P2147483648Y", "PT9223372036854775807S", "-PT2562047788015215H30M8S", "P1Y1M1W1DT1H1M1S"};
+
 static char drawn_text[256];
 
 /* Draws a text of a list into drawn_text, one in four with another byte or another end. */
@@ -166,6 +168,7 @@ static size_t any_text(void)
 static size_t any_format_text(void) { return text_of(formats, COUNT(formats)); }
 static size_t any_description(void) { return text_of(descriptions, COUNT(descriptions)); }
 static size_t any_recurrence_text(void) { return text_of(recurrences, COUNT(recurrences)); }
+static size_t any_duration_text(void) { return text_of(durations, COUNT(durations)); }
 static size_t any_zone_text(void) { return text_of(zones, COUNT(zones)); }
 
 static fots_format any_fots_format(void)

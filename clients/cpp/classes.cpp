@@ -475,6 +475,10 @@ void periods()
         is_rejected = true;
     }
     check(is_rejected, "steps of nothing");
+    check(Period::parse("P1Y2M3W4DT5H") == Period(1, 2, 3, 4, Duration::hours(5)) && all.text() == "P1Y2M3W4DT5H", "a period in text");
+    check(Duration::parse("-PT90M") == Duration::minutes(-90) && Duration::minutes(-90).text() == "-PT1H30M", "a duration in text");
+    throws([] { Period::parse("P1"); }, FOTS_UNEXPECTED_END, "unexpected end at 2", "a period that ends too early");
+    throws([] { Period::parse("P2147483648D"); }, FOTS_DAYS_OUT_OF_RANGE, "days was not in range", "too many days");
     throws([] { Period(1, -1, 0, 0); }, FOTS_INVALID_PERIOD, "invalid period", "two signs");
     throws([&] { january.checked_add_period(Period::from_duration(Duration::hours(1))); }, FOTS_PERIOD_HAS_DURATION, "period has a duration", "a date and a duration");
 }

@@ -13,6 +13,7 @@ pub mod CheckedHolidays
 pub mod PrintedRows
 pub mod TextRows
 pub mod Unreads
+pub mod DurationErrors
 pub mod Recurring
 pub mod RuleSets
 pub mod Walks

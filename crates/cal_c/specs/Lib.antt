@@ -16,6 +16,7 @@ pub mod Zones
 pub mod ZoneColumns
 pub mod Periods
 pub mod Zoned
+pub mod DurationTexts
 pub mod Rounding
 pub mod Formats
 pub mod FormatTexts

@@ -2,6 +2,11 @@
 ghost use Rattle.std.specs.Prelude.{◌≡◌, ◌⊎◌, ℕ, ℤ};
 ghost use Rattle.cal_time.specs.Date.{IsDate};
 ghost use Rattle.cal_time.specs.declared.error.ComponentRange.{ComponentRange};
+ghost use Rattle.cal_duration.specs.Form.{HasDurationForm, HasPeriodForm};
+ghost use Rattle.cal_duration.specs.Parsing as durations;
+ghost use Rattle.cal_duration.specs.Values.{IsDurationError, IsDurationText, IsPeriodError, IsPeriodText};
+ghost use Rattle.cal_duration.specs.declared.error.DurationComponent.{DurationComponent};
+ghost use Rattle.cal_schedule.specs.Period.{Parts};
 ghost use Rattle.cal_datetime.specs.OffsetDateTime.{LocalAndOffset};
 ghost use Rattle.cal_text.specs.DateForms.{IsDateText};
 ghost use Rattle.cal_text.specs.JulianForm.{julian_text, IsJulianForm, IsJulianDayError};
@@ -15,6 +20,7 @@ ghost use Rattle.cal_text.specs.TimeForm.{HasTimeForm, IsTimeError, IsTimeText};
 ghost use Rattle.cal_text.specs.UnixText.{HasUnixForm, IsUnixText, IsUnixTimeError};
 ghost use Rattle.cal_c.specs.Texts.{HasDateSyntax, HasMomentSyntax, HasDateError, HasMomentError};
 
+use cal_duration::{duration, period};
 use cal_text::{date, julian_day, offset, offset_date_time, plain, rfc3339, time, unix};
 
 /// States that a text is a date, has no form of a date, or has a component out of range.
@@ -82,4 +88,22 @@ pub fn offset_date_time_cases(text: &[u8])
         × HasError HasOffsetDateTimeForm IsOffsetDateTimeError text.now why) }
 {
     let _ = offset_date_time::parse(text);
+}
+
+/// States that a text is a duration, has no such form, or has a part out of range.
+pub fn duration_cases(text: &[u8])
+    ensures { ((v : ℤ) × IsDurationText text.now v) ⊎ (¬ HasSome HasDurationForm text.now)
+        ⊎ ((why : DurationComponent)
+        × durations.HasError HasDurationForm IsDurationError text.now why) }
+{
+    let _ = duration::parse(text);
+}
+
+/// States that a text is a period, has no such form, or has a part out of range.
+pub fn period_cases(text: &[u8])
+    ensures { ((p : Parts) × IsPeriodText text.now p) ⊎ (¬ HasSome HasPeriodForm text.now)
+        ⊎ ((why : DurationComponent)
+        × durations.HasError HasPeriodForm IsPeriodError text.now why) }
+{
+    let _ = period::parse(text);
 }

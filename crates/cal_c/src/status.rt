@@ -1,6 +1,6 @@
 //! The statuses. The header has them as an enum. The statuses from `YEAR_OUT_OF_RANGE` to
 //! `TIMESTAMP_OUT_OF_RANGE`, and from `DAY_OUT_OF_RANGE` to `WEEKDAY_OUT_OF_RANGE`, name a component
-//! that is out of range.
+//! that is out of range, as do those of the parts of a duration, from `YEARS_OUT_OF_RANGE` on.
 ghost use Rattle.std.specs.Prelude.{◌≡◌};
 ghost use Rattle.cal_c.specs.Statuses.{component_status};
 
@@ -213,6 +213,18 @@ pub const INVALID_ROUNDING_UNIT: i32 = 73;
 
 /// The mode of rounding is not from 0, `Floor`, to 4, `HalfEven`.
 pub const INVALID_ROUNDING_MODE: i32 = 74;
+
+pub const YEARS_OUT_OF_RANGE: i32 = 75;
+
+pub const MONTHS_OUT_OF_RANGE: i32 = 76;
+
+pub const WEEKS_OUT_OF_RANGE: i32 = 77;
+
+pub const DAYS_OUT_OF_RANGE: i32 = 78;
+
+pub const HOURS_OUT_OF_RANGE: i32 = 79;
+
+pub const MINUTES_OUT_OF_RANGE: i32 = 80;
 
 /// Returns the status of an error, by its component.
 pub fn error_status(error: ComponentRange) -> i32
