@@ -17,11 +17,11 @@ pub stable_n : (x y : ℕ) → Stable (x ≡ y)
 stable_n x y never = let e = stable_z (pos x) (pos y) (λ no. never (λ same. no (ap pos same))) in omega (arith, ints, e)
 
 pub of_field : {A B : Type 0} (f : A → B) (x y : A) → ((x ≡ y → ⊥) → ⊥) → (f x ≡ f y → ⊥) → ⊥
-of_field f x y never no = never (λ same. no (ap f same))
+of_field f x y never other = never (λ same. other (ap f same))
 
 -- a condition holds or not
 pub either : {A : Type 0} (Is : Type 0) → Stable A → (Is → A) → ((Is → ⊥) → A) → A
-either Is stable yes no = stable (λ never. never (no (λ is. never (yes is))))
+either Is stable holds fails = stable (λ never. never (fails (λ is. never (holds is))))
 
 pub need-one : {R Is A B : Type 0} (r s e : R) → Stable (r ≡ s) → (A → B → r ≡ s) → need Is else r ≡ e then A → need Is else s ≡ e then B → r ≡ s
 need-one {Is = Is} r s e stable one h k = either Is stable (λ is. one (h.value is) (k.value is)) (λ out. h.error out ∙ sym (k.error out))
