@@ -157,7 +157,8 @@ typedef struct fots_format {
 
 /* The status of a call. FOTS_YEAR_OUT_OF_RANGE to FOTS_TIMESTAMP_OUT_OF_RANGE and
  * FOTS_DAY_OUT_OF_RANGE to FOTS_WEEKDAY_OUT_OF_RANGE name a component that is out of range; the
- * range of the latter depends on other components. */
+ * range of the latter depends on other components. FOTS_YEARS_OUT_OF_RANGE to
+ * FOTS_MINUTES_OUT_OF_RANGE name a part of a text of a duration. */
 enum fots_status {
     FOTS_OK = 0,
     FOTS_RESULT_OUT_OF_RANGE = 1, /* the result is out of range, or does not exist */
@@ -234,7 +235,7 @@ enum fots_status {
     FOTS_INVALID_RANGE = 72, /* expected two dates, and no end before the start */
     FOTS_INVALID_ROUNDING_UNIT = 73, /* expected a positive duration, which divides 24 h for times of day */
     FOTS_INVALID_ROUNDING_MODE = 74, /* expected 0 (floor) to 4 (half even) */
-    FOTS_YEARS_OUT_OF_RANGE = 75, /* this and the next ones name a part of a duration in text */
+    FOTS_YEARS_OUT_OF_RANGE = 75,
     FOTS_MONTHS_OUT_OF_RANGE = 76,
     FOTS_WEEKS_OUT_OF_RANGE = 77,
     FOTS_DAYS_OUT_OF_RANGE = 78,

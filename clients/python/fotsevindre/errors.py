@@ -153,7 +153,7 @@ class ZoneError(ValueError):
 
 
 # The names of components, and whether their range is conditional.
-_COMPONENTS = {status: (NAMES[status], status >= 64) for status in (*range(16, 30), *range(64, 68))
+_COMPONENTS = {status: (NAMES[status], 64 <= status < 68) for status in (*range(16, 30), *range(64, 68), *range(75, 81))
     if status in NAMES}
 
 
