@@ -59,9 +59,12 @@ never_held k n days from to h =
     let later = h.days_later in
     omega (arith, ints, clamps, same, later, from, to)
 
-no_value : {A B : Type 0} (r : Result InZone LocalTimeError) → (A → ⊥) → IfOk r (λ _. A) → IfOk r (λ _. B)
-no_value (Ok m) no h = absurd (no h)
-no_value (Err e) no h = tt
+no_value : {A : Type 0} (B : Type 0) (r : Result InZone LocalTimeError) → (A → ⊥) → IfOk r (λ _. A) → IfOk r (λ _. B)
+no_value B (Ok m) never h = absurd (never h)
+no_value B (Err e) never h = tt
+
+equal_or_not : (x y : ℤ) (A : Type 0) → (x ≡ y → A) → ((x ≡ y → ⊥) → A) → A
+equal_or_not x y A same other = by_lt_z x y (λ less. other (λ e. absurd (omega (arith, ints, e, less)))) (λ most. by_lt_z y x (λ more. other (λ e. absurd (omega (arith, ints, e, more)))) (λ least. same (omega (arith, ints))))
 
 IsPeriodLater-held : (p : Policy) (m : InZone) (days : ℤ) (r : Result InZone LocalTimeError) → IsDate (date_at m.moment.local) → (held days ≡ days → ⊥) → IsPeriodLater p m (days_alone (held days)) r
     → IsPeriodLater p m (days_alone days) r
@@ -72,7 +75,7 @@ IsPeriodLater-held p m days r from other h =
       exact = λ e. let zero = e.1 in absurd (other (omega (arith, ints, clamps, zero)));
       moved = λ _ n to later. absurd (other (never_fits (date_at m.moment.local) n days from to later));
       none = λ _ _. h.none some none;
-      is = λ _. no_value r (λ is. none is.0 is.1 is.2) (h.is some);
+      is = λ _. no_value _ r (λ is. none is.0 is.1 is.2) (h.is some);
     }
 
 pub IsLaterSeconds-held : (z : Timeline) (seconds days : ℤ) (p : Policy) (r : Int64Result) → IsLaterSeconds z seconds (days_alone (held days)) p r → IsLaterSeconds z seconds (days_alone days) p r
@@ -84,5 +87,3 @@ IsLaterSeconds-held z seconds days p r h = record { error = h.error; value = λ 
     by_value is (its, later, e) = equal_or_not (held days) days _
         (λ same. (its, subst (λ (d : ℤ). IsPeriodLater p (at_instant z (instant_at seconds)) (days_alone d) its) same later, e))
         (λ other. (its, IsPeriodLater-held p (at_instant z (instant_at seconds)) days its (IsDate-date_at _ is) other later, e))
-    equal_or_not : (x y : ℤ) (A : Type 0) → (x ≡ y → A) → ((x ≡ y → ⊥) → A) → A
-    equal_or_not x y A same other = by_lt_z x y (λ less. other (λ e. absurd (omega (arith, ints, e, less)))) (λ most. by_lt_z y x (λ more. other (λ e. absurd (omega (arith, ints, e, more)))) (λ least. same (omega (arith, ints))))
