@@ -225,7 +225,8 @@ class Numpy(unittest.TestCase):
         masked = zone.starts_of_day(numpy.ma.MaskedArray(times, [1, 0, 0, 0]))
         self.assertEqual((masked.seconds.dtype, list(masked.seconds.mask)), ("datetime64[s]", [1, 0, 0, 0]))
         self.assertRaisesRegex(ValueError, "expected whole seconds", zone.starts_of_day, numpy.array(["2024-03-31T02:30:00.5"], dtype="datetime64[ms]"))
-        self.assertRaisesRegex(TypeError, "column of integers", zone.add_days, times, numpy.array([1], dtype="timedelta64[D]"))
+        self.assertRaisesRegex(TypeError, "column of integers", zone.add_months, times, numpy.array([1], dtype="timedelta64[D]"))
+        self.assertEqual(list(zone.add_days(times, numpy.array([1] * 4, dtype="timedelta64[D]")).statuses), list(zone.add_days(times, 1).statuses))
         self.assertRaises(ValueError, zone.add_days, times, [1, 2])
         self.assertRaises(TypeError, zone.starts_of_day, 0)
 
