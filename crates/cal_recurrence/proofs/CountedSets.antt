@@ -1,6 +1,6 @@
 -- A set whose rule ends earlier has the same readings up to this end, and a search that finds one of
 -- them has found it for the whole set.
-use Rattle.std.proofs.Common.{◌≡◌, refl, sym, ap, ◌∙◌, arith, subst, ℕ, zero, suc, ◌+◌, ◌-◌, ◌≤◌, Bool, true, false, ◌&&◌, not, List, [], ◌∷◌, filter, map, slice_get, take, Option, Some, None, ℤ, pos, ◌+ℤ◌, ◌≤ℤ◌, ◌<ℤ◌, ◌⊎◌, inl, inr}
+use Rattle.std.proofs.Common.{◌≡◌, refl, sym, ap, ◌∙◌, arith, ℕ, zero, suc, ◌+◌, ◌-◌, ◌≤◌, Bool, true, false, ◌&&◌, not, List, [], ◌∷◌, filter, map, slice_get, take, Option, Some, None, ℤ, pos, ◌+ℤ◌, ◌≤ℤ◌, ◌<ℤ◌, ◌⊎◌, inl, inr}
 use Rattle.std.specs.Prelude.{◌||◌, int_le, unsigned_abs, option_map, MatchOption}
 use Rattle.std.specs.List.{last_or}
 use Rattle.std.proofs.lemmas.Bool.{and_parts, false≢true}
@@ -12,7 +12,7 @@ use Rattle.cal_datetime.specs.OffsetDateTime.{LocalAndOffset, instant}
 use Rattle.cal_schedule.specs.Rule as days
 use Rattle.cal_schedule.specs.Pattern.{rule_of}
 use Rattle.cal_schedule.specs.declared.rule.pattern.Pattern.{Pattern}
-use Rattle.cal_recurrence.specs.CountedSet.{ascend_from, last_before, whole_set, whole_zoned_set}
+use Rattle.cal_recurrence.specs.CountedSet.{ascend_from, whole_set, whole_zoned_set}
 use Rattle.cal_recurrence.specs.DateTimeRule.{date_time_rule, is_not_after, is_occurrence, matches_positions, occurrences, readings_from, DateTimeParts}
 use Rattle.cal_recurrence.specs.Days.{up_to_end}
 use Rattle.cal_recurrence.specs.RecurrenceReadings.{last_reading_of, readings_of}
@@ -178,8 +178,5 @@ settled-after set left x last (Some m) order is past h = record {
 }
 
 -- What a search returns is the next occurrence after the last instant before it.
-pub next-of : (set : ZonedSet) (after : Bool) (x : ℤ) (r s : Option LocalAndOffset) (b : Bool) → after ≡ b → r ≡ s → IsNextAfter (Occurs set) (last_before b x) s → IsNextAfter (Occurs set) (last_before after x) r
-next-of set after x r s b e same h = subst (λ a. IsNextAfter (Occurs set) (last_before a x) r) (sym e) (subst (IsNextAfter (Occurs set) (last_before b x)) (sym same) h)
-
 pub nothing-left-in_zone : (set : ZonedSet) (left : List ℤ) → left ≡ [] → set ≡ whole_zoned_set set left
 nothing-left-in_zone set left e = sym (ap (whole_zoned_set set) e)

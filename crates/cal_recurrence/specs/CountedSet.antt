@@ -1,6 +1,6 @@
 -- Sets of a recurrence with a COUNT, which a search counts only as far as it needs: the rule ends at
 -- the last reading that was counted, and other readings are left to count.
-use Rattle.std.specs.Prelude.{ℕ, ◌+◌, Bool, true, false, ◌&&◌, ℤ, int_le, ◌-ℤ◌, pos, unsigned_abs, List, [], ◌∷◌, Option, Some, None}
+use Rattle.std.specs.Prelude.{ℕ, ◌+◌, Bool, true, false, ◌&&◌, ℤ, int_le, unsigned_abs, List, [], ◌∷◌, Option, Some, None}
 use Rattle.std.specs.List.{last_or}
 use Rattle.cal_recurrence.specs.DateTimeRule.{DateTimeParts}
 use Rattle.cal_recurrence.specs.declared.date_time_set.DateTimeSet.{DateTimeSet}
@@ -28,8 +28,3 @@ whole_zoned_set set left = record set { readings = whole_set set.readings left }
 abbrev pub first_number : Bool → ℤ → ℕ
 first_number true z = unsigned_abs z + 1
 first_number false z = unsigned_abs z
-
--- The last instant before a search: an instant, or the one before it.
-abbrev pub last_before : Bool → ℤ → ℤ
-last_before true x = x
-last_before false x = x -ℤ pos 1

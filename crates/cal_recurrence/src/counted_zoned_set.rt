@@ -1,18 +1,18 @@
 //! Recurrence sets in a time zone whose `COUNT` is counted only as far as a search needs.
-ghost use Rattle.std.specs.Prelude.{◌≡◌, ◌↔◌, ◌-ℤ◌, [], pos, IsTrue};
-ghost use Rattle.cal_datetime.specs.OffsetDateTime.{instant};
-ghost use Rattle.cal_recurrence.specs.CountedSet.{last_before};
+ghost use Rattle.std.specs.Prelude.{◌≡◌, ◌↔◌, ◌+ℤ◌, ◌-ℤ◌, ◌≤ℤ◌, ◌<ℤ◌, ℤ, [], pos, IsTrue};
+ghost use Rattle.cal_datetime.specs.DateTime.{IsDateTime};
+ghost use Rattle.cal_datetime.specs.OffsetDateTime.{instant, unix_epoch};
 ghost use Rattle.cal_recurrence.specs.SetMeaning.{last_instant, zone_rule};
 ghost use Rattle.cal_recurrence.specs.Occurrences.{before_all};
-ghost use Rattle.cal_recurrence.specs.ZonedSet.{HasInstant, IsNextAfter, Occurs};
+ghost use Rattle.cal_recurrence.specs.ZonedSet.{reach, HasInstant, IsNextAfter, Occurs};
 
 use crate::counting::Uncounted;
 use crate::date_or_time::DateOrTime;
 use crate::date_time_set::DateTimeSet;
 use crate::occurrences::Occurrences;
-use crate::reach::{first_moment, is_past};
+use crate::reach::{earliest_reading, first_moment, is_past};
 use crate::recurrence::{Recurrence, RuleEnd};
-use crate::zoned_set::{ZonedSet, is_at};
+use crate::zoned_set::{ZonedSet, is_at, nanoseconds};
 use cal_datetime::{OffsetDateTime, PlainDateTime};
 use cal_zone::Zone;
 use std::marker::Model;
@@ -151,17 +151,15 @@ impl<'a> CountedZonedSet<'a> {
         }
     }
 
-    /// Returns the first occurrence after an instant, or from it on.
-    fn search(&mut self, moment: OffsetDateTime, after: bool) -> Option<OffsetDateTime>
-        ensures value { IsNextAfter (Occurs self.old) (last_before after (instant moment)) result }
+    /// Returns the first occurrence that is later than some nanoseconds after 1970-01-01 0:00 UTC.
+    /// The readings before `start` can't mean such an instant.
+    fn search(&mut self, start: PlainDateTime, after: i128) -> Option<OffsetDateTime>
+        requires { (z : ℤ) → IsDateTime z → (unix_epoch +ℤ after) <ℤ (z +ℤ reach) → start ≤ℤ z }
+        ensures value { IsNextAfter (Occurs self.old) (unix_epoch +ℤ after) result }
         ensures same { self.new ≡ self.old }
     {
         loop {
-            let next = if after {
-                self.set.next_after(moment)
-            } else {
-                self.set.first_from(moment)
-            };
+            let next = self.set.first_after(start, after);
             if let Some(last) = self.set.readings.rule.until() {
                 if is_past(&next, last) {
                     return next;
@@ -180,7 +178,7 @@ impl<'a> CountedZonedSet<'a> {
         ensures value { IsNextAfter (Occurs self.old) (instant moment) result }
         ensures same { self.new ≡ self.old }
     {
-        self.search(moment, true)
+        self.search(earliest_reading(moment), nanoseconds(moment))
     }
 
     /// Returns the first occurrence that isn't before an instant, or `None` if the set has no such
@@ -190,7 +188,7 @@ impl<'a> CountedZonedSet<'a> {
         ensures value { IsNextAfter (Occurs self.old) (instant moment -ℤ pos 1) result }
         ensures same { self.new ≡ self.old }
     {
-        self.search(moment, false)
+        self.search(earliest_reading(moment), nanoseconds(moment) - 1)
     }
 
     /// Returns `true` if an instant is an occurrence. For 2:30 on two days from 2024-03-30 on in

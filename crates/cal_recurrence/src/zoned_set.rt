@@ -10,7 +10,7 @@ ghost use Rattle.cal_recurrence.specs.declared.zoned_set.ZonedSet.{ZonedSet};
 
 use crate::date_time_set::DateTimeSet;
 use crate::nearest::nearest;
-use crate::reach::{earlier, earliest_reading, is_past};
+use crate::reach::{earlier, is_past};
 use cal_datetime::{OffsetDateTime, PlainDateTime};
 use cal_zone::Zone;
 use cal_zone::laws::one_local;
@@ -37,7 +37,7 @@ pub struct ZonedSet<'a> {
 }
 
 /// Returns the nanoseconds from 1970-01-01 0:00 UTC to a moment.
-fn nanoseconds(moment: OffsetDateTime) -> i128
+pub(crate) fn nanoseconds(moment: OffsetDateTime) -> i128
     ensures value { result ≡ unix_nanoseconds (instant moment) }
     ensures range { IsInstant (instant moment) }
     ensures offset { IsOffset moment.offset }
@@ -184,24 +184,10 @@ impl<'a> ZonedSet<'a> {
 
     /// Returns the first occurrence that is later than some nanoseconds after 1970-01-01 0:00 UTC.
     /// The readings before `start` can't mean such an instant.
-    fn first_after(&self, start: PlainDateTime, after: i128) -> Option<OffsetDateTime>
+    pub(crate) fn first_after(&self, start: PlainDateTime, after: i128) -> Option<OffsetDateTime>
         requires { (z : ℤ) → IsDateTime z → (unix_epoch +ℤ after) <ℤ (z +ℤ reach) → start ≤ℤ z }
         ensures { IsNextAfter (Occurs self.now) (unix_epoch +ℤ after) result }
     {
         earlier(&self.first_meant(start, after), &self.first_listed(after))
-    }
-
-    /// Returns the first occurrence after an instant.
-    pub(crate) fn next_after(&self, moment: OffsetDateTime) -> Option<OffsetDateTime>
-        ensures { IsNextAfter (Occurs self.now) (instant moment) result }
-    {
-        self.first_after(earliest_reading(moment), nanoseconds(moment))
-    }
-
-    /// Returns the first occurrence that isn't before an instant.
-    pub(crate) fn first_from(&self, moment: OffsetDateTime) -> Option<OffsetDateTime>
-        ensures { IsNextAfter (Occurs self.now) (instant moment -ℤ pos 1) result }
-    {
-        self.first_after(earliest_reading(moment), nanoseconds(moment) - 1)
     }
 }

@@ -4,7 +4,7 @@ use Rattle.std.proofs.lemmas.Int.{ints}
 use Rattle.cal_datetime.specs.OffsetDateTime.{instant, unix_epoch, unix_nanoseconds, IsInstant}
 use Rattle.cal_recurrence.specs.ZonedSet.{IsNextAfter, Occurs}
 use Rattle.cal_recurrence.proofs.ZonedSearch.{as-word}
-use Rattle.cal_recurrence.proofs.zoned_set.ZonedSet.first_from.Goals as goal
+use Rattle.cal_recurrence.proofs.counted_zoned_set.CountedZonedSet.first_from.Goals as goal
 
 -- The word of a number, less 1, is the word of the number before.
 less : (n x : ℤ) → IsInstant x → n ≡ unix_nanoseconds x → (unix_epoch +ℤ to_z w128 (of_z w128 (to_z w128 (of_z w128 n) -ℤ pos 1))) ≡ (x -ℤ pos 1)
@@ -14,7 +14,7 @@ less n x h e =
     let last : (unix_epoch +ℤ (n -ℤ pos 1)) ≡ (x -ℤ pos 1) = omega (arith, ints, e) in
     ap (λ a. unix_epoch +ℤ to_z w128 (of_z w128 (a -ℤ pos 1))) word ∙ ap (λ a. unix_epoch +ℤ a) before ∙ last
 
-pub returns : goal.returns
-returns c =
-    subst (λ y. IsNextAfter (Occurs c.args.self.now) y c.first_after.result)
-    (less c.nanoseconds.result (instant c.args.moment) c.nanoseconds.ensures.range c.nanoseconds.ensures.value) c.first_after.ensures
+pub returns-clause-value : goal.returns-clause-value
+returns-clause-value c =
+    subst (λ y. IsNextAfter (Occurs c.args.self.now) y c.search.result)
+    (less c.nanoseconds.result (instant c.args.moment) c.nanoseconds.ensures.range c.nanoseconds.ensures.value) c.search.ensures.value
