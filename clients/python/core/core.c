@@ -40,12 +40,6 @@ typedef struct WorkdaysObject {
     fots_workdays workdays;
 } WorkdaysObject;
 
-/* A period whose parts were checked. */
-typedef struct fots_checked_period_result {
-    int32_t status;
-    fots_period period;
-} fots_checked_period_result;
-
 /* The size of a value with a field, which takes a multiple of 8 bytes. */
 #define SIZE_OF(field) (offsetof(Value, field) + (sizeof(((Value *)0)->field) + 7) / 8 * 8)
 #define VALUE(object) ((Value *)(object))
@@ -65,7 +59,7 @@ typedef struct State {
     PyTypeObject *other_date, *other_time, *other_date_time, *timedelta, *tzinfo;
     PyObject *timezone;
     PyObject *has_layouts; /* True if datetime has the layouts of standard.c */
-    PyObject *weekday, *calendar_unit, *convention, *day_count, *year_fraction;
+    PyObject *weekday, *calendar_unit, *rounding_mode, *convention, *day_count, *year_fraction;
     PyObject *status_error, *component_range;
     PyObject *months[12], *weekdays[7];
 } State;
@@ -246,7 +240,8 @@ static PyObject *raise_position(const State *state, int32_t status, size_t posit
 {
     int is_conditional = fots_status_is_conditional(status);
     if (is_conditional ||
-        (status >= FOTS_YEAR_OUT_OF_RANGE && status <= FOTS_TIMESTAMP_OUT_OF_RANGE)) {
+        (status >= FOTS_YEAR_OUT_OF_RANGE && status <= FOTS_TIMESTAMP_OUT_OF_RANGE) ||
+        (status >= FOTS_YEARS_OUT_OF_RANGE && status <= FOTS_MINUTES_OUT_OF_RANGE)) {
         PyObject *given = Py_BuildValue("sO", fots_status_name(status),
             is_conditional ? Py_True : Py_False);
         PyErr_SetObject(state->component_range, given);
@@ -339,7 +334,8 @@ OF(period, period, new_period(state, (fots_period){result.years, result.months, 
 OF(date_range, date_range, Py_BuildValue("NN", new_date(state, result.range.start),
     new_date(state, result.range.end)))
 OF(share, share, Py_BuildValue("II", (unsigned)result.common, (unsigned)result.days))
-OF(checked_period, checked_period, new_period(state, result.period))
+OF(exact_period, exact_period, new_period(state, result.period))
+OF(period_text, period_text, PyUnicode_FromStringAndSize(result.bytes, (Py_ssize_t)result.length))
 OF(year_fraction, year_fraction, PyObject_CallFunction(state->year_fraction, "LI",
     (long long)result.numerator, (unsigned)result.denominator))
 
@@ -373,6 +369,8 @@ static PyObject *parts_of_recurrence(const State *state, const fots_recurrence *
 OF_PARSED(parse_date, parse_date, 0, new_date(state, result.date))
 OF_PARSED(parse_time, parse_time, 0, new_time(state, result.time))
 OF_PARSED(parse_offset, parse_offset, 0, new_offset(state, result.offset))
+OF_PARSED(parse_duration, parse_duration, 0, new_duration(state, result.duration))
+OF_PARSED(parse_period, parse_period, 0, new_period(state, result.period))
 OF_PARSED(parse_moment, parse_moment, 0, Py_BuildValue("NNN", new_date(state, result.date),
     new_time(state, result.time), new_offset(state, result.offset)))
 OF_PARSED(parse_pair, parse_moment, 0,

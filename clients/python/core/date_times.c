@@ -12,6 +12,34 @@ static fots_moment_result plain_add_period(fots_moment moment, fots_period perio
     return (fots_moment_result){moved.status, {moved.date, utc, moved.time}};
 }
 
+static fots_moment_result plain_round(fots_moment moment, fots_duration unit, uint32_t mode)
+{
+    fots_pair_result rounded = fots_pair_round(moment.date, moment.time, unit, mode);
+    return (fots_moment_result){rounded.status, {rounded.date, utc, rounded.time}};
+}
+
+static fots_moment_result plain_nth_period(fots_moment moment, fots_period period, int32_t n)
+{
+    fots_pair_result moved = fots_pair_nth_period(moment.date, moment.time, period, n);
+    return (fots_moment_result){moved.status, {moved.date, utc, moved.time}};
+}
+
+static fots_number_result plain_step_of(fots_moment start, fots_period period, fots_moment plain)
+{
+    return fots_pair_step_of(start.date, start.time, period, plain.date, plain.time);
+}
+
+static fots_exact_period_result plain_period_until_by(fots_moment moment, fots_moment other,
+    uint32_t unit)
+{
+    return fots_pair_period_until(moment.date, moment.time, other.date, other.time, unit);
+}
+
+static fots_exact_period_result plain_period_until(fots_moment moment, fots_moment other)
+{
+    return plain_period_until_by(moment, other, FOTS_YEAR);
+}
+
 static fots_moment moment_local(fots_moment own) { return (fots_moment){own.date, utc, own.time}; }
 static fots_moment_result moment_to_utc(fots_moment own) { return fots_moment_to_offset(own, utc); }
 

@@ -132,7 +132,7 @@ static PyObject *moved_by_period(const State *state, PyObject *self, fots_period
 {
     PyTypeObject *type = Py_TYPE(self);
     if (back) {
-        fots_checked_period_result opposite = period_negative(period);
+        fots_exact_period_result opposite = period_negative(period);
         if (opposite.status) {
             return raise_status(state, opposite.status);
         }

@@ -120,44 +120,23 @@ static PyObject *moment_repr(PyObject *self)
         (int)date.year, (unsigned)date.month, (unsigned)date.day, clock, offset);
 }
 
-/* Writes the units of a duration that aren't zero, such as 1d2h, or such as days=1, hours=2 with a
- * sign. Returns the length. */
-static int put_units(fots_duration duration, const char *const *names, int is_repr, char *bytes,
-    size_t size)
-{
-    const char *sign = sign_of(duration) < 0 ? "-" : "";
-    unsigned long long seconds = (unsigned long long)duration.seconds;
-    unsigned long long below = (unsigned long long)abs(duration.nanoseconds);
-    seconds = *sign ? -seconds : seconds;
-    unsigned long long numbers[] = {seconds / 86400, seconds / 3600 % 24, seconds / 60 % 60,
-        seconds % 60, below / 1000000, below / 1000 % 1000, below % 1000};
-    int length = 0;
-    bytes[0] = 0;
-    for (int unit = 0; unit < 7; unit++) {
-        char *end = bytes + length;
-        size_t room = size - (size_t)length;
-        length += !numbers[unit] ? 0 : !is_repr ?
-            snprintf(end, room, "%llu%s", numbers[unit], names[unit]) :
-            snprintf(end, room, "%s%s=%s%llu", length ? ", " : "", names[unit], sign, numbers[unit]);
-    }
-    return length;
-}
-
-/* Returns the text, such as -1d2h3m4s5ms. */
-static PyObject *duration_string(PyObject *self)
-{
-    static const char *const names[] = {"d", "h", "m", "s", "ms", "\xc2\xb5s", "ns"};
-    char bytes[80];
-    int length = put_units(DURATION(self), names, 0, bytes, sizeof bytes);
-    return PyUnicode_FromFormat("%s%s", sign_of(DURATION(self)) < 0 ? "-" : "",
-        length ? bytes : "0s");
-}
-
 static PyObject *duration_repr(PyObject *self)
 {
     static const char *const names[] = {"days", "hours", "minutes", "seconds", "milliseconds",
         "microseconds", "nanoseconds"};
-    char bytes[160];
-    put_units(DURATION(self), names, 1, bytes, sizeof bytes);
+    const char *sign = sign_of(DURATION(self)) < 0 ? "-" : "";
+    unsigned long long seconds = (unsigned long long)DURATION(self).seconds;
+    unsigned long long below = (unsigned long long)abs(DURATION(self).nanoseconds);
+    seconds = *sign ? -seconds : seconds;
+    unsigned long long numbers[] = {seconds / 86400, seconds / 3600 % 24, seconds / 60 % 60,
+        seconds % 60, below / 1000000, below / 1000 % 1000, below % 1000};
+    char bytes[160] = "";
+    int length = 0;
+    for (int unit = 0; unit < 7; unit++) {
+        if (numbers[unit]) {
+            length += snprintf(bytes + length, sizeof bytes - (size_t)length, "%s%s=%s%llu",
+                length ? ", " : "", names[unit], sign, numbers[unit]);
+        }
+    }
     return PyUnicode_FromFormat("SignedDuration(%s)", bytes);
 }

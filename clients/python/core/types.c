@@ -137,25 +137,25 @@ static PyObject *moment_timestamp(PyObject *self, PyObject *Py_UNUSED(none))
 /* ---- periods */
 
 /* Only an invalid period can't be added. */
-static fots_checked_period_result period_create(int32_t years, int32_t months, int32_t weeks,
+static fots_exact_period_result period_create(int32_t years, int32_t months, int32_t weeks,
     int32_t days, fots_duration duration)
 {
     fots_period period = {years, months, weeks, days, duration};
     fots_pair_result moved = fots_pair_add_period((fots_date){UNIX_EPOCH}, (fots_time){0}, period);
     int is_invalid = moved.status == FOTS_INVALID_PERIOD;
-    return (fots_checked_period_result){is_invalid ? moved.status : FOTS_OK, period};
+    return (fots_exact_period_result){is_invalid ? moved.status : FOTS_OK, period};
 }
 
 /* The least int32_t has no opposite. */
-static fots_checked_period_result period_negative(fots_period own)
+static fots_exact_period_result period_negative(fots_period own)
 {
     fots_duration_result duration = fots_duration_checked_neg(own.duration);
     int is_outside = own.years == INT32_MIN || own.months == INT32_MIN || own.weeks == INT32_MIN ||
         own.days == INT32_MIN || duration.status;
     if (is_outside) {
-        return (fots_checked_period_result){FOTS_RESULT_OUT_OF_RANGE, own};
+        return (fots_exact_period_result){FOTS_RESULT_OUT_OF_RANGE, own};
     }
-    return (fots_checked_period_result){FOTS_OK,
+    return (fots_exact_period_result){FOTS_OK,
         {-own.years, -own.months, -own.weeks, -own.days, duration.duration}};
 }
 

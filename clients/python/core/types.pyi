@@ -12,7 +12,7 @@ from _typeshed import structseq
 from typing_extensions import Self
 
 from . import _core
-from .choices import CalendarUnit, Convention, DayCount
+from .choices import CalendarUnit, Convention, DayCount, RoundingMode
 from .conversions import instant_of, parts_of, pydantic_schema, value_of
 from .enums import Month, Weekday, YearFraction
 from .errors import check
@@ -39,7 +39,7 @@ class IsoCalendarDate(structseq[int], Tuple[int, int, int]):
 
 class _Text:
     def __str__(self) -> str: ...
-    def isoformat(self) -> str: "Returns the text, like str."
+    def isoformat(self) -> str: "Returns the text of ISO 8601, like str."
     def __copy__(self) -> Self: ...
     def __deepcopy__(self, memo: Any) -> Self: ...
 
@@ -48,6 +48,15 @@ class _Text:
         if "%" in specification and hasattr(self, "strftime"):
             return self.strftime(specification)
         return format(str(self), specification)
+
+    @classmethod
+    def __get_pydantic_core_schema__(cls, source: Any, handler: Any) -> Any:
+        "Returns how Pydantic 2 reads and writes the type: as the text of `isoformat`."
+        return pydantic_schema(cls)
+    @classmethod
+    def __get_validators__(cls) -> Iterator[Callable[[Any], Any]]:
+        "Returns the function by which Pydantic 1 reads the type."
+        return iter([lambda value: value_of(cls, value)])
 
 class _Value(_Text):
     def __lt__(self, other: Self) -> bool: ...
@@ -70,14 +79,6 @@ class _Moved:
         "Returns the value minus a duration, or the nearest end of the range."
 
 class _Formatted:
-    @classmethod
-    def __get_pydantic_core_schema__(cls, source: Any, handler: Any) -> Any:
-        "Returns how Pydantic 2 reads and writes the type: as the text of `isoformat`."
-        return pydantic_schema(cls)
-    @classmethod
-    def __get_validators__(cls) -> Iterator[Callable[[Any], Any]]:
-        "Returns the function by which Pydantic 1 reads the type."
-        return iter([lambda value: value_of(cls, value)])
     def strftime(self, format: str | Format) -> str:
         """Returns the text by a format, or raises ValueError if that shows more than the value has,
         such as `%Z`, which `Zone.strftime` prints."""
@@ -328,6 +329,9 @@ class Time(_Value, _TimeParts, _Formatted):
             self, *, hour: Int | None = None, minute: Int | None = None, second: Int | None = None,
             nanosecond: Int | None = None) -> Time:
         "Replaces the components that are given by name: hour, minute, second, nanosecond."
+    def round(self, unit: SignedDuration, mode: RoundingMode = RoundingMode.HalfCeil) -> Time:
+        """Rounds to a multiple of a unit that divides the day, counted from midnight; 24:00 is 0:00.
+        ValueError for another unit."""
     def duration_until(self, other: Time) -> SignedDuration:
         "Returns the duration forward to the other time, below 24 hours."
     def duration_since(self, other: Time) -> SignedDuration:
@@ -458,6 +462,17 @@ class SignedDuration(_Value, _Moved):
     def subsec_nanoseconds(self) -> int:
         """Returns the nanoseconds below the second, from
         -999999999 to 999999999."""
+    @classmethod
+    def parse(cls, text: str) -> SignedDuration:
+        """Parses hours, minutes and seconds of ISO 8601, such as PT2H30M0.5S or -PT36H, or raises
+        ParseError or ComponentRange. P1D isn't a duration."""
+    @classmethod
+    def fromisoformat(cls, text: str) -> SignedDuration:
+        """Parses hours, minutes and seconds of ISO 8601, such as PT2H30M0.5S or -PT36H, or raises
+        ParseError or ComponentRange. P1D isn't a duration."""
+    def round(self, unit: SignedDuration, mode: RoundingMode = RoundingMode.HalfCeil) -> SignedDuration:
+        """Rounds to a multiple of a positive unit. ValueError for another unit, and OverflowError out
+        of range."""
     def abs(self) -> SignedDuration: "Returns the absolute value, at most MAX."
     def checked_neg(self) -> SignedDuration | None:
         "Returns the duration with the other sign, or None out of range."
@@ -504,7 +519,7 @@ class SignedDuration(_Value, _Moved):
         """Converts to a `datetime.timedelta`. Raises `OverflowError` out of its range, and
         `ValueError` for nanoseconds."""
 
-class Period:
+class Period(_Text):
     """Period(*, years, months, weeks, days, duration): how much later something is by the calendar
     and by the clock.
 
@@ -518,6 +533,14 @@ class Period:
     def __eq__(self, other: object) -> bool: ...
     def __hash__(self) -> int: ...
     def __neg__(self) -> Period: ...
+    @classmethod
+    def parse(cls, text: str) -> Period:
+        """Parses a period of ISO 8601, such as P1Y2M10DT2H30M or -P2W, or raises ParseError or
+        ComponentRange."""
+    @classmethod
+    def fromisoformat(cls, text: str) -> Period:
+        """Parses a period of ISO 8601, such as P1Y2M10DT2H30M or -P2W, or raises ParseError or
+        ComponentRange."""
     @property
     def years(self) -> int: "The years, in 32 bits."
     @property
@@ -528,8 +551,6 @@ class Period:
     def days(self) -> int: "The days, in 32 bits."
     @property
     def duration(self) -> SignedDuration: "The exact duration."
-    def __str__(self) -> str:
-        return repr(self)
     def __repr__(self) -> str:
         return f"Period({', '.join(f'{name}={part!r}' for name, part in parts_of(self).items())})"
     def __reduce__(self) -> tuple[Any, ...]:
@@ -586,6 +607,18 @@ class PlainDateTime(_DateTime, _Shifted):
     def fromisoformat(cls, text: str) -> PlainDateTime:
         """Parses a date, T or a space, and a time, such as 2024-02-29T23:59:59.25; errors like
         Date.parse and Time.parse."""
+    def round(self, unit: SignedDuration, mode: RoundingMode = RoundingMode.HalfCeil) -> PlainDateTime:
+        """Rounds the time of day like `Time.round`, where 24:00 is the next date; OverflowError out of
+        range."""
+    def nth_period(self, period: Period, n: Int) -> PlainDateTime:
+        "Returns the date-time n times a Period later, like `Date.nth_period`."
+    def step_of(self, period: Period, plain: PlainDateTime) -> int | None:
+        "Returns the greatest n for which nth_period isn't after a date-time, like `Date.step_of`."
+    def period_until(self, other: PlainDateTime) -> Period:
+        """Returns years, months and days, and the exact rest below a day, to another date-time. Added
+        to this one, the period gives the other."""
+    def period_until_by(self, other: PlainDateTime, unit: CalendarUnit) -> Period:
+        "Returns the same with a CalendarUnit as the largest part, like `Date.period_until_by`."
     def assume_utc(self) -> OffsetDateTime: "Returns the same date and time at UTC."
     def assume_offset(self, offset: UtcOffset) -> OffsetDateTime:
         "Returns the same date and time at an offset."
@@ -654,6 +687,8 @@ class OffsetDateTime(_DateTime):
     @classmethod
     def from_unix_duration(cls, duration: SignedDuration) -> OffsetDateTime:
         "Creates the date-time at UTC of a Unix time."
+    def round(self, unit: SignedDuration, mode: RoundingMode = RoundingMode.HalfCeil) -> OffsetDateTime:
+        "Rounds the time of day like `PlainDateTime.round`, at the same offset."
     def to_offset(self, offset: UtcOffset) -> OffsetDateTime:
         "Returns the same instant at another offset, or raises OverflowError."
     def checked_to_offset(self, offset: UtcOffset) -> OffsetDateTime | None:

@@ -28,20 +28,20 @@ _core.setup(_datetime.date, _datetime.time, _datetime.datetime, _datetime.timede
     _datetime.tzinfo, _datetime.timezone,
     _core.has_layouts(_datetime.date(2024, 2, 29), _datetime.time(1, 2, 3, 4),
         _datetime.datetime(2024, 2, 29, 1, 2, 3, 4), _datetime.timedelta(-1, 2, 3)), Weekday, _choices.CalendarUnit,
-    _choices.Convention, _choices.DayCount, YearFraction, status_error, ComponentRange, *Month, *Weekday)
+    _choices.RoundingMode, _choices.Convention, _choices.DayCount, YearFraction, status_error, ComponentRange, *Month, *Weekday)
 
 from . import calls as _calls, members as _members
 from ._core import IsoCalendarDate
 from .calls import *
 from .formats import Format
-from .schedules import DateRange, Days, Recurrence, Rule, Workdays
+from .schedules import DateRange, Days, Recurrence, Rule, Steps, Workdays
 from .zones import Local, Zone, ZonedDateTime
 
 __version__ = "0.1.0"
 
 __all__ = [
     "ComponentRange", "ContradictionError", "DateRange", "Days", "Format", "FormatError", "IsoCalendarDate", "Local",
-    "Month", "ParseError", "ParseRuleError", "ParseRuleErrorKind", "Recurrence", "Rule", "Weekday",
+    "Month", "ParseError", "ParseRuleError", "ParseRuleErrorKind", "Recurrence", "Rule", "Steps", "Weekday",
     "Workdays", "YearFraction", "Zone", "ZonedDateTime", "ZoneError", "status_error",
 ]
 # A checker of types reads literals only; a test compares these names with calls.__all__.
@@ -50,7 +50,7 @@ __all__ += [
     "days_in_month", "days_in_year_month", "is_leap_year", "days_in_year", "weeks_in_year",
     "add_to_pair", "sub_from_pair", "rfc3339_text", "unix_text", "unix_duration", "unix_pair",
     "parse_rfc3339", "parse_unix", "CalendarUnit", "Convention", "DayCount", "Frequency", "LocalKind",
-    "Policy", "DateColumns", "CalendarDateColumns", "OrdinalDateColumns", "IsoWeekDateColumns",
+    "RoundingMode", "Policy", "DateColumns", "CalendarDateColumns", "OrdinalDateColumns", "IsoWeekDateColumns",
     "WeekdayColumns", "OffsetColumns", "InstantColumns", "NumberColumns", "MomentColumns",
     "TextColumns", "dates_from_julian_days", "dates_from_calendar_dates",
     "dates_from_ordinal_dates", "dates_from_iso_week_dates", "dates_to_calendar_dates",

@@ -3,6 +3,7 @@
 from __future__ import annotations
 
 import array
+import contextlib
 import dataclasses
 import functools
 import itertools
@@ -10,14 +11,14 @@ import operator
 import re
 import struct
 from collections.abc import Callable, Collection, Iterable, Iterator, Sequence
-from typing import Any, SupportsIndex, TypeGuard, overload
+from typing import Any, SupportsIndex, TypeGuard, TypeVar, overload
 
 from . import _core
-from ._core import Date, OffsetDateTime, PlainDateTime, Time, UtcOffset
+from ._core import Date, OffsetDateTime, Period, PlainDateTime, Time, UtcOffset
 from .choices import Frequency
 from .enums import Month, Weekday
 from .errors import check, is_like_date
-from .zones import Zone
+from .zones import Zone, ZonedDateTime
 
 # The lists of a rule, and their numbers in C as the module array has them.
 _LISTS = {"months": "B", "weeks": "b", "year_days": "h", "month_days": "b", "weekdays": "b",
@@ -25,6 +26,7 @@ _LISTS = {"months": "B", "weeks": "b", "year_days": "h", "month_days": "b", "wee
 _UNTIL = "%Y%m%dT%H%M%S%.fZ"
 _NANOSECOND = _core.nanoseconds(1)
 _Readings = Iterable[PlainDateTime]
+_S = TypeVar("_S", Date, PlainDateTime, ZonedDateTime)
 
 
 def _pages(page: Callable[[Any, int], list[Any]], follow: Callable[[Any], Any], first: Any
@@ -129,6 +131,31 @@ class DateRange(Collection[Date]):
     def share(self, other: DateRange) -> tuple[int, int]:
         """Returns how many days of the range are in the other one, and how many days it has."""
         return _core.date_range_share(self.start, self.end, *_ends(other))
+
+
+@dataclasses.dataclass(frozen=True)
+class Steps(Iterable[_S]):
+    """Steps(start, period): the dates or date-times from a start on, each a period later. Each is
+    counted from the start, so nothing drifts. They end at the end of the range.
+
+    A period that isn't positive raises `ValueError`, and so does one with a duration for dates.
+
+    >>> [str(date) for _, date in zip(range(3), Steps(Date(2024, 1, 31), Period(months=1)))]
+    ['2024-01-31', '2024-02-29', '2024-03-31']
+    """
+
+    start: _S
+    period: Period
+
+    def __post_init__(self) -> None:
+        start: Any = self.start.local() if hasattr(self.start, "local") else self.start
+        if start.step_of(self.period, start) is None:
+            raise ValueError("expected a positive period, of dates without a duration")
+
+    def __iter__(self) -> Iterator[_S]:
+        with contextlib.suppress(OverflowError):
+            for n in itertools.count():
+                yield self.start.nth_period(self.period, n)
 
 
 def _ends(range_of_days: DateRange) -> tuple[Date, Date]:

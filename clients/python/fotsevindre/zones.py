@@ -18,7 +18,7 @@ from typing import TYPE_CHECKING, Any, SupportsIndex, overload
 from . import _core, calls
 from ._core import Date, IsoCalendarDate, OffsetDateTime, Period, PlainDateTime, SignedDuration
 from ._core import Time, UtcOffset
-from .choices import LocalKind, Policy
+from .choices import CalendarUnit, LocalKind, Policy
 from .conversions import instant_of
 from .enums import Month, Weekday
 from .errors import ParseError, ZoneError, check
@@ -456,6 +456,38 @@ class ZonedDateTime:
         number = check(policy, Policy)
         moment = _core.zoned_checked_add_period(self.zone._zone, self._moment, period, number)
         return None if moment is None else self._at(moment, self.zone)
+
+    def nth_period(self, period: Period, n: SupportsIndex,
+                   policy: Policy = Policy.Compatible) -> ZonedDateTime:
+        """Returns the date-time n times a period later, counted from this one, so that nothing
+        drifts."""
+        number = check(policy, Policy)
+        return self._at(
+            _core.zoned_nth_period(self.zone._zone, self._moment, period, n, number), self.zone)
+
+    def period_until(
+            self, other: ZonedDateTime, unit: CalendarUnit = CalendarUnit.Year,
+            policy: Policy = Policy.Compatible) -> Period:
+        """Returns the period to another date-time, with a `CalendarUnit` as its largest part, and the
+        exact rest. Added to this one by the policy, it gives the other."""
+        moment = _core.moment_in_zone(check(other, ZonedDateTime)._moment, self.zone._zone)
+        number = check(policy, Policy)
+        return _core.zoned_period_until(self.zone._zone, self._moment, moment, unit, number)
+
+    def moved_to(self, date: Date, policy: Policy = Policy.Compatible) -> ZonedDateTime:
+        """Returns the same time of day on another date, such as the next working day, by the policy.
+        On its own date it stays as it is."""
+        number = check(policy, Policy)
+        return self._at(
+            _core.zoned_moved_to(self.zone._zone, self._moment, date, number), self.zone)
+
+    def start_of(self, unit: CalendarUnit) -> ZonedDateTime:
+        """Returns the start of the day, ISO week, month, quarter or year."""
+        return self._at(_core.zoned_start_of(self.zone._zone, self._moment, unit), self.zone)
+
+    def end_of(self, unit: CalendarUnit) -> ZonedDateTime:
+        """Returns the end of a unit: a nanosecond before the start of the next one."""
+        return self._at(_core.zoned_end_of(self.zone._zone, self._moment, unit), self.zone)
 
     def add_months(
             self, number: SupportsIndex, policy: Policy = Policy.Compatible) -> ZonedDateTime:

@@ -43,7 +43,7 @@ class Printing(unittest.TestCase):
 
     def test_texts(self):
         self.assertEqual(f"{LEAP_DAY:%A, %-d %B %Y}", "Thursday, 29 February 2024")
-        self.assertEqual((f"{LEAP_DAY}", f"{LEAP_DAY:>12}", f"{SignedDuration(days=1):%>4}"), ("2024-02-29", "  2024-02-29", "%%1d"))
+        self.assertEqual((f"{LEAP_DAY}", f"{LEAP_DAY:>12}", f"{SignedDuration(days=1):%>7}"), ("2024-02-29", "  2024-02-29", "%%PT24H"))
         self.assertEqual(NIGHT.strftime("%d/%b/%Y:%T%.f %:z"), "29/Feb/2024:23:59:59.25 +05:30")
         self.assertEqual((Date(-44, 3, 15).strftime("%Y"), Date(12024, 1, 1).strftime("%Y")), ("-0044", "+12024"))
         self.assertEqual(LEAP_DAY.strftime(""), "")

@@ -10,7 +10,7 @@ import random
 import unittest
 
 import fotsevindre
-from fotsevindre import ComponentRange, Date, OffsetDateTime, PlainDateTime, SignedDuration, Time, UtcOffset
+from fotsevindre import ComponentRange, Date, OffsetDateTime, PlainDateTime, RoundingMode, SignedDuration, Time, UtcOffset
 
 SECOND = 10**9
 DAY = 86400 * SECOND
@@ -215,6 +215,53 @@ class Drawn(Cases):
                 self.refused("timestamp", False, OffsetDateTime.from_unix_timestamp_nanos, by)
             else:
                 self.assertEqual(shows(OffsetDateTime.from_unix_timestamp_nanos(by)), shows(wanted.assume_utc()))
+
+
+class Rounding(Cases):
+    """The rows are the examples of Temporal's documentation. Drawn values are compared with whole numbers."""
+
+    def test_rows(self):
+        hour, half = SignedDuration(hours=1), SignedDuration(minutes=30)
+        time, local = Time.parse("19:39:09.068346205"), PlainDateTime.parse("1995-12-07T03:24:30.000003500")
+        self.assertEqual([time.round(hour), time.round(half), time.round(half, RoundingMode.Ceil), time.round(half, RoundingMode.Floor)], [Time(20), Time(19, 30), Time(20), Time(19, 30)])
+        self.assertEqual([local.round(hour), local.round(half), local.round(half, RoundingMode.Floor)], [PlainDateTime(1995, 12, 7, 3), PlainDateTime(1995, 12, 7, 3, 30), PlainDateTime(1995, 12, 7, 3)])
+        self.assertEqual((Time(23, 30).round(hour), PlainDateTime(2024, 2, 29, 23, 30).round(hour), PlainDateTime(2024, 2, 29, 12).round(SignedDuration.DAY)), (Time(), PlainDateTime(2024, 3, 1), PlainDateTime(2024, 3, 1)))
+        moment = OffsetDateTime(2024, 2, 29, 23, 30, offset=UtcOffset(5, 30)).round(hour)
+        self.assertEqual((moment.local(), moment.offset), (PlainDateTime(2024, 3, 1), UtcOffset(5, 30)))
+        self.assertEqual([SignedDuration(seconds=-90).round(SignedDuration.MINUTE, mode).whole_seconds() for mode in RoundingMode], [-120, -60, -60, -60, -120])
+
+    def test_against_whole_numbers(self):
+        draw, day = random.Random(99), 86400 * 10**9
+        units = [unit for unit in (1, 7 * 10**9, 15 * 60 * 10**9, 3600 * 10**9, day, 86400 * 10**6, 10**3) if day % unit == 0]
+
+        def rounded(number, unit, mode):
+            low, rest = number // unit * unit, number % unit
+            ways = {
+                RoundingMode.Floor: False, RoundingMode.Ceil: rest > 0, RoundingMode.Trunc: rest > 0 and number < 0, RoundingMode.HalfCeil: 2 * rest >= unit,
+                RoundingMode.HalfEven: 2 * rest > unit or 2 * rest == unit and low // unit % 2 == 1}
+            return low + unit * ways[mode]
+
+        for _ in range(3000):
+            unit, mode = draw.choice(units), draw.choice(list(RoundingMode))
+            number = draw.choice([draw.randrange(day), draw.randrange(day) // unit * unit + draw.choice([0, unit // 2])]) % day
+            date, time = Date.from_julian_day(draw.randint(-10**7, 10**7)), Time() + SignedDuration.nanoseconds(number)
+            found, length = rounded(number, unit, mode), SignedDuration.nanoseconds(unit)
+            self.assertEqual(time.round(length, mode), Time() + SignedDuration.nanoseconds(found % day))
+            self.assertEqual(PlainDateTime(date, time).round(length, mode), PlainDateTime(date, Time()) + SignedDuration.nanoseconds(found))
+            unit = draw.choice([1, 7, 10**9, draw.randint(1, 10**12)])
+            number = draw.choice([draw.randint(-10**15, 10**15), draw.randint(-1000, 1000) * unit + unit // 2])
+            self.assertEqual(SignedDuration.nanoseconds(number).round(SignedDuration.nanoseconds(unit), mode).whole_nanoseconds(), rounded(number, unit, mode))
+
+    def test_refusals(self):
+        for value in (Time(), PlainDateTime.MIN, OffsetDateTime.UNIX_EPOCH):
+            for unit in (SignedDuration(), SignedDuration(hours=-1), SignedDuration(hours=5), SignedDuration(hours=48)):
+                self.assertRaises(ValueError, value.round, unit)
+        self.assertRaises(ValueError, SignedDuration.DAY.round, SignedDuration())
+        self.past(PlainDateTime.MAX.round, SignedDuration.HOUR)
+        self.past(SignedDuration.MAX.round, SignedDuration.HOUR, RoundingMode.Ceil)
+        for value in (Time(), SignedDuration(), PlainDateTime.MIN, OffsetDateTime.UNIX_EPOCH):
+            for wrong in ((), (1,), (SignedDuration.HOUR, 0), (SignedDuration.HOUR, RoundingMode.Floor, 1), (datetime.timedelta(hours=1),)):
+                self.assertRaises(TypeError, value.round, *wrong)
 
 
 class OfTheStandardLibrary(Cases):

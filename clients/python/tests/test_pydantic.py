@@ -4,7 +4,7 @@ import unittest
 
 import pydantic
 
-from fotsevindre import Date, Month, OffsetDateTime, PlainDateTime, Time, UtcOffset, Weekday
+from fotsevindre import Date, Month, OffsetDateTime, Period, PlainDateTime, SignedDuration, Time, UtcOffset, Weekday
 
 try:
     import pydantic.v1 as first
@@ -12,14 +12,15 @@ except ImportError:
     first = pydantic
 
 MOMENT = OffsetDateTime(2024, 2, 29, 9, 30, nanosecond=250_000_001, offset=UtcOffset(1))
-VALUES = {"day": MOMENT.date(), "at": MOMENT.time(), "local": MOMENT.local(), "moment": MOMENT, "offset": MOMENT.offset, "month": Month.May, "weekday": Weekday.Monday}
+VALUES = {"day": MOMENT.date(), "at": MOMENT.time(), "local": MOMENT.local(), "moment": MOMENT, "offset": MOMENT.offset,
+    "duration": SignedDuration(hours=26), "period": Period(months=1, days=1), "month": Month.May, "weekday": Weekday.Monday}
 TEXTS = {name: str(value) for name, value in VALUES.items()} | {"month": 5, "weekday": 0}
-WRONG = [("day", "2023-02-29"), ("day", "29/02/2024"), ("day", 20240229), ("day", None), ("at", "24:00"), ("moment", "2024-02-29T09:30"), ("offset", "1"), ("month", 13)]
+WRONG = [("day", "2023-02-29"), ("day", "29/02/2024"), ("day", 20240229), ("day", None), ("at", "24:00"), ("moment", "2024-02-29T09:30"), ("offset", "1"), ("duration", "P1D"), ("period", "1 day"), ("month", 13)]
 
 
 def model(base):
     """Returns a model with these types."""
-    types = {"day": Date, "at": Time, "local": PlainDateTime, "moment": OffsetDateTime, "offset": UtcOffset, "month": Month, "weekday": Weekday}
+    types = {"day": Date, "at": Time, "local": PlainDateTime, "moment": OffsetDateTime, "offset": UtcOffset, "duration": SignedDuration, "period": Period, "month": Month, "weekday": Weekday}
     return type("Row", (base,), {"__annotations__": types, "__module__": __name__})
 
 

@@ -17,8 +17,8 @@ except ImportError:
     relativedelta = rrule = None
 
 from fotsevindre import (
-    CalendarUnit, ComponentRange, Convention, Date, DateRange, DayCount, Frequency, Month, OffsetDateTime, ParseRuleError, ParseRuleErrorKind, Period, PlainDateTime, Recurrence,
-    Rule, SignedDuration, Time, Weekday, Workdays, Zone)
+    CalendarUnit, ComponentRange, Convention, Date, DateRange, DayCount, Frequency, Month, OffsetDateTime, ParseError, ParseRuleError, ParseRuleErrorKind, Period, PlainDateTime, Recurrence,
+    Rule, SignedDuration, Steps, Time, Weekday, Workdays, Zone)
 
 
 def day(year, month, day_of_month):
@@ -126,6 +126,68 @@ class Months(unittest.TestCase):
         self.assertRaises(ValueError, DateRange, march.end, march.start)
         for call in (lambda: DateRange(march.start, 1), lambda: march.share(1), lambda: march.overlaps(march.start), lambda: datetime.date(2024, 3, 1) in march):
             self.assertRaises(TypeError, call)
+
+    def test_steps(self):
+        start, month = day(2024, 1, 31), Period(months=1)
+        for date, step in ((start, 0), (day(2024, 2, 28), 0), (day(2024, 2, 29), 1), (day(2024, 3, 30), 1), (day(2024, 3, 31), 2), (day(2024, 1, 30), None)):
+            self.assertEqual(start.step_of(month, date), step)
+        for period in (Period(), Period(days=-1), Period(days=1, duration=SignedDuration.HOUR)):
+            self.assertIsNone(start.step_of(period, start))
+        self.assertRaises(TypeError, start.step_of, 1, start)
+        draw = random.Random(3)
+        for _ in range(300):
+            period = Period(years=draw.randrange(2), months=draw.randrange(3), weeks=draw.randrange(2), days=draw.randrange(1, 9))
+            date = start + Period(days=draw.randrange(2000))
+            step = start.step_of(period, date)
+            self.assertTrue(start.nth_period(period, step) <= date < start.nth_period(period, step + 1), (period, date))
+
+    def test_texts_of_periods(self):
+        rows = [
+            (Period(), "PT0S"), (Period(days=1), "P1D"), (Period(days=-1), "-P1D"), (Period(weeks=2), "P2W"), (Period(months=1), "P1M"),
+            (Period(years=1, months=2, days=10, duration=SignedDuration(hours=2, minutes=30, milliseconds=500)), "P1Y2M10DT2H30M0.5S"),
+            (Period(weeks=-1, days=-3, duration=SignedDuration(minutes=-1)), "-P1W3DT1M"),
+        ]
+        for period, text in rows:
+            self.assertEqual((str(period), period.isoformat(), Period.parse(text), Period.fromisoformat(text)), (text, text, period, period))
+        self.assertEqual((Period.parse("PT36H"), Period.parse("P0001Y0M")), (Period(duration=SignedDuration(hours=36)), Period(years=1)))
+        for text, position, is_end in [("", 0, True), ("P", 1, True), ("P1DT", 4, True), ("P1", 2, True), ("1D", 0, False), ("P1D2M", 3, False), ("P1.5D", 2, False), ("P-1D", 1, False), ("p1d", 0, False)]:
+            with self.assertRaises(ParseError, msg=text) as caught:
+                Period.parse(text)
+            self.assertEqual((caught.exception.position, caught.exception.is_end), (position, is_end), text)
+        for letter, name in zip("YMWD", ("years", "months", "weeks", "days")):
+            with self.assertRaisesRegex(ComponentRange, f"^{name} "):
+                Period.parse(f"P{2**31}{letter}")
+
+    def test_periods_of_date_times(self):
+        start, month = PlainDateTime(2024, 1, 31, 8), Period(months=1)
+        self.assertEqual([start.nth_period(month, n) for n in (0, 1, 2, -2)], [start, PlainDateTime(2024, 2, 29, 8), PlainDateTime(2024, 3, 31, 8), PlainDateTime(2023, 11, 30, 8)])
+        self.assertEqual((start.nth_period(Period(days=1, duration=SignedDuration(hours=12)), 2), PlainDateTime(2000, 1, 31, 8).step_of(month, PlainDateTime(2000, 2, 29, 7, 59))), (PlainDateTime(2024, 2, 3, 8), 0))
+        self.assertEqual((start.step_of(month, PlainDateTime(2024, 2, 29, 8)), start.step_of(month, PlainDateTime(2024, 1, 31)), start.step_of(-month, start)), (1, None, None))
+        noon, end = PlainDateTime(2024, 1, 31, 12), PlainDateTime(2024, 3, 1, 11)
+        self.assertEqual((noon.period_until(end), noon.period_until_by(end, CalendarUnit.Day)), (Period(months=1, duration=SignedDuration(hours=23)), Period(days=29, duration=SignedDuration(hours=23))))
+        self.assertEqual(end.period_until(end), Period())
+        draw = random.Random(100)
+        for _ in range(1000):
+            one, other = (PlainDateTime(day(2024, 1, 1) + SignedDuration(days=draw.randint(-10**5, 10**5)), Time(draw.randrange(24), draw.randrange(60))) for _ in "12")
+            for unit in CalendarUnit:
+                period = one.period_until_by(other, unit)
+                self.assertEqual((one + period, abs(period.duration) < SignedDuration.DAY), (other, True))
+            period = Period(months=draw.randint(0, 30), days=draw.randint(1, 30), duration=SignedDuration(hours=draw.randint(0, 50)))
+            step = min(one, other).step_of(period, max(one, other))
+            self.assertTrue(min(one, other).nth_period(period, step) <= max(one, other) < min(one, other).nth_period(period, step + 1))
+        self.assertRaises(OverflowError, PlainDateTime.MAX.nth_period, month, 1)
+        for call in (lambda: start.nth_period(month), lambda: start.nth_period(1, 1), lambda: start.step_of(month, day(2024, 1, 1)), lambda: start.period_until(day(2024, 1, 1)), lambda: start.period_until_by(end, 1)):
+            self.assertRaises(TypeError, call)
+
+    def test_steps(self):
+        start, month = day(2024, 1, 31), Period(months=1)
+        self.assertEqual(list(itertools.islice(Steps(start, month), 4)), [start, day(2024, 2, 29), day(2024, 3, 31), day(2024, 4, 30)])
+        self.assertEqual(list(itertools.islice(Steps(PlainDateTime(start, Time(8)), month), 2)), [PlainDateTime(2024, 1, 31, 8), PlainDateTime(2024, 2, 29, 8)])
+        self.assertEqual(list(Steps(Date.MAX, month)), [Date.MAX])
+        self.assertEqual(len(list(Steps(day(999990, 1, 31), Period(years=1)))), 10)
+        self.assertEqual((Steps(start, month), hash(Steps(start, month)), eval(repr(Steps(start, month)))), (Steps(start, month), hash(Steps(start, month)), Steps(start, month)))
+        for period in (Period(), -month, Period(duration=SignedDuration.DAY)):
+            self.assertRaises(ValueError, Steps, start, period)
 
     def test_periods_are_values(self):
         named = {"years": 1, "months": 12, "weeks": 7, "days": 30, "duration": SignedDuration(hours=2, nanoseconds=1)}

@@ -52,6 +52,13 @@ starts: Tuple[ZonedDateTime, SignedDuration, datetime.datetime] = (zone.start_of
 moved: Tuple[Date, PlainDateTime, Optional[Date], Date] = (
     day + Period(months=1), local + Period(duration=no_time), day.checked_add_period(Period(days=-1)), day.nth_period(Period(weeks=2), 3))
 period: Period = day.period_until(last)
+rounded: Tuple[Time, PlainDateTime, OffsetDateTime, SignedDuration] = (
+    Time.MAX.round(SignedDuration.HOUR), local.round(SignedDuration.HOUR, RoundingMode.Floor), moment.round(SignedDuration.HOUR), no_time.round(SignedDuration.HOUR))
+by_iso: Tuple[SignedDuration, Period, str] = (SignedDuration.parse("PT1H"), Period.fromisoformat("P1D"), period.isoformat())
+steps: List[Date] = [date for date in Steps(day, period)]
+of_steps: Tuple[PlainDateTime, Optional[int], Period] = (local.nth_period(period, 2), local.step_of(period, local), local.period_until_by(local, CalendarUnit.Day))
+of_zoned: Tuple[ZonedDateTime, Period, ZonedDateTime, ZonedDateTime] = (
+    in_zone.nth_period(period, 2), in_zone.period_until(in_zone, CalendarUnit.Day), in_zone.moved_to(day), in_zone.end_of(CalendarUnit.Month))
 back: Tuple[Date, PlainDateTime, ZonedDateTime, Period] = (day - Period(days=1), local - Period(months=1), in_zone - Period(years=1), -period)
 months_later: Tuple[PlainDateTime, OffsetDateTime, ZonedDateTime, Optional[PlainDateTime]] = (
     local.add_months(1), moment.add_years(1), in_zone.add_months(1, Policy.Later), local.checked_add_months(1))
@@ -108,6 +115,9 @@ day.strftime(29)  # refused
 zone.instants([0], 3)  # refused
 moment.in_zone("Europe/Berlin")  # refused
 moment - Period(days=1)  # refused
+local.round(1)  # refused
+local.round(no_time, 0)  # refused
+Steps(moment, period)  # refused
 Time(1, 2, 3, 4)  # refused
 PlainDateTime(2024, 2)  # refused
 OffsetDateTime(2024, 2, 29)  # refused

@@ -678,12 +678,25 @@ class Durations(Cases):
 
     def test_texts(self):
         rows = [
-            (SignedDuration.ZERO, "0s"), (SignedDuration.nanoseconds(-1), "-1ns"),
-            (LEAST, "-106751991167300d15h30m8s999ms999\u00b5s999ns"), (GREATEST, "106751991167300d15h30m7s999ms999\u00b5s999ns"),
-            (SignedDuration.milliseconds(-93784005), "-1d2h3m4s5ms"), (SignedDuration.hours(26), "1d2h"),
+            (SignedDuration.ZERO, "PT0S"), (SignedDuration.nanoseconds(-1), "-PT0.000000001S"),
+            (LEAST, "-PT2562047788015215H30M8.999999999S"), (GREATEST, "PT2562047788015215H30M7.999999999S"),
+            (SignedDuration.milliseconds(-93784005), "-PT26H3M4.005S"), (SignedDuration.hours(26), "PT26H"),
         ]
         for duration, text in rows:
             self.assertEqual((str(duration), duration.isoformat(), f"{duration:>40}"), (text, text, text.rjust(40)))
+            self.assertEqual((SignedDuration.parse(text), SignedDuration.fromisoformat(text)), (duration, duration))
+        for text, wanted in [("PT2H30M0,5S", SignedDuration(hours=2, minutes=30, milliseconds=500)), ("PT090M", SignedDuration(minutes=90)), ("-PT0S", SignedDuration())]:
+            self.assertEqual(SignedDuration.parse(text), wanted)
+        for text, position, is_end in [("", 0, True), ("P1D", 1, False), ("PT", 2, True), ("pt1h", 0, False), ("PT1M1H", 5, False), ("PT1.5M", 5, False), ("+PT1S", 0, False), ("PT1S ", 4, False)]:
+            with self.assertRaises(ParseError, msg=text) as caught:
+                SignedDuration.parse(text)
+            self.assertEqual((caught.exception.position, caught.exception.is_end), (position, is_end), text)
+        for text, name in [("PT9999999999999999H", "hours"), (f"PT{2**63 // 60 + 1}M", "minutes"), (f"PT{2**63}S", "seconds")]:
+            self.refused(name, False, SignedDuration.parse, text)
+        draw = random.Random(98)
+        for _ in range(500):
+            duration = SignedDuration.new(draw.choice([0, draw.randint(-2**63 + 1, 2**63 - 2), draw.randint(-10**6, 10**6)]), draw.choice([0, draw.randint(-10**9, 10**9)]))
+            self.assertEqual(SignedDuration.parse(str(duration)), duration)
         self.assertEqual([repr(duration) for duration in (SignedDuration.ZERO, SignedDuration.hours(26), SignedDuration.milliseconds(-3605000))],
             ["SignedDuration()", "SignedDuration(days=1, hours=2)", "SignedDuration(hours=-1, seconds=-5)"])
 

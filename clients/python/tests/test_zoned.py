@@ -11,7 +11,7 @@ import random
 import unittest
 import zoneinfo
 
-from fotsevindre import Date, OffsetDateTime, Period, PlainDateTime, Policy, SignedDuration, Time, UtcOffset, Weekday, Zone, ZonedDateTime
+from fotsevindre import CalendarUnit, Date, OffsetDateTime, Period, PlainDateTime, Policy, SignedDuration, Steps, Time, UtcOffset, Weekday, Zone, ZonedDateTime
 from fotsevindre import zones
 
 UTC = datetime.timezone.utc
@@ -137,6 +137,30 @@ class Values(unittest.TestCase):
         self.assertEqual((found.unix_timestamp(), found.unix_timestamp_nanos(), found.unix_duration()), (instant, instant * 10**9, SignedDuration.seconds(instant)))
         self.assertEqual(str(found.in_zone(Zone("America/New_York"))), "2024-03-30T21:00:00-04:00")
         self.assertEqual((f"{found:%F %T %Z}", found.strftime("%z"), f"{found:>27}"), ("2024-03-31 03:00:00 CEST", "+0200", f"  {found}"))
+
+    def test_moves_of_the_clocks(self):
+        """Rows of the gap of 2024-03-31 and the fold of 2024-10-27 in Berlin."""
+        night, fold = of("2024-03-30T02:30", "Europe/Berlin"), of("2024-10-27T02:30", "Europe/Berlin", Policy.Later)
+        rows = [
+            (night.moved_to(Date(2024, 3, 31)), "2024-03-31T03:30:00+02:00"), (night.moved_to(Date(2024, 3, 31), Policy.Earlier), "2024-03-31T01:30:00+01:00"),
+            (fold.moved_to(fold.date()), "2024-10-27T02:30:00+01:00"), (of("2024-01-31T02:30", "Europe/Berlin").nth_period(Period(months=1), 2), "2024-03-31T03:30:00+02:00"),
+            (night.start_of(CalendarUnit.Month), "2024-03-01T00:00:00+01:00"), (night.end_of(CalendarUnit.Month), "2024-03-31T23:59:59.999999999+02:00"),
+            (of("2024-03-31T12:00", "Europe/Berlin").start_of(CalendarUnit.Day), "2024-03-31T00:00:00+01:00"), (night.start_of(CalendarUnit.Week), "2024-03-25T00:00:00+01:00"),
+            (night.end_of(CalendarUnit.Year), "2024-12-31T23:59:59.999999999+01:00"), (night.start_of(CalendarUnit.Quarter), "2024-01-01T00:00:00+01:00"),
+        ]
+        self.assertEqual([str(found) for found, _ in rows], [wanted for _, wanted in rows])
+        noon, later = of("2024-03-30T12:00", "Europe/Berlin"), of("2024-03-31T13:00", "Europe/Berlin")
+        self.assertEqual((noon.period_until(later), noon.period_until(later.in_zone(Zone("Asia/Tokyo"))), noon.period_until(noon)),
+            (Period(days=1, duration=SignedDuration(hours=1)),) * 2 + (Period(),))
+        self.assertEqual([str(one) for one in itertools.islice(Steps(of("2024-03-30T02:30", "Europe/Berlin"), Period(days=1)), 3)],
+            ["2024-03-30T02:30:00+01:00", "2024-03-31T03:30:00+02:00", "2024-04-01T02:30:00+02:00"])
+        draw, zone = random.Random(101), Zone("Europe/Berlin")
+        for _ in range(300):
+            one, other = (ZonedDateTime.from_unix_timestamp(draw.randint(0, 2 * 10**9), zone) for _ in "12")
+            for unit, policy in itertools.product(CalendarUnit, (Policy.Compatible, Policy.Earlier, Policy.Later)):
+                self.assertEqual(one.add_period(one.period_until(other, unit, policy), policy), other)
+        for call in (lambda: night.moved_to(night), lambda: night.start_of(1), lambda: night.end_of("day"), lambda: night.period_until(night.local()), lambda: night.nth_period(1, 1)):
+            self.assertRaises(TypeError, call)
 
     def test_habits_of_datetime(self):
         value, other = of("2024-02-29T09:30:15.25", "Europe/Berlin"), datetime.datetime(2024, 2, 29, 9, 30, 15, 250000, tzinfo=zoneinfo.ZoneInfo("Europe/Berlin"))
