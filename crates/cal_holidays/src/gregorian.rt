@@ -47,7 +47,7 @@ fn easter_after(march: Date, year: i32) -> Date
 /// Returns Easter Sunday of a year, by the tables of the Gregorian calendar. In 2024 it is
 /// 2024-03-31. Returns the error `year` if it is out of range.
 ///
-/// The western churches use it since 1583. Earlier years count as if they had used it.
+/// Western churches have used it since 1583. Earlier years count as if they had used it.
 pub fn easter(year: i32) -> Result<Date, ComponentRange>
     ensures every { (n : ℕ) → IsDate n → IsEaster year n → result ≡ Ok n }
     ensures value { IfOk result (λ n. IsDate n × IsEaster year n) }
