@@ -18,7 +18,7 @@ pub mod usage_message;
 pub mod words;
 
 use crate::args::bounds::bounds_at;
-use crate::args::clock_words::now_in;
+use crate::args::clock_words::{now_in, now_on};
 use crate::args::formats::to_of;
 use crate::args::listing::list_of;
 use crate::args::names::{CommandName, MoveVerb, Verb};
@@ -35,7 +35,7 @@ use crate::args::usage_error::{Expected, UsageError, usage_error_at};
 use crate::args::words::{cut, ended, ends_at, only_at, word_as, word_at};
 use crate::command::Command;
 use crate::data_files::DataFiles;
-use crate::zones::is_zone_like;
+use crate::zones::{is_zone_like, zone_with};
 use cal_datetime::{OffsetDateTime, PlainDateTime};
 use cal_schedule::Workdays;
 use cal_time::{SignedDuration, Weekday};
@@ -283,22 +283,16 @@ fn request_at<'a, D: DataFiles<'a>>(
     now: Option<OffsetDateTime>,
     files: &mut D,
 ) -> Result<Request<'a>, UsageError<'a>>
-    requires { at + 5 < 2 ^ 64 }
+    requires { at + 7 < 2 ^ 64 }
 {
     let verb = word_as(words, at, verb_of, expected_verb(at))?;
     let at = at + 1;
     match verb {
         Verb::To => to_at(words, at),
         Verb::Move(verb) => Ok(Request::Move(move_of(verb, words, at)?)),
-        Verb::Until => {
-            let (target, unit) = target_at(words, at, now)?;
-            Ok(Request::Until(target, unit))
-        }
-        Verb::Since => {
-            let (target, unit) = target_at(words, at, now)?;
-            Ok(Request::Since(target, unit))
-        }
-        Verb::At => at_place(words, at, policy, files),
+        Verb::Until => until_at(words, at, None, now),
+        Verb::Since => since_at(words, at, None, now),
+        Verb::At => at_place(words, at, policy, now, files),
         Verb::Keep => Ok(Request::Keep(bounds_at(words, at, now)?)),
     }
 }
@@ -366,27 +360,79 @@ fn end_at(words: &[u8], at: usize) -> Result<Move, UsageError<'static>>
     Ok(Move::Day(DayMove::End(period)))
 }
 
-/// Parses `OFFSET`, `ZONE`, or `ZONE` and a move.
+/// Parses `OFFSET` or `ZONE`, perhaps with a move, `until` or `since`.
 fn at_place<'a, D: DataFiles<'a>>(
     words: &'a [u8],
     at: usize,
     policy: Policy,
+    now: Option<OffsetDateTime>,
     files: &mut D,
 ) -> Result<Request<'a>, UsageError<'a>>
+    requires { at + 6 < 2 ^ 64 }
+{
+    let place = place_at(words, at, files)?;
+    let Some(verb) = word_at(words, at + 1).and_then(verb_of) else {
+        return ended(words, at + 1, Request::At(place));
+    };
+    let Some(clock) = clock_in(place, policy) else {
+        return Err(usage_error_at(at, Expected::Place));
+    };
+    let now = now_on(&clock.zone, now);
+    match verb {
+        Verb::Move(verb) => Ok(Request::MoveAt(clock, move_of(verb, words, at + 2)?)),
+        Verb::Until => until_at(words, at + 2, Some(clock), now),
+        Verb::Since => since_at(words, at + 2, Some(clock), now),
+        Verb::To | Verb::At | Verb::Keep => Err(usage_error_at(at + 1, Expected::End)),
+    }
+}
+
+/// Parses `OFFSET` or `ZONE`, after which words may follow.
+fn place_at<'a, D: DataFiles<'a>>(
+    words: &'a [u8],
+    at: usize,
+    files: &mut D,
+) -> Result<Place<'a>, UsageError<'a>> {
+    if names_zone(words, at) {
+        return Ok(Place::Zone(first_zone_at(words, at, files)?));
+    }
+    Ok(Place::Offset(word_as(words, at, offset_of, Expected::Place)?))
+}
+
+/// Returns the clocks of a place, or `None` if its offset can't be that of a zone.
+fn clock_in<'a>(place: Place<'a>, policy: Policy) -> Option<Clock<'a>> {
+    match place {
+        Place::Zone(zone) => Some(Clock { zone, policy }),
+        Place::Offset(offset) => match zone_with(offset) {
+            Some(zone) => Some(Clock { zone, policy }),
+            None => None,
+        },
+    }
+}
+
+/// Parses the arguments of `until`, whose units these clocks count.
+fn until_at<'a>(
+    words: &'a [u8],
+    at: usize,
+    own: Option<Clock<'a>>,
+    now: Option<OffsetDateTime>,
+) -> Result<Request<'a>, UsageError<'static>>
     requires { at + 4 < 2 ^ 64 }
 {
-    if !names_zone(words, at) {
-        let offset = only_at(words, at, offset_of, Expected::Place)?;
-        return Ok(Request::At(Place::Offset(offset)));
-    }
-    let zone = first_zone_at(words, at, files)?;
-    match word_at(words, at + 1).and_then(verb_of) {
-        Some(Verb::Move(verb)) => {
-            let by = move_of(verb, words, at + 2)?;
-            Ok(Request::MoveAt(Clock { zone, policy }, by))
-        }
-        _ => ended(words, at + 1, Request::At(Place::Zone(zone))),
-    }
+    let (target, unit) = target_at(words, at, now)?;
+    Ok(Request::Until(own, target, unit))
+}
+
+/// Parses the arguments of `since`, whose units these clocks count.
+fn since_at<'a>(
+    words: &'a [u8],
+    at: usize,
+    own: Option<Clock<'a>>,
+    now: Option<OffsetDateTime>,
+) -> Result<Request<'a>, UsageError<'static>>
+    requires { at + 4 < 2 ^ 64 }
+{
+    let (target, unit) = target_at(words, at, now)?;
+    Ok(Request::Since(own, target, unit))
 }
 
 /// Returns whether the word is read as the name of a zone.
