@@ -35,13 +35,13 @@ is_later None m = true
 is_later (Some before) m = int_lt (instant before) (instant m)
 
 -- The moments from a count on, or the first of them, each later than the one listed before it.
-pub data AreSteps (moments : Moments) (all : Bool) : Option LocalAndOffset × ℕ → List LocalAndOffset → Type 0 where
-  end : (before : Option LocalAndOffset) (count : ℕ) → IfAll all (IsPastSteps moments count) → AreSteps moments all (before, count) []
+pub data AreSteps (moments : Moments) (all : Bool) : Option LocalAndOffset → ℕ → List LocalAndOffset → Type 0 where
+  ended : (before : Option LocalAndOffset) (count : ℕ) → IfAll all (IsPastSteps moments count) → AreSteps moments all before count []
   skipped : (before : Option LocalAndOffset) (count : ℕ) (m : LocalAndOffset) (ms : List LocalAndOffset) → IsStepTo moments count m → is_later before m ≡ false
-      → AreSteps moments all (before, count + moments.step.every) ms → AreSteps moments all (before, count) ms
+      → AreSteps moments all before (count + moments.step.every) ms → AreSteps moments all before count ms
   listed : (before : Option LocalAndOffset) (count : ℕ) (m : LocalAndOffset) (ms : List LocalAndOffset) → IsStepTo moments count m → is_later before m ≡ true
-      → AreSteps moments all (Some m, count + moments.step.every) ms → AreSteps moments all (before, count) (m ∷ ms)
+      → AreSteps moments all (Some m) (count + moments.step.every) ms → AreSteps moments all before count (m ∷ ms)
 
 -- The writer took the lines of the moments of a list.
 abbrev pub ListsSteps : Moments → Result Unit RunError → Option (List ℕ) → Option (List ℕ) → Type 0
-ListsSteps moments outcome old new = WritesLines moment_line (λ all. AreSteps moments all (None, 0)) outcome old new
+ListsSteps moments outcome old new = WritesLines moment_line (λ all. AreSteps moments all None 0) outcome old new

@@ -29,14 +29,15 @@ pub fn list_moments<W: Sink>(moments: &Moments<'_>, writer: &mut W) -> Result<()
     let mut before = None;
     let mut count = 0;
     while let Some(moment) = moment_within(moments, count) {
-        if is_later(before, moment) {
-            match output.push_line(rfc3339_or_unix_text(moment).as_bytes(), writer) {
-                Ok(()) => {}
-                Err(error) => return Err(error),
-            }
-            before = Some(moment);
-        }
         count += moments.step.every;
+        if !is_later(before, moment) {
+            continue;
+        }
+        match output.push_line(rfc3339_or_unix_text(moment).as_bytes(), writer) {
+            Ok(()) => {}
+            Err(error) => return Err(error),
+        }
+        before = Some(moment);
     }
     output.finish(writer)
 }
