@@ -13,6 +13,7 @@ pub(crate) mod offset;
 pub(crate) mod options;
 pub(crate) mod spelling;
 pub(crate) mod target;
+pub mod requirement;
 pub mod usage_error;
 pub mod usage_message;
 pub mod words;
@@ -24,14 +25,15 @@ use crate::args::listing::list_of;
 use crate::args::names::{CommandName, MoveVerb, Verb};
 use crate::args::offset::offset_of;
 use crate::args::options::{
-    Options, assumptions_in, conflict_in, field_of, options_of, readers_in, zone_of,
+    Options, assumptions_in, unmet_in, field_of, options_of, readers_in, zone_of,
 };
+use crate::args::requirement::Requirement;
 use crate::args::spelling::{
     command_of, minutes_of, minutes_word, parse_i64, parse_u8, period_of, start_of, unit_of,
     verb_of, weekday_of,
 };
 use crate::args::target::target_at;
-use crate::args::usage_error::{Expected, UsageError, usage_error_at};
+use crate::args::usage_error::{Expected, UsageError, requirement_at, usage_error_at};
 use crate::args::words::{cut, ended, ends_at, only_at, word_as, word_at};
 use crate::command::Command;
 use crate::data_files::DataFiles;
@@ -61,7 +63,7 @@ pub fn asked_by<'a, D: DataFiles<'a>>(
 {
     match arguments {
         Some(words) => parse_args(words, now, files),
-        None => Err(usage_error_at(0, Expected::Short)),
+        None => Err(requirement_at(0, Requirement::Short)),
     }
 }
 
@@ -75,7 +77,7 @@ pub fn parse_args<'a, D: DataFiles<'a>>(
 ) -> Result<Command<'a>, UsageError<'a>>
     ensures steps { IfOk result HasValidStep }
 {
-    let nothing = usage_error_at(0, Expected::Something);
+    let nothing = requirement_at(0, Requirement::Something);
     let first = word_at(words, 0).ok_or(nothing)?;
     if first == b"".as_slice() && ends_at(words, 1) {
         return Err(nothing);
@@ -165,8 +167,8 @@ fn filter_at<'a, D: DataFiles<'a>>(
     requires few { at ≤ 2 }
 {
     let (options, at) = options_of(rest, at, files)?;
-    if let Some(expected) = conflict_in(&options) {
-        return Err(usage_error_at(at, expected));
+    if let Some(requirement) = unmet_in(&options) {
+        return Err(requirement_at(at, requirement));
     }
     let now = now_in(&options.zone, now);
     let request = request_at(words, at, policy_of(options.policy), now, files)?;
@@ -179,28 +181,28 @@ fn filter_with<'a>(
     options: Options<'a>,
     request: Request<'a>,
 ) -> Result<Filter<'a>, UsageError<'static>> {
-    if let Some(expected) = conflict_with_request(&options, &request) {
-        return Err(usage_error_at(at, expected));
+    if let Some(requirement) = unmet_by(&options, &request) {
+        return Err(requirement_at(at, requirement));
     }
     let filter = filter_of(options, request);
     if !filter.names.any() && filter.several.overlap() {
-        return Err(usage_error_at(at, Expected::Overlap));
+        return Err(requirement_at(at, Requirement::Overlap));
     }
     Ok(filter)
 }
 
 /// Returns the requirement of the request that the options don't meet, if there is one.
-fn conflict_with_request(options: &Options<'_>, request: &Request<'_>) -> Option<Expected> {
+fn unmet_by(options: &Options<'_>, request: &Request<'_>) -> Option<Requirement> {
     if options.append.is_some() && request.keeps() {
-        Some(Expected::AppendKeep)
+        Some(Requirement::AppendKeep)
     } else if request.reads_other() && options.fields.is_none() {
-        Some(Expected::OtherField)
+        Some(Requirement::OtherField)
     } else if request.names_other() && !options.header {
-        Some(Expected::Header)
+        Some(Requirement::Header)
     } else if options.workdays.is_some() && !request.counts_workdays() {
-        Some(Expected::WorkdaysOnly)
+        Some(Requirement::WorkdaysOnly)
     } else if options.policy.is_some() && options.zone.is_none() && !request.moves_at() {
-        Some(Expected::ZoneOption)
+        Some(Requirement::ZoneOption)
     } else {
         None
     }

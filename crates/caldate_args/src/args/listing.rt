@@ -2,8 +2,9 @@
 ghost use Rattle.std.specs.Prelude.{◌≤◌, IfOk, IfSome};
 ghost use Rattle.caldate_args.specs.Lists.{HasValidStep, IsStep};
 
+use crate::args::requirement::Requirement;
 use crate::args::spelling::{parse_u32, unit_of};
-use crate::args::usage_error::{Expected, UsageError, usage_error_at};
+use crate::args::usage_error::{Expected, UsageError, requirement_at, usage_error_at};
 use crate::args::words::{ended, ends_at, found_at, keyword_at, word_as, word_at};
 use crate::args::zone_at;
 use crate::command::{Command, Listing, Moments, Occurrences, Span, Step, StepUnit};
@@ -60,7 +61,7 @@ fn moments_of<'a, D: DataFiles<'a>>(
     let span = span_from(words, &first, now)?;
     let step = step_of(words)?;
     let Span::Moments(first, last) = span else {
-        return Err(usage_error_at(8, Expected::TwoMoments));
+        return Err(requirement_at(8, Requirement::TwoMoments));
     };
     let zone = zone_at(words, 9, files)?;
     let policy = Policy::Compatible;
@@ -98,7 +99,7 @@ fn span_at<'a, D: DataFiles<'a>>(
     }
     keyword_at(words, 7, b"at", Expected::End)?;
     let Span::Moments(first, last) = span else {
-        return Err(usage_error_at(7, Expected::TwoMoments));
+        return Err(requirement_at(7, Requirement::TwoMoments));
     };
     let zone = zone_at(words, 8, files)?;
     Ok(Span::InZone(zone, first, last))
