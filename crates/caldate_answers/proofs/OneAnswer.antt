@@ -11,7 +11,7 @@ use Rattle.cal_text.specs.declared.any.DateOrMoment.TheVariants as read
 use Rattle.cal_text.specs.declared.any.MomentForm.TheVariants.{Rfc3339, Unix}
 use Rattle.cal_schedule.specs.Workdays.{WorkWeek}
 use Rattle.caldate_lines.specs.declared.no_answer.NoAnswer.{NoAnswer}
-use Rattle.caldate_answers.specs.Answers.{Answer, HasNone, IsAnswer, IsAnswerBy, IsAnswerTo, IsBetween, IsBetweenBy, IsMoved, IsMovedAt, IsMovedBy, IsNotRead, IsReadAs, IsWhyNone, IsWhyNotMoved, IsWhyUnmoved, compares, day_of, floored, form_read, leaves_out, moment_of, on_day, own_clock, why_unmoved}
+use Rattle.caldate_answers.specs.Answers.{Answer, HasNone, IsAnswer, IsAnswerBy, IsAnswerTo, IsBetween, IsBetweenBy, IsMoved, IsMovedAt, IsMovedBy, IsNotRead, IsReadAs, IsWhyNotMoved, IsWhyUnanswered, IsWhyUnmoved, compares, day_of, floored, form_read, leaves_out, moment_of, on_day, own_clock, why_unmoved}
 use Rattle.caldate_answers.specs.Bounds.{lies_in}
 use Rattle.caldate_answers.specs.Forms.{IsInForm}
 use Rattle.caldate_answers.specs.declared.request.Filter.{Filter}
@@ -135,7 +135,7 @@ one_not_moved (Some clock) workdays by (read.Date form n) a b one h k = h ∙ sy
 one_not_moved (Some clock) workdays by (read.Moment form m) a b one h k = one_unmoved clock workdays by m a b (one clock refl) h k
 
 one_why : (clock : Option Clock) (workdays : WorkWeek) (q : Request) (found : DateOrMoment) (a b : NoAnswer) → IsOneClock clock → IsOneRequest q
-    → IsWhyNone clock workdays q found a → IsWhyNone clock workdays q found b → a ≡ b
+    → IsWhyUnanswered clock workdays q found a → IsWhyUnanswered clock workdays q found b → a ≡ b
 one_why clock workdays (Move by) found a b one own h k = one_not_moved clock workdays by found a b one h k
 one_why clock workdays (MoveAt other by) found a b one own h k = one_unmoved other workdays by (moment_of found) a b (own other by refl) h k
 one_why clock workdays (To form) found a b one own h k = h ∙ sym k

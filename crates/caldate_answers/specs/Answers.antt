@@ -13,7 +13,7 @@ use Rattle.cal_text.specs.declared.any.MomentForm.TheVariants.{Rfc3339}
 use Rattle.cal_schedule.specs.Workdays.{WorkWeek}
 use Rattle.cal_zone.specs.Timeline.{offset_at}
 use Rattle.cal_zone.specs.declared.local_time_error.LocalTimeError.{LocalTimeError}
-use Rattle.cal_zone.specs.declared.local_time_error.LocalTimeError.TheVariants.{Skipped, Repeated}
+use Rattle.cal_zone.specs.declared.local_time_error.LocalTimeError.TheVariants.{Skipped, Repeated, OutOfRange}
 use Rattle.caldate_lines.specs.declared.no_answer.NoAnswer.{NoAnswer}
 use Rattle.caldate_lines.specs.declared.no_answer.NoAnswer.TheVariants as why
 use Rattle.caldate_answers.specs.Clocks.{IsPlaced}
@@ -148,10 +148,14 @@ compares other found = false
 
 -- ---- no answer
 -- A policy rejects the time to which a moment moves. Otherwise it is out of range, or has no text.
+abbrev pub why_rejected : LocalTimeError → NoAnswer
+why_rejected Skipped = why.Skipped
+why_rejected Repeated = why.Repeated
+why_rejected OutOfRange = why.None
+
 abbrev pub why_unmoved : Result LocalAndOffset LocalTimeError → NoAnswer
-why_unmoved (Err Skipped) = why.Skipped
-why_unmoved (Err Repeated) = why.Repeated
-why_unmoved other = why.None
+why_unmoved (Ok m) = why.None
+why_unmoved (Err e) = why_rejected e
 
 abbrev pub IsWhyUnmoved : Clock → WorkWeek → AnyMove → LocalAndOffset → NoAnswer → Type 0
 IsWhyUnmoved clock workdays by from any = (r : Result LocalAndOffset LocalTimeError) × IsMovedOn clock workdays by from r × (any ≡ why_unmoved r)
@@ -161,10 +165,10 @@ IsWhyNotMoved (Some clock) workdays by (read.Moment form m) any = IsWhyUnmoved c
 IsWhyNotMoved clock workdays by found any = any ≡ why.None
 
 -- Why a date or moment has no answer.
-abbrev pub IsWhyNone : Option Clock → WorkWeek → Request → DateOrMoment → NoAnswer → Type 0
-IsWhyNone clock workdays (Move by) found any = IsWhyNotMoved clock workdays by found any
-IsWhyNone clock workdays (MoveAt own by) found any = IsWhyUnmoved own workdays by (moment_of found) any
-IsWhyNone clock workdays other found any = any ≡ why.None
+abbrev pub IsWhyUnanswered : Option Clock → WorkWeek → Request → DateOrMoment → NoAnswer → Type 0
+IsWhyUnanswered clock workdays (Move by) found any = IsWhyNotMoved clock workdays by found any
+IsWhyUnanswered clock workdays (MoveAt own by) found any = IsWhyUnmoved own workdays by (moment_of found) any
+IsWhyUnanswered clock workdays other found any = any ≡ why.None
 
 -- ---- the answer to a text
 -- The words that replace it, or None if its line is left out, or why it has no answer.
@@ -175,7 +179,7 @@ Answer = Result (Option (List ℕ)) NoAnswer
 abbrev pub HasNone : Filter → List ℕ → DateOrMoment → NoAnswer → Type 0
 HasNone filter text found any =
     (leaves_out filter.request found ≡ false) × ((words : List ℕ) → ¬ IsAnswerBy filter text found words)
-    × IsWhyNone filter.clock filter.workdays filter.request found any
+    × IsWhyUnanswered filter.clock filter.workdays filter.request found any
 
 -- The text is read, as this date or moment. With a clock, its local time is a reading of the clock.
 abbrev pub IsReadAs : Filter → List ℕ → DateOrMoment → Type 0

@@ -34,7 +34,7 @@ use crate::answer::clock_counts::count_on;
 use crate::answer::clock_moves::moved_on;
 use crate::answer::counts::count_between;
 use crate::answer::moves::moved_day;
-use crate::answer::reasons::why_none;
+use crate::answer::reasons::why_unanswered;
 use crate::answer::texts::{
     push_basic, push_date, push_month, push_quarter, push_rfc3339, push_signed, push_unix,
     push_whole_unix,
@@ -187,7 +187,7 @@ fn push_found(
     } else if compares(&filter.request, found) {
         Ok(false)
     } else {
-        Err(why_none(clock, &filter.workdays, &filter.request, found))
+        Err(why_unanswered(clock, &filter.workdays, &filter.request, found))
     }
 }
 

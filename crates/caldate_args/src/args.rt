@@ -11,9 +11,9 @@ pub(crate) mod messages;
 pub(crate) mod names;
 pub(crate) mod offset;
 pub(crate) mod options;
+pub mod requirement;
 pub(crate) mod spelling;
 pub(crate) mod target;
-pub mod requirement;
 pub mod usage_error;
 pub mod usage_message;
 pub mod words;
@@ -25,7 +25,7 @@ use crate::args::listing::list_of;
 use crate::args::names::{CommandName, MoveVerb, Verb};
 use crate::args::offset::offset_of;
 use crate::args::options::{
-    Options, assumptions_in, unmet_in, field_of, options_of, readers_in, zone_of,
+    Options, assumptions_in, field_of, options_of, readers_in, unmet_in, zone_of,
 };
 use crate::args::requirement::Requirement;
 use crate::args::spelling::{

@@ -1,5 +1,6 @@
 //! Why a date or moment that was read has no answer.
-ghost use Rattle.caldate_answers.specs.Answers.{IsWhyNone, IsWhyNotMoved, IsWhyUnmoved};
+ghost use Rattle.std.specs.Prelude.{◌≡◌};
+ghost use Rattle.caldate_answers.specs.Answers.{IsWhyNotMoved, IsWhyUnanswered, IsWhyUnmoved, why_rejected};
 
 use crate::answer::clock_moves::moved_on;
 use crate::answer::moment_of;
@@ -13,18 +14,23 @@ use caldate_lines::no_answer::NoAnswer;
 /// Returns why a date or moment has no answer: `Skipped` or `Repeated` if the policy rejects the
 /// time to which it moves, and otherwise `None`.
 #[inline(never)]
-pub fn why_none(
+pub fn why_unanswered(
     clock: &Option<Clock<'_>>,
     workdays: &Workdays<'_>,
     request: &Request<'_>,
     found: &DateOrMoment,
 ) -> NoAnswer
-    ensures { IsWhyNone clock.now workdays.now request.now found.now result }
+    ensures { IsWhyUnanswered clock.now workdays.now request.now found.now result }
 {
     match request {
         Request::Move(by) => why_not_moved(clock, workdays, *by, found),
         Request::MoveAt(own, by) => why_unmoved(own, workdays, *by, moment_of(found)),
-        _ => NoAnswer::None,
+        Request::To(_)
+        | Request::Print(_)
+        | Request::Until(_, _, _)
+        | Request::Since(_, _, _)
+        | Request::At(_)
+        | Request::Keep(_) => NoAnswer::None,
     }
 }
 
@@ -37,11 +43,12 @@ fn why_not_moved(
 ) -> NoAnswer
     ensures { IsWhyNotMoved clock.now workdays.now by found.now result }
 {
-    match (clock, found) {
-        (Some(clock), DateOrMoment::Moment(_, moment)) => {
-            why_unmoved(clock, workdays, by, *moment)
-        }
-        _ => NoAnswer::None,
+    match clock {
+        Some(clock) => match found {
+            DateOrMoment::Date(_, _) => NoAnswer::None,
+            DateOrMoment::Moment(_, moment) => why_unmoved(clock, workdays, by, *moment),
+        },
+        None => NoAnswer::None,
     }
 }
 
@@ -55,8 +62,17 @@ fn why_unmoved(
     ensures { IsWhyUnmoved clock.now workdays.now by moment result }
 {
     match moved_on(clock, workdays, by, moment) {
-        Err(LocalTimeError::Skipped) => NoAnswer::Skipped,
-        Err(LocalTimeError::Repeated) => NoAnswer::Repeated,
-        _ => NoAnswer::None,
+        Ok(_) => NoAnswer::None,
+        Err(error) => why_rejected(error),
+    }
+}
+
+fn why_rejected(error: LocalTimeError) -> NoAnswer
+    ensures { result ≡ why_rejected error }
+{
+    match error {
+        LocalTimeError::Skipped => NoAnswer::Skipped,
+        LocalTimeError::Repeated => NoAnswer::Repeated,
+        LocalTimeError::OutOfRange => NoAnswer::None,
     }
 }

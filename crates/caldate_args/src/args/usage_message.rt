@@ -59,7 +59,13 @@ fn push_problem(line: &mut Buffer, arguments: &[u8], usage_error: UsageError<'_>
     }
     match word_at(arguments, usage_error.index) {
         Some(word) => push_on_word(line, message, usage_error, word),
-        None => push_on_missing(line, message, usage_error.expected, arguments, usage_error.index),
+        None => push_on_missing(
+            line,
+            message,
+            usage_error.expected,
+            arguments,
+            usage_error.index,
+        ),
     }
 }
 
