@@ -1,8 +1,10 @@
 //! Moments moved by the clocks of a zone.
-ghost use Rattle.std.specs.Prelude.{◌+ℤ◌};
+ghost use Rattle.std.specs.Prelude.{◌≡◌, ◌+ℤ◌, pos};
+ghost use Rattle.cal_time.specs.Date.{IsDate};
+ghost use Rattle.cal_time.specs.SignedDuration.{whole_days};
 ghost use Rattle.cal_datetime.specs.OffsetDateTime.{instant};
 ghost use Rattle.cal_zoned.specs.Zoned.{IsSeen, instant_in};
-ghost use Rattle.caldate_answers.specs.ClockMoves.{IsMovedIn, IsMovedOn, IsOnDay, IsRounded};
+ghost use Rattle.caldate_answers.specs.ClockMoves.{IsDayWith, IsMovedIn, IsMovedOn, IsOnDay, IsRounded};
 
 use crate::answer::floored;
 use crate::answer::moves::moved_day;
@@ -62,9 +64,19 @@ fn moved_in<'z>(
 {
     match by {
         Move::Day(by) => on_day(policy, moved_day(workdays, from.date(), by), from),
-        Move::Days(duration) => on_day(policy, from.date().checked_add(duration), from),
+        Move::Days(duration) => on_day(policy, days_later(from.date(), duration), from),
         Move::Add(duration) => later(duration, from),
         Move::Floor(minutes) => rounded_down(policy, minutes, from),
+    }
+}
+
+/// Adds the whole days of a duration, or returns `None` if the result is out of range.
+fn days_later(date: Date, duration: SignedDuration) -> Option<Date>
+    ensures { IsDayWith (λ n. IsDate n × (pos n ≡ pos date +ℤ whole_days duration)) result }
+{
+    match date.checked_add(duration) {
+        Some(day) => Some(day),
+        None => None,
     }
 }
 
