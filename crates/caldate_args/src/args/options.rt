@@ -246,6 +246,7 @@ pub fn is_option(word: &[u8]) -> bool {
 
 /// Sets the option, or returns the error if the value is invalid. An option without a value ignores
 /// it.
+// A proof costs more the longer a function is, so the options are in three.
 fn with_value<'a, D: DataFiles<'a>>(
     options: Options<'a>,
     option: OptionName,
@@ -255,22 +256,45 @@ fn with_value<'a, D: DataFiles<'a>>(
 ) -> Result<Options<'a>, UsageError<'a>> {
     let mut more = options;
     match option {
-        OptionName::Invalid => more.on_invalid = Some(value_named(value, &MODES).ok_or(invalid)?),
-        OptionName::Field => return with_named(more, value).ok_or(invalid),
-        OptionName::Append => more.append = Some(FieldName::new(value)),
         OptionName::Csv => more.csv = true,
         OptionName::Header => more.header = true,
         OptionName::Scan => more.scan = true,
-        OptionName::Separator => more.separator = Some(byte_of(value).ok_or(invalid)?),
-        OptionName::Skip => more.skip = Some(skip_of(value).ok_or(invalid)?),
-        OptionName::Read => return with_reader(more, value).ok_or(invalid),
-        OptionName::Assume => more.offset = Some(offset_of(value).ok_or(invalid)?),
-        OptionName::AssumeYear => more.year = Some(year_of(value).ok_or(invalid)?),
         OptionName::Zone => more.zone = Some(zone_of(value, invalid, files)?),
-        OptionName::Ambiguous => more.policy = Some(value_named(value, &POLICIES).ok_or(invalid)?),
         OptionName::Holidays => more.workdays = Some(workdays_of(value, invalid, files)?),
+        _ => return with_word(more, option, value).ok_or(invalid),
     }
     Ok(more)
+}
+
+/// Sets an option for fields or lines, or returns `None` if the value is invalid.
+fn with_word<'a>(options: Options<'a>, option: OptionName, value: &'a [u8]) -> Option<Options<'a>> {
+    let mut more = options;
+    match option {
+        OptionName::Field => return with_named(more, value),
+        OptionName::Read => return with_reader(more, value),
+        OptionName::Append => more.append = Some(FieldName::new(value)),
+        OptionName::Separator => more.separator = Some(byte_of(value)?),
+        OptionName::Skip => more.skip = Some(skip_of(value)?),
+        _ => return with_meaning(more, option, value),
+    }
+    Some(more)
+}
+
+/// Sets an option for the meaning of texts, or returns `None` if the value is invalid.
+fn with_meaning<'a>(
+    options: Options<'a>,
+    option: OptionName,
+    value: &'a [u8],
+) -> Option<Options<'a>> {
+    let mut more = options;
+    match option {
+        OptionName::Invalid => more.on_invalid = Some(value_named(value, &MODES)?),
+        OptionName::Assume => more.offset = Some(offset_of(value)?),
+        OptionName::AssumeYear => more.year = Some(year_of(value)?),
+        OptionName::Ambiguous => more.policy = Some(value_named(value, &POLICIES)?),
+        _ => return None,
+    }
+    Some(more)
 }
 
 /// Returns the zone with this name, or the error with the reason why it has none.
