@@ -81,14 +81,14 @@ workday_by_nearest w z k n r e d near = e ∙ by_workdays w z k n d near
 one_kth : (a b : ℕ) (o : Option ℕ) → o ≡ Some a → o ≡ Some b → a ≡ b
 one_kth a b o h k = let same : Some a ≡ Some b = sym h ∙ k in cc
 
-first-one : (unit : CalendarUnit) (n a b : ℕ) → IsDate a → IsDate b → IsFirstOf period n a → IsFirstOf period n b → a ≡ b
+first-one : (unit : CalendarUnit) (n a b : ℕ) → IsDate a → IsDate b → IsFirstOf unit n a → IsFirstOf unit n b → a ≡ b
 first-one Day n a b d e h k = omega (arith, h, k)
 first-one Week n a b d e h k = omega (arith, h, k)
 first-one Month n a b d e h k = calendar_date-one _ _ _ a b d e h k
 first-one Quarter n a b d e h k = calendar_date-one _ _ _ a b d e h k
 first-one Year n a b d e h k = calendar_date-one _ _ _ a b d e h k
 
-last-one : (unit : CalendarUnit) (n a b : ℕ) → IsDate a → IsDate b → IsLastOf period n a → IsLastOf period n b → a ≡ b
+last-one : (unit : CalendarUnit) (n a b : ℕ) → IsDate a → IsDate b → IsLastOf unit n a → IsLastOf unit n b → a ≡ b
 last-one Day n a b d e h k = omega (arith, h, k)
 last-one Week n a b d e h k = omega (arith, h, k)
 last-one Month n a b d e h k = calendar_date-one _ _ _ a b d e h k
