@@ -31,7 +31,7 @@ abbrev pub OneLocal : Timeline → Type 0
 OneLocal zone = (r : ℤ) (x y : Local) → IsLocalOf zone r x → IsLocalOf zone r y → x ≡ y
 
 -- each of two cases has one value
-match_one : {X : Type 0} (b : Bool) (P Q : X → Type 0) (x y : X) → ((x y : X) → P x → P y → x ≡ y) → ((x y : X) → Q x → Q y → x ≡ y)
+pub match_one : {X : Type 0} (b : Bool) (P Q : X → Type 0) (x y : X) → ((x y : X) → P x → P y → x ≡ y) → ((x y : X) → Q x → Q y → x ≡ y)
     → MatchBool b (P x) (Q x) → MatchBool b (P y) (Q y) → x ≡ y
 match_one true P Q x y p q h k = p x y h k
 match_one false P Q x y p q h k = q x y h k

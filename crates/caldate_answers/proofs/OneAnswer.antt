@@ -70,7 +70,8 @@ IsOneFilter filter = IsOneClock filter.clock × IsOneRequest filter.request
 one_moved_at : (clock : Clock) (workdays : WorkWeek) (by : AnyMove) (form : Form) (m : LocalAndOffset) (a b : List ℕ) → OneLocal clock.zone → IsMovedAt clock workdays by form m a → IsMovedAt clock workdays by form m b → a ≡ b
 one_moved_at clock workdays by form m a b one h k =
     let same = one_moved_on clock workdays by m (Ok h.0) (Ok k.0) one h.1 k.1 in
-    in_form_at form h.0 k.0 a b cc h.2 k.2
+    let moment : h.0 ≡ k.0 = cc in
+    in_form_at form h.0 k.0 a b moment h.2 k.2
 
 one_moved_by : (clock : Option Clock) (workdays : WorkWeek) (by : AnyMove) (found : DateOrMoment) (a b : List ℕ) → IsOneClock clock → IsMovedBy clock workdays by found a → IsMovedBy clock workdays by found b → a ≡ b
 one_moved_by None workdays by found a b one h k = one_moved workdays by found a b h k
