@@ -1,12 +1,15 @@
 //! Lists of moments in steps of one length, by the clocks of a zone.
 ghost use Rattle.std.specs.Prelude.{◌≡◌, ◌<◌, IfSome, MatchOption};
 ghost use Rattle.caldate_lines.specs.Calls.{Writes, write_failure};
+ghost use Rattle.caldate_answers.specs.ClockMoves.{IsMovedOn};
+ghost use Rattle.caldate_answers.specs.Moves.{monday_to_friday};
 ghost use Rattle.caldate_args.specs.Lists.{IsStep};
 ghost use Rattle.caldate_run.specs.Steps.{IsPastSteps, IsStepTo, ListsSteps, is_later, step_move};
 
 use crate::list::FAR;
 use cal_datetime::OffsetDateTime;
 use cal_time::SignedDuration;
+use cal_zone::LocalTimeError;
 use cal_zone::laws::one_local;
 use caldate_answers::answer::clock_moves::moved_on;
 use caldate_answers::answer::moves::workdays;
@@ -30,14 +33,12 @@ pub fn list_moments<W: Sink>(moments: &Moments<'_>, writer: &mut W) -> Result<()
     let mut count = 0;
     while let Some(moment) = moment_within(moments, count) {
         count += moments.step.every;
-        if !is_later(before, moment) {
-            continue;
+        if is_later(before, moment) {
+            match output.push_line(rfc3339_or_unix_text(moment).as_bytes(), writer) {
+                Ok(()) => before = Some(moment),
+                Err(error) => return Err(error),
+            }
         }
-        match output.push_line(rfc3339_or_unix_text(moment).as_bytes(), writer) {
-            Ok(()) => {}
-            Err(error) => return Err(error),
-        }
-        before = Some(moment);
     }
     output.finish(writer)
 }
@@ -61,11 +62,25 @@ fn moment_within(moments: &Moments<'_>, count: u64) -> Option<OffsetDateTime>
     if count >= FAR {
         return None;
     }
-    let by = step_move(moments.step.unit, count);
-    match moved_on(&moments.clock, &workdays(), by, moments.first) {
-        Ok(moment) if moment <= moments.last => Some(moment),
-        _ => None,
+    match step_to(moments, count) {
+        Ok(moment) => {
+            if moment > moments.last {
+                return None;
+            }
+            Some(moment)
+        }
+        Err(_) => None,
     }
+}
+
+/// Returns the moment `count` days or months after the first.
+fn step_to(moments: &Moments<'_>, count: u64) -> Result<OffsetDateTime, LocalTimeError>
+    requires { count < 1_000_000_000 }
+    ensures { IsMovedOn moments.now.clock monday_to_friday
+        (step_move moments.now.step.unit count) moments.now.first result }
+{
+    let by = step_move(moments.step.unit, count);
+    moved_on(&moments.clock, &workdays(), by, moments.first)
 }
 
 /// Returns the move by `count` days or months.
