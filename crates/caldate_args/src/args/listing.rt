@@ -37,7 +37,8 @@ pub fn list_of<'a, D: DataFiles<'a>>(
     keyword_at(words, 3, b"to", Expected::UpTo)?;
     let last = date_at(words, 4, now)?;
     let step = step_of(words)?;
-    ended(words, 8, Command::Dates(Listing { first, last, step }))
+    ended(words, 8, ())?;
+    Ok(Command::Dates(Listing { first, last, step }))
 }
 
 /// Returns whether word 8 is `at`.
