@@ -12,6 +12,7 @@ include!(concat!(env!("OUT_DIR"), "/library.rs"));
 
 use cal_datetime::{OffsetDateTime, PlainDateTime};
 use cal_format::Format;
+use cal_schedule::CalendarUnit;
 use cal_text::DateOrMoment;
 use cal_time::{Date, Month, Time, UtcOffset};
 use cal_zone::{Policy, Zone};
@@ -156,18 +157,25 @@ fn command_text(command: &Command<'_>) -> String {
         Command::Named(filter, _) => format!("named {}", filter_text(filter)),
         Command::Once(filter) => format!("once {}", filter_text(filter)),
         Command::NamedOnce(filter, _) => format!("named-once {}", filter_text(filter)),
-        Command::Dates(listing) => format!(
-            "list {} {} {} {}",
-            listing.first,
-            listing.last,
-            listing.step.every,
-            match listing.step.unit {
-                StepUnit::Days => "days",
-                StepUnit::Months => "months",
-            }
+        Command::Dates(listing) => format!("list {} {} {}", listing.first, listing.last, step_text(listing.step)),
+        Command::Moments(moments) => format!(
+            "steps {} {} {} {} {}",
+            zone_text(&moments.clock.zone),
+            policy_name(moments.clock.policy),
+            moment_text(moments.first),
+            moment_text(moments.last),
+            step_text(moments.step)
         ),
         Command::Recurring(dates) => format!("recur {} {}", span_text(&dates.span), dates.recurrence.text().as_str()),
     }
+}
+
+fn step_text(step: Step) -> String {
+    let unit = match step.unit {
+        StepUnit::Days => "days",
+        StepUnit::Months => "months",
+    };
+    format!("{} {unit}", step.every)
 }
 
 fn span_text(span: &Span<'_>) -> String {
@@ -302,12 +310,13 @@ fn unit_name(unit: TimeUnit) -> &'static str {
     }
 }
 
-fn period_name(period: Period) -> &'static str {
-    match period {
-        Period::Week => "week",
-        Period::Month => "month",
-        Period::Quarter => "quarter",
-        Period::Year => "year",
+fn unit_of_calendar(unit: CalendarUnit) -> &'static str {
+    match unit {
+        CalendarUnit::Day => "day",
+        CalendarUnit::Week => "week",
+        CalendarUnit::Month => "month",
+        CalendarUnit::Quarter => "quarter",
+        CalendarUnit::Year => "year",
     }
 }
 
@@ -317,10 +326,10 @@ fn request_text(request: &Request<'_>) -> String {
         Request::Print(format) => format!("print {}", printed(format)),
         Request::Move(by) => move_text(*by),
         Request::MoveAt(clock, by) => {
-            format!("at {} {} {}", zone_text(&clock.zone), policy_name(clock.policy), move_text(*by))
+            format!("at {} {}", clock_text(clock), move_text(*by))
         }
-        Request::Until(target, unit) => format!("until {}", target_text(target, *unit)),
-        Request::Since(target, unit) => format!("since {}", target_text(target, *unit)),
+        Request::Until(own, target, unit) => format!("{}until {}", own_text(own), target_text(target, *unit)),
+        Request::Since(own, target, unit) => format!("{}since {}", own_text(own), target_text(target, *unit)),
         Request::At(Place::Offset(offset)) => format!("at {}", offset.whole_seconds()),
         Request::At(Place::Zone(zone)) => format!("at {}", zone_text(zone)),
         Request::Keep(Bounds::FromTo(first, last)) => {
@@ -367,9 +376,18 @@ fn day_move_text(by: DayMove) -> String {
         DayMove::Months(count) => format!("add {count} months"),
         DayMove::Years(count) => format!("add {count} years"),
         DayMove::Workdays(count) => format!("add {count} workdays"),
-        DayMove::Start(period) => format!("start {}", period_name(period)),
-        DayMove::End(period) => format!("end {}", period_name(period)),
+        DayMove::Start(unit) => format!("start {}", unit_of_calendar(unit)),
+        DayMove::End(unit) => format!("end {}", unit_of_calendar(unit)),
     }
+}
+
+/// Returns the clocks after `at`, if there are any.
+fn own_text(own: &Option<Clock<'_>>) -> String {
+    own.as_ref().map_or_else(String::new, |clock| format!("at {} ", clock_text(clock)))
+}
+
+fn clock_text(clock: &Clock<'_>) -> String {
+    format!("{} {}", zone_text(&clock.zone), policy_name(clock.policy))
 }
 
 fn target_text(target: &Target<'_>, unit: Option<TimeUnit>) -> String {

@@ -1,24 +1,27 @@
 -- A moment is moved to one moment by the clocks of a zone.
-use Rattle.std.proofs.Common.{◌≡◌, ◌∙◌, ℕ, ℤ, Bool, true, false, Option, Result, Ok, Err, None, Some, arith, ap, subst, sym}
+use Rattle.std.proofs.Common.{◌≡◌, ◌∙◌, ℕ, ℤ, Bool, true, false, Option, Result, Ok, Err, None, Some, arith, ap, refl, subst, sym}
 use Rattle.std.proofs.lemmas.Int.{ints}
-use Rattle.std.specs.Prelude.{◌==◌, MatchBool, MatchOption}
-use Rattle.cal_datetime.specs.DateTime.{date_at, date_time, with_date}
+use Rattle.std.specs.Prelude.{◌==◌, MatchBool, ok_or, pos, ◌+ℤ◌}
+use Rattle.cal_time.specs.Date.{IsDate}
+use Rattle.cal_time.specs.SignedDuration.{whole_days}
+use Rattle.cal_datetime.specs.DateTime.{date_at, date_time}
 use Rattle.cal_datetime.specs.OffsetDateTime.{LocalAndOffset, instant}
 use Rattle.cal_schedule.specs.Workdays.{WorkWeek}
 use Rattle.cal_zone.specs.Local.{IsLocalOf}
 use Rattle.cal_zone.specs.Timeline.{Timeline}
 use Rattle.cal_zone.specs.declared.local.Local.{Local}
 use Rattle.cal_zone.specs.declared.local_time_error.LocalTimeError.{LocalTimeError}
+use Rattle.cal_zone.specs.declared.local_time_error.LocalTimeError.TheVariants.{OutOfRange}
 use Rattle.cal_zone.specs.declared.policy.Policy.{Policy}
 use Rattle.cal_zoned.specs.Day.{IsStart}
-use Rattle.cal_zoned.specs.Resolved.{IsKept, IsResolved}
-use Rattle.cal_zoned.specs.Zoned.{InZone}
+use Rattle.cal_zoned.specs.Resolved.{IsKept}
+use Rattle.cal_zoned.specs.Zoned.{InZone, IsSeen}
 use Rattle.cal_zoned.proofs.Firsts.{start-one}
-use Rattle.cal_zoned.proofs.OneResult.{kept-one, resolved-one, seen-is}
-use Rattle.caldate_answers.specs.ClockMoves.{IsMovedIn, IsMovedOn, IsOnDay, IsRounded}
+use Rattle.cal_zoned.proofs.OneResult.{kept-one, seen-is}
+use Rattle.cal_zoned.proofs.UnitEnds.{moved_to-one}
+use Rattle.caldate_answers.specs.ClockMoves.{IsDayWith, IsMovedFrom, IsMovedIn, IsMovedOn, IsOnDay, IsRounded, moment_in}
 use Rattle.caldate_answers.specs.Moves.{MovesTo, floored}
 use Rattle.caldate_answers.specs.declared.request.Clock.{Clock}
-use Rattle.caldate_answers.specs.declared.request.DayMove.{DayMove}
 use Rattle.caldate_answers.specs.declared.request.Move.{Move}
 use Rattle.caldate_answers.specs.declared.request.Move.TheVariants.{Day, Days, Add, Floor}
 use Rattle.caldate_answers.proofs.Leads.{one_lead}
@@ -33,67 +36,57 @@ pub match_one : {X : Type 0} (b : Bool) (P Q : X → Type 0) (x y : X) → ((x y
 match_one true P Q x y p q h k = p x y h k
 match_one false P Q x y p q h k = q x y h k
 
-pub on_day-one : (policy : Policy) (from : InZone) (n : ℕ) (a b : InZone) → OneLocal from.zone → IsOnDay policy from n a → IsOnDay policy from n b → a ≡ b
-on_day-one policy from n a b one h k =
-    match_one (n == date_at from.moment.local) (λ r. r ≡ from) (λ r. IsResolved policy from.zone (with_date from.moment.local n) (Ok r)) a b
-    (λ x y p q. p ∙ sym q)
-    (λ x y p q. let same = resolved-one policy from.zone (with_date from.moment.local n) (Ok x) (Ok y) one p q in cc) h k
+-- an instant is seen in one way
+seen-one : (zone : Timeline) (z : ℤ) (a b : Result InZone LocalTimeError) → IsSeen zone z a → IsSeen zone z b → a ≡ b
+seen-one zone z (Ok x) (Ok y) h k = ap Ok ((seen-is zone z x h).1 ∙ sym (seen-is zone z y k).1)
+seen-one zone z (Ok x) (Err e) h k = let no = k.value (seen-is zone z x h).0 in absurd cc
+seen-one zone z (Err e) (Ok y) h k = let no = h.value (seen-is zone z y k).0 in absurd cc
+seen-one zone z (Err e) (Err d) h k = h.error (λ i. let no = h.value i in cc) ∙ sym (k.error (λ i. let no = k.value i in cc))
 
-rounded-one : (policy : Policy) (n : ℕ) (from a b : InZone) → OneLocal from.zone → IsRounded policy n from a → IsRounded policy n from b → a ≡ b
+-- ---- another day
+day_with-one : (Has : ℕ → Type 0) (a b : Option ℕ) → ((x y : ℕ) → Has x → Has y → x ≡ y) → IsDayWith Has a → IsDayWith Has b → a ≡ b
+day_with-one Has None None one h k = refl
+day_with-one Has None (Some y) one h k = absurd (h y k)
+day_with-one Has (Some x) None one h k = absurd (k x h)
+day_with-one Has (Some x) (Some y) one h k = ap Some (one x y h k)
+
+on_day-one : (policy : Policy) (from : InZone) (day : Option ℕ) (a b : Result InZone LocalTimeError) → OneLocal from.zone → IsOnDay policy from day a → IsOnDay policy from day b → a ≡ b
+on_day-one policy from None a b one h k = h ∙ sym k
+on_day-one policy from (Some n) a b one h k = moved_to-one policy from n a b one h k
+
+abbrev IsOnDayWith : Policy → InZone → (ℕ → Type 0) → Result InZone LocalTimeError → Type 0
+IsOnDayWith policy from Has r = (day : Option ℕ) × IsDayWith Has day × IsOnDay policy from day r
+
+on_day_with-one : (policy : Policy) (from : InZone) (Has : ℕ → Type 0) (a b : Result InZone LocalTimeError) → OneLocal from.zone → ((x y : ℕ) → Has x → Has y → x ≡ y)
+    → IsOnDayWith policy from Has a → IsOnDayWith policy from Has b → a ≡ b
+on_day_with-one policy from Has a b one own h k =
+    on_day-one policy from k.0 a b one (subst (λ day. IsOnDay policy from day a) (day_with-one Has h.0 k.0 own h.1 k.1) h.2) k.2
+
+-- ---- all moves
+rounded-one : (policy : Policy) (n : ℕ) (from : InZone) (a b : Result InZone LocalTimeError) → OneLocal from.zone → IsRounded policy n from a → IsRounded policy n from b → a ≡ b
 rounded-one policy n from a b one h k =
-    match_one (n == 1440) (λ r. IsStart from.zone (date_time (date_at from.moment.local) 0) (Some r)) (λ r. IsKept policy from (floored n from.moment).local (Ok r)) a b
-    (λ x y p q. let same = start-one from.zone (date_time (date_at from.moment.local) 0) (Some x) (Some y) p q in cc)
-    (λ x y p q. let same = kept-one policy from (floored n from.moment).local (Ok x) (Ok y) one p q in cc) h k
+    match_one (n == 1440) (λ r. (start : Option InZone) × IsStart from.zone (date_time (date_at from.moment.local) 0) start × (r ≡ ok_or start OutOfRange)) (λ r. IsKept policy from (floored n from.moment).local r) a b
+    (λ x y p q. p.2 ∙ ap (λ start. ok_or start OutOfRange) (start-one from.zone (date_time (date_at from.moment.local) 0) p.0 q.0 p.1 q.1) ∙ sym q.2)
+    (λ x y p q. kept-one policy from (floored n from.moment).local x y one p q) h k
 
-moved_in-one : (policy : Policy) (workdays : WorkWeek) (by : Move) (from a b : InZone) → OneLocal from.zone
+moved_in-one : (policy : Policy) (workdays : WorkWeek) (by : Move) (from : InZone) (a b : Result InZone LocalTimeError) → OneLocal from.zone
     → IsMovedIn policy workdays by from a → IsMovedIn policy workdays by from b → a ≡ b
 moved_in-one policy workdays (Day by) from a b one h k =
-    let day = one_lead workdays by (date_at from.moment.local) h.0 k.0 h.1 k.1 in
-    on_day-one policy from k.0 a b one (subst (λ n. IsOnDay policy from n a) day h.2) k.2
+    on_day_with-one policy from (MovesTo workdays by (date_at from.moment.local)) a b one (λ x y p q. one_lead workdays by (date_at from.moment.local) x y p q) h k
 moved_in-one policy workdays (Days d) from a b one h k =
-    let day : h.0 ≡ k.0 = omega (arith, ints, h.2, k.2) in
-    on_day-one policy from k.0 a b one (subst (λ n. IsOnDay policy from n a) day h.3) k.3
-moved_in-one policy workdays (Add d) from a b one h k = (seen-is from.zone _ a h).1 ∙ sym (seen-is from.zone _ b k).1
+    on_day_with-one policy from (λ n. IsDate n × (pos n ≡ pos (date_at from.moment.local) +ℤ whole_days d)) a b one (λ x y p q. omega (arith, ints, p.1, q.1)) h k
+moved_in-one policy workdays (Add d) from a b one h k = seen-one from.zone _ a b h k
 moved_in-one policy workdays (Floor n) from a b one h k = rounded-one policy n from a b one h k
 
-pub one_moved_on : (clock : Clock) (workdays : WorkWeek) (by : Move) (from m n : LocalAndOffset) → OneLocal clock.zone
-    → IsMovedOn clock workdays by from m → IsMovedOn clock workdays by from n → m ≡ n
-one_moved_on clock workdays by from m n one h k =
-    let here = (seen-is clock.zone (instant from) h.here h.seen).1 in
-    let same = here ∙ sym (seen-is clock.zone (instant from) k.here k.seen).1 in
-    let own : OneLocal k.here.zone = subst OneLocal (sym (ap (λ (x : InZone). x.zone) (sym same ∙ here))) one in
-    let there = moved_in-one clock.policy workdays by k.here h.there k.there own (subst (λ (x : InZone). IsMovedIn clock.policy workdays by x h.there) same h.moved) k.moved in
-    h.value ∙ ap (λ (x : InZone). x.moment) there ∙ sym k.value
+moved_from-one : (zone : Timeline) (z : ℤ) (policy : Policy) (workdays : WorkWeek) (by : Move) (here a b : Result InZone LocalTimeError) → OneLocal zone → IsSeen zone z here
+    → IsMovedFrom policy workdays by here a → IsMovedFrom policy workdays by here b → a ≡ b
+moved_from-one zone z policy workdays by (Ok m) a b one seen h k =
+    moved_in-one policy workdays by m a b (subst OneLocal (sym (ap (λ (x : InZone). x.zone) (seen-is zone z m seen).1)) one) h k
+moved_from-one zone z policy workdays by (Err e) a b one seen h k = h ∙ sym k
 
--- ---- no date-time
-pub no_day : (policy : Policy) (from : InZone) (n : ℕ) (zone : Timeline) (reading : ℤ) (e : LocalTimeError) (r : InZone) → zone ≡ from.zone
-    → reading ≡ with_date from.moment.local n → (n == date_at from.moment.local) ≡ false
-    → ((p : Policy) (reading : ℤ) (a b : Result InZone LocalTimeError) → IsResolved p from.zone reading a → IsResolved p from.zone reading b → a ≡ b)
-    → IsResolved policy zone reading (Err e) → ¬ IsOnDay policy from n r
-no_day policy from n zone reading e r here same other one h on =
-    let own : IsResolved policy from.zone (with_date from.moment.local n) (Err e) =
-    subst (λ (z : Timeline). IsResolved policy z (with_date from.moment.local n) (Err e)) here (subst (λ (y : ℤ). IsResolved policy zone y (Err e)) same h) in
-    let moved = subst (λ b. MatchBool b (r ≡ from) (IsResolved policy from.zone (with_date from.moment.local n) (Ok r))) other on in
-    let two = one policy (with_date from.moment.local n) (Ok r) (Err e) moved own in absurd cc
-
-pub no_rounding : (policy : Policy) (n : ℕ) (from : InZone) (reading : ℤ) (e : LocalTimeError) (r : InZone) → reading ≡ (floored n from.moment).local → (n == 1440) ≡ false
-    → ((p : Policy) (reading : ℤ) (a b : Result InZone LocalTimeError) → IsKept p from reading a → IsKept p from reading b → a ≡ b)
-    → IsKept policy from reading (Err e) → ¬ IsRounded policy n from r
-no_rounding policy n from reading e r same other one h on =
-    let own = subst (λ (y : ℤ). IsKept policy from y (Err e)) same h in
-    let kept = subst (λ b. MatchBool b (IsStart from.zone (date_time (date_at from.moment.local) 0) (Some r)) (IsKept policy from (floored n from.moment).local (Ok r))) other on in
-    let two = one policy (floored n from.moment).local (Ok r) (Err e) kept own in absurd cc
-
-pub no_start : (policy : Policy) (n : ℕ) (from : InZone) (r : InZone) → (n == 1440) ≡ true
-    → IsStart from.zone (date_time (date_at from.moment.local) 0) None → ¬ IsRounded policy n from r
-no_start policy n from r whole h on =
-    let start = subst (λ b. MatchBool b (IsStart from.zone (date_time (date_at from.moment.local) 0) (Some r)) (IsKept policy from (floored n from.moment).local (Ok r))) whole on in
-    let two = start-one from.zone (date_time (date_at from.moment.local) 0) (Some r) None start h in absurd cc
-
--- ---- a move of days
-pub by_day : (policy : Policy) (workdays : WorkWeek) (by : DayMove) (from : InZone) (start day : ℕ) (o : Option LocalAndOffset) → start ≡ date_at from.moment.local
-    → MovesTo workdays by start day → MatchOption o ((r : InZone) → ¬ IsOnDay policy from day r) (λ m. (r : InZone) × IsOnDay policy from day r × (m ≡ r.moment))
-    → MatchOption o ((r : InZone) → ¬ IsMovedIn policy workdays (Day by) from r) (λ m. (r : InZone) × IsMovedIn policy workdays (Day by) from r × (m ≡ r.moment))
-by_day policy workdays by from start day None same moves none = λ r h.
-    none r (subst (λ n. IsOnDay policy from n r) (one_lead workdays by (date_at from.moment.local) h.0 day h.1 (subst (λ n. MovesTo workdays by n day) same moves)) h.2)
-by_day policy workdays by from start day (Some m) same moves has = (has.0, (day, subst (λ n. MovesTo workdays by n day) same moves, has.1), has.2)
+pub one_moved_on : (clock : Clock) (workdays : WorkWeek) (by : Move) (from : LocalAndOffset) (a b : Result LocalAndOffset LocalTimeError) → OneLocal clock.zone
+    → IsMovedOn clock workdays by from a → IsMovedOn clock workdays by from b → a ≡ b
+one_moved_on clock workdays by from a b one h k =
+    let here = seen-one clock.zone (instant from) h.here k.here h.seen k.seen in
+    let there = moved_from-one clock.zone (instant from) clock.policy workdays by k.here h.there k.there one k.seen (subst (λ x. IsMovedFrom clock.policy workdays by x h.there) here h.moved) k.moved in
+    h.value ∙ ap moment_in there ∙ sym k.value

@@ -8,11 +8,12 @@ use Rattle.cal_schedule.specs.Workdays.{WorkWeek, nth_workday, is_workday}
 use Rattle.cal_time.specs.Laws.{calendar_date-one, weekday_at-is}
 use Rattle.cal_schedule.proofs.MonthMoves.{IsMonthNumber-date, one_later}
 use Rattle.cal_schedule.specs.Ranks.{count-most, none-nth_from, none-nth_back}
-use Rattle.caldate_answers.specs.Moves.{IsFirstOf, IsLastOf, MovesTo}
+use Rattle.caldate_answers.specs.Moves.{MovesTo}
 use Rattle.caldate_answers.specs.declared.request.DayMove.{DayMove}
 use Rattle.caldate_answers.specs.declared.request.DayMove.TheVariants.{Next, Last, OnOrAfter, OnOrBefore, Months, Years, Workdays, Start, End}
-use Rattle.caldate_answers.specs.declared.request.Period.{Period}
-use Rattle.caldate_answers.specs.declared.request.Period.TheVariants.{Week, Month, Quarter, Year}
+use Rattle.cal_schedule.specs.Units.{IsFirstOf, IsLastOf}
+use Rattle.cal_schedule.specs.declared.unit.CalendarUnit.{CalendarUnit}
+use Rattle.cal_schedule.specs.declared.unit.CalendarUnit.TheVariants.{Day, Week, Month, Quarter, Year}
 
 -- k is the number nearest to z within the bounds
 pub record IsNearest (z k : ℤ) : Type 0 where
@@ -80,13 +81,15 @@ workday_by_nearest w z k n r e d near = e ∙ by_workdays w z k n d near
 one_kth : (a b : ℕ) (o : Option ℕ) → o ≡ Some a → o ≡ Some b → a ≡ b
 one_kth a b o h k = let same : Some a ≡ Some b = sym h ∙ k in cc
 
-first-one : (period : Period) (n a b : ℕ) → IsDate a → IsDate b → IsFirstOf period n a → IsFirstOf period n b → a ≡ b
+first-one : (unit : CalendarUnit) (n a b : ℕ) → IsDate a → IsDate b → IsFirstOf unit n a → IsFirstOf unit n b → a ≡ b
+first-one Day n a b d e h k = omega (arith, h, k)
 first-one Week n a b d e h k = omega (arith, h, k)
 first-one Month n a b d e h k = calendar_date-one _ _ _ a b d e h k
 first-one Quarter n a b d e h k = calendar_date-one _ _ _ a b d e h k
 first-one Year n a b d e h k = calendar_date-one _ _ _ a b d e h k
 
-pub last-one : (period : Period) (n a b : ℕ) → IsDate a → IsDate b → IsLastOf period n a → IsLastOf period n b → a ≡ b
+last-one : (unit : CalendarUnit) (n a b : ℕ) → IsDate a → IsDate b → IsLastOf unit n a → IsLastOf unit n b → a ≡ b
+last-one Day n a b d e h k = omega (arith, h, k)
 last-one Week n a b d e h k = omega (arith, h, k)
 last-one Month n a b d e h k = calendar_date-one _ _ _ a b d e h k
 last-one Quarter n a b d e h k = calendar_date-one _ _ _ a b d e h k
@@ -100,13 +103,5 @@ one_lead workdays (OnOrBefore w) n a b h i = one_kth a b _ h i
 one_lead workdays (Months z) n a b h i = one_later n a b z h.1 i.1
 one_lead workdays (Years z) n a b h i = one_later n a b (pos 12 *ℤ z) h.1 i.1
 one_lead workdays (Workdays z) n a b h i = one_kth a b _ h i
-one_lead workdays (Start period) n a b h i = first-one period n a b h.0 i.0 h.1 i.1
-one_lead workdays (End period) n a b h i = last-one period n a b h.0 i.0 h.1 i.1
-
--- the end of a week is a day of the range, or past it
-pub week_end : (n : ℕ) (r : Option ℕ) → IsDate n → SomeIff r (n + 6 ≤ last_day + weekday_at n) (n + 6 - weekday_at n)
-    → MatchOption r ((s : ℕ) → ¬ (IsDate s × IsLastOf Week n s)) (λ s. IsDate s × IsLastOf Week n s)
-week_end n None d h = λ s is. h (omega (arith, is.0, is.1))
-week_end n (Some s) d h =
-    let low : weekday_at n < 7 = omega (arith, weekday_at-is n) in
-    (omega (arith, h.0, h.1, low), omega (arith, h.1, low))
+one_lead workdays (Start unit) n a b h i = first-one unit n a b h.0 i.0 h.1 i.1
+one_lead workdays (End unit) n a b h i = last-one unit n a b h.0 i.0 h.1 i.1

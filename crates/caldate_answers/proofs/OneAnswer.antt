@@ -11,8 +11,7 @@ use Rattle.cal_text.specs.declared.any.DateOrMoment.TheVariants as read
 use Rattle.cal_text.specs.declared.any.MomentForm.TheVariants.{Rfc3339, Unix}
 use Rattle.cal_schedule.specs.Workdays.{WorkWeek}
 use Rattle.caldate_lines.specs.declared.no_answer.NoAnswer.{NoAnswer}
-use Rattle.caldate_lines.specs.declared.no_answer.NoAnswer.TheVariants as why
-use Rattle.caldate_answers.specs.Answers.{Answer, HasNone, IsAnswer, IsAnswerBy, IsAnswerTo, IsBetween, IsBetweenBy, IsMoved, IsMovedAt, IsMovedBy, IsNotRead, IsReadAs, compares, day_of, floored, form_read, leaves_out, moment_of, on_day}
+use Rattle.caldate_answers.specs.Answers.{Answer, HasNone, IsAnswer, IsAnswerBy, IsAnswerTo, IsBetween, IsBetweenBy, IsMoved, IsMovedAt, IsMovedBy, IsNotRead, IsReadAs, IsWhyNotMoved, IsWhyUnanswered, IsWhyUnmoved, compares, day_of, floored, form_read, leaves_out, moment_of, on_day, own_clock, why_unmoved}
 use Rattle.caldate_answers.specs.Bounds.{lies_in}
 use Rattle.caldate_answers.specs.Forms.{IsInForm}
 use Rattle.caldate_answers.specs.declared.request.Filter.{Filter}
@@ -69,7 +68,10 @@ abbrev pub IsOneFilter : Filter → Type 0
 IsOneFilter filter = IsOneClock filter.clock × IsOneRequest filter.request
 
 one_moved_at : (clock : Clock) (workdays : WorkWeek) (by : AnyMove) (form : Form) (m : LocalAndOffset) (a b : List ℕ) → OneLocal clock.zone → IsMovedAt clock workdays by form m a → IsMovedAt clock workdays by form m b → a ≡ b
-one_moved_at clock workdays by form m a b one h k = in_form_at form h.0 k.0 a b (one_moved_on clock workdays by m h.0 k.0 one h.1 k.1) h.2 k.2
+one_moved_at clock workdays by form m a b one h k =
+    let same = one_moved_on clock workdays by m (Ok h.0) (Ok k.0) one h.1 k.1 in
+    let moment : h.0 ≡ k.0 = cc in
+    in_form_at form h.0 k.0 a b moment h.2 k.2
 
 one_moved_by : (clock : Option Clock) (workdays : WorkWeek) (by : AnyMove) (found : DateOrMoment) (a b : List ℕ) → IsOneClock clock → IsMovedBy clock workdays by found a → IsMovedBy clock workdays by found b → a ≡ b
 one_moved_by None workdays by found a b one h k = one_moved workdays by found a b h k
@@ -88,12 +90,12 @@ one_answer_to clock workdays (To form) text found a b one own h k = in_form form
 one_answer_to clock workdays (Print items) text found a b one own h k = h ∙ sym k
 one_answer_to clock workdays (Move by) text found a b one own h k = one_moved_by clock workdays by found a b one h k
 one_answer_to clock workdays (MoveAt other by) text found a b one own h k = one_moved_at other workdays by (Moment Rfc3339) (moment_of found) a b (own other by refl) h k
-one_answer_to clock workdays (Until (target.Text to) unit) text found a b one own h k = between_by clock workdays unit found to a b h k
-one_answer_to clock workdays (Until (target.Fields numbers) unit) text found a b one own h k = absurd h
-one_answer_to clock workdays (Until (target.Name name) unit) text found a b one own h k = absurd h
-one_answer_to clock workdays (Since (target.Text from) unit) text found a b one own h k = between_by clock workdays unit from found a b h k
-one_answer_to clock workdays (Since (target.Fields numbers) unit) text found a b one own h k = absurd h
-one_answer_to clock workdays (Since (target.Name name) unit) text found a b one own h k = absurd h
+one_answer_to clock workdays (Until before (target.Text to) unit) text found a b one own h k = between_by (own_clock before clock) workdays unit found to a b h k
+one_answer_to clock workdays (Until before (target.Fields numbers) unit) text found a b one own h k = absurd h
+one_answer_to clock workdays (Until before (target.Name name) unit) text found a b one own h k = absurd h
+one_answer_to clock workdays (Since before (target.Text from) unit) text found a b one own h k = between_by (own_clock before clock) workdays unit from found a b h k
+one_answer_to clock workdays (Since before (target.Fields numbers) unit) text found a b one own h k = absurd h
+one_answer_to clock workdays (Since before (target.Name name) unit) text found a b one own h k = absurd h
 one_answer_to clock workdays (At offset) text found a b one own h k = in_form_at (Moment Rfc3339) _ _ a b (h.1.value ∙ sym k.1.value) h.2 k.2
 one_answer_to clock workdays (Keep bounds) text found a b one own h k = h.1 ∙ sym k.1
 
@@ -104,8 +106,8 @@ stays clock workdays (To form) text found words h out = false≢true out
 stays clock workdays (Print items) text found words h out = false≢true out
 stays clock workdays (Move by) text found words h out = false≢true out
 stays clock workdays (MoveAt other by) text found words h out = false≢true out
-stays clock workdays (Until target unit) text found words h out = false≢true out
-stays clock workdays (Since target unit) text found words h out = false≢true out
+stays clock workdays (Until before target unit) text found words h out = false≢true out
+stays clock workdays (Since before target unit) text found words h out = false≢true out
 stays clock workdays (At offset) text found words h out = false≢true out
 
 -- a line without an answer is left out if `keep` compares it
@@ -120,16 +122,36 @@ left_out clock workdays (To form) text found lacks = refl
 left_out clock workdays (Print items) text found lacks = refl
 left_out clock workdays (Move by) text found lacks = refl
 left_out clock workdays (MoveAt other by) text found lacks = refl
-left_out clock workdays (Until target unit) text found lacks = refl
-left_out clock workdays (Since target unit) text found lacks = refl
+left_out clock workdays (Until before target unit) text found lacks = refl
+left_out clock workdays (Since before target unit) text found lacks = refl
 left_out clock workdays (At offset) text found lacks = refl
+
+-- ---- one reason
+one_unmoved : (clock : Clock) (workdays : WorkWeek) (by : AnyMove) (m : LocalAndOffset) (a b : NoAnswer) → OneLocal clock.zone → IsWhyUnmoved clock workdays by m a → IsWhyUnmoved clock workdays by m b → a ≡ b
+one_unmoved clock workdays by m a b one h k = h.2 ∙ ap why_unmoved (one_moved_on clock workdays by m h.0 k.0 one h.1 k.1) ∙ sym k.2
+
+one_not_moved : (clock : Option Clock) (workdays : WorkWeek) (by : AnyMove) (found : DateOrMoment) (a b : NoAnswer) → IsOneClock clock → IsWhyNotMoved clock workdays by found a → IsWhyNotMoved clock workdays by found b → a ≡ b
+one_not_moved None workdays by found a b one h k = h ∙ sym k
+one_not_moved (Some clock) workdays by (read.Date form n) a b one h k = h ∙ sym k
+one_not_moved (Some clock) workdays by (read.Moment form m) a b one h k = one_unmoved clock workdays by m a b (one clock refl) h k
+
+one_why : (clock : Option Clock) (workdays : WorkWeek) (q : Request) (found : DateOrMoment) (a b : NoAnswer) → IsOneClock clock → IsOneRequest q
+    → IsWhyUnanswered clock workdays q found a → IsWhyUnanswered clock workdays q found b → a ≡ b
+one_why clock workdays (Move by) found a b one own h k = one_not_moved clock workdays by found a b one h k
+one_why clock workdays (MoveAt other by) found a b one own h k = one_unmoved other workdays by (moment_of found) a b (own other by refl) h k
+one_why clock workdays (To form) found a b one own h k = h ∙ sym k
+one_why clock workdays (Print items) found a b one own h k = h ∙ sym k
+one_why clock workdays (Until before target unit) found a b one own h k = h ∙ sym k
+one_why clock workdays (Since before target unit) found a b one own h k = h ∙ sym k
+one_why clock workdays (At place) found a b one own h k = h ∙ sym k
+one_why clock workdays (Keep bounds) found a b one own h k = h ∙ sym k
 
 -- ---- the answer for what a reader says of the text
 abbrev ToldOf : Filter → List ℕ → DateOrMoment → Answer → Type 0
 ToldOf filter text found answer =
     ((words : List ℕ) × (answer ≡ Ok (Some words)) × IsAnswerBy filter text found words)
     ⊎ (answer ≡ Ok None) × (leaves_out filter.request found ≡ true)
-    ⊎ (answer ≡ Err why.None) × HasNone filter text found
+    ⊎ ((any : NoAnswer) × (answer ≡ Err any) × HasNone filter text found any)
 
 abbrev Told : Filter → List ℕ → Result DateOrMoment NoAnswer → Answer → Type 0
 Told filter text (Ok found) answer = ToldOf filter text found answer
@@ -138,13 +160,13 @@ Told filter text (Err any) answer = answer ≡ Err any
 one_of : (filter : Filter) (text : List ℕ) (found : DateOrMoment) (a b : Answer) → IsOneFilter filter → ToldOf filter text found a → ToldOf filter text found b → a ≡ b
 one_of filter text found a b one (inl h) (inl k) = h.1 ∙ ap (λ words. Ok (Some words)) (one_answer_to filter.clock filter.workdays filter.request text found h.0 k.0 one.0 one.1 h.2 k.2) ∙ sym k.1
 one_of filter text found a b one (inl h) (inr (inl k)) = absurd (stays filter.clock filter.workdays filter.request text found h.0 h.2 k.1)
-one_of filter text found a b one (inl h) (inr (inr k)) = absurd (k.1.1 h.0 h.2)
+one_of filter text found a b one (inl h) (inr (inr k)) = absurd (k.2.1 h.0 h.2)
 one_of filter text found a b one (inr (inl h)) (inl k) = absurd (stays filter.clock filter.workdays filter.request text found k.0 k.2 h.1)
 one_of filter text found a b one (inr (inl h)) (inr (inl k)) = h.0 ∙ sym k.0
-one_of filter text found a b one (inr (inl h)) (inr (inr k)) = absurd (false≢true (sym k.1.0 ∙ h.1))
-one_of filter text found a b one (inr (inr h)) (inl k) = absurd (h.1.1 k.0 k.2)
-one_of filter text found a b one (inr (inr h)) (inr (inl k)) = absurd (false≢true (sym h.1.0 ∙ k.1))
-one_of filter text found a b one (inr (inr h)) (inr (inr k)) = h.0 ∙ sym k.0
+one_of filter text found a b one (inr (inl h)) (inr (inr k)) = absurd (false≢true (sym k.2.0 ∙ h.1))
+one_of filter text found a b one (inr (inr h)) (inl k) = absurd (h.2.1 k.0 k.2)
+one_of filter text found a b one (inr (inr h)) (inr (inl k)) = absurd (false≢true (sym h.2.0 ∙ k.1))
+one_of filter text found a b one (inr (inr h)) (inr (inr k)) = h.1 ∙ ap Err (one_why filter.clock filter.workdays filter.request found h.0 k.0 one.0 one.1 h.2.2 k.2.2) ∙ sym k.1
 
 one_told : (filter : Filter) (text : List ℕ) (r : Result DateOrMoment NoAnswer) (a b : Answer) → IsOneFilter filter → Told filter text r a → Told filter text r b → a ≡ b
 one_told filter text (Ok found) a b one h k = one_of filter text found a b one h k
@@ -162,16 +184,8 @@ answer_told : (filter : Filter) (text : List ℕ) (r : Result DateOrMoment NoAns
     → ((any : NoAnswer) → IsNotRead filter text any → r ≡ Err any) → IsAnswer filter text answer → Told filter text r answer
 answer_told filter text r (Ok (Some words)) every unread h = found_told filter text r h.0 _ (every h.0 h.1) (inl (words, refl, h.2))
 answer_told filter text r (Ok None) every unread h = found_told filter text r h.0 _ (every h.0 h.1) (inr (inl (refl, h.2)))
-answer_told filter text r (Err why.None) every unread h = found_told filter text r h.0 _ (every h.0 h.1) (inr (inr (refl, h.2)))
-answer_told filter text r (Err (why.Rejected e)) every unread h = unread_told filter text r (why.Rejected e) (unread (why.Rejected e) h)
-answer_told filter text r (Err (why.Unreadable at)) every unread h = unread_told filter text r (why.Unreadable at) (unread (why.Unreadable at) h)
-answer_told filter text r (Err why.TooLong) every unread h = unread_told filter text r why.TooLong (unread why.TooLong h)
-answer_told filter text r (Err why.NoField) every unread h = unread_told filter text r why.NoField (unread why.NoField h)
-answer_told filter text r (Err why.NoOtherField) every unread h = unread_told filter text r why.NoOtherField (unread why.NoOtherField h)
-answer_told filter text r (Err why.UnreadOtherField) every unread h = unread_told filter text r why.UnreadOtherField (unread why.UnreadOtherField h)
-answer_told filter text r (Err why.NoForm) every unread h = unread_told filter text r why.NoForm (unread why.NoForm h)
-answer_told filter text r (Err why.Skipped) every unread h = unread_told filter text r why.Skipped (unread why.Skipped h)
-answer_told filter text r (Err why.Repeated) every unread h = unread_told filter text r why.Repeated (unread why.Repeated h)
+answer_told filter text r (Err any) every unread (inl h) = unread_told filter text r any (unread any h)
+answer_told filter text r (Err any) every unread (inr h) = found_told filter text r h.0 _ (every h.0 h.1) (inr (inr (any, refl, h.2)))
 
 pub one_answer : (filter : Filter) (text : List ℕ) (r : Result DateOrMoment NoAnswer) (a b : Answer) → IsOneFilter filter
     → ((found : DateOrMoment) → IsReadAs filter text found → r ≡ Ok found)

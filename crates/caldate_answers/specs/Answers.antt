@@ -12,6 +12,8 @@ use Rattle.cal_text.specs.declared.any.DateOrMoment.TheVariants as read
 use Rattle.cal_text.specs.declared.any.MomentForm.TheVariants.{Rfc3339}
 use Rattle.cal_schedule.specs.Workdays.{WorkWeek}
 use Rattle.cal_zone.specs.Timeline.{offset_at}
+use Rattle.cal_zone.specs.declared.local_time_error.LocalTimeError.{LocalTimeError}
+use Rattle.cal_zone.specs.declared.local_time_error.LocalTimeError.TheVariants.{Skipped, Repeated, OutOfRange}
 use Rattle.caldate_lines.specs.declared.no_answer.NoAnswer.{NoAnswer}
 use Rattle.caldate_lines.specs.declared.no_answer.NoAnswer.TheVariants as why
 use Rattle.caldate_answers.specs.Clocks.{IsPlaced}
@@ -95,7 +97,7 @@ IsMoved workdays (move.Floor n) found words = IsInForm (form_read found) (floore
 
 -- The words are the moment in a form, moved by the clocks of a zone.
 abbrev pub IsMovedAt : Clock → WorkWeek → AnyMove → Form → LocalAndOffset → List ℕ → Type 0
-IsMovedAt clock workdays by form from words = (m : LocalAndOffset) × IsMovedOn clock workdays by from m × IsInForm form m words
+IsMovedAt clock workdays by form from words = (m : LocalAndOffset) × IsMovedOn clock workdays by from (Ok m) × IsInForm form m words
 
 -- With a clock, a moment goes by it. A date moves as without one.
 abbrev pub IsMovedBy : Option Clock → WorkWeek → AnyMove → DateOrMoment → List ℕ → Type 0
@@ -107,6 +109,11 @@ abbrev pub IsBetweenBy : Option Clock → WorkWeek → Option TimeUnit → DateO
 IsBetweenBy (Some clock) workdays (Some unit) from to words = (z : ℤ) × IsCountOn clock.zone workdays unit from to z × (words ≡ signed_decimal z)
 IsBetweenBy clock workdays unit from to words = IsBetween workdays unit from to words
 
+-- The clock of a request goes before that of the filter.
+abbrev pub own_clock : Option Clock → Option Clock → Option Clock
+own_clock None clock = clock
+own_clock (Some own) clock = Some own
+
 -- The words replace the text that was read. `keep` leaves it as it is. TEXT of `until` and `since`
 -- must be given: if other fields have it, it is put in at each line.
 abbrev pub IsAnswerTo : Option Clock → WorkWeek → Request → List ℕ → DateOrMoment → List ℕ → Type 0
@@ -114,8 +121,8 @@ IsAnswerTo clock workdays (To form) text found words = IsInForm form (moment_of 
 IsAnswerTo clock workdays (Print items) text found words = words ≡ format_text items (moment_of found)
 IsAnswerTo clock workdays (Move by) text found words = IsMovedBy clock workdays by found words
 IsAnswerTo clock workdays (MoveAt other by) text found words = IsMovedAt other workdays by (Moment Rfc3339) (moment_of found) words
-IsAnswerTo clock workdays (Until (target.Text to) unit) text found words = IsBetweenBy clock workdays unit found to words
-IsAnswerTo clock workdays (Since (target.Text from) unit) text found words = IsBetweenBy clock workdays unit from found words
+IsAnswerTo clock workdays (Until own (target.Text to) unit) text found words = IsBetweenBy (own_clock own clock) workdays unit found to words
+IsAnswerTo clock workdays (Since own (target.Text from) unit) text found words = IsBetweenBy (own_clock own clock) workdays unit from found words
 IsAnswerTo clock workdays (At place) text found words = IsAt place (moment_of found) words
 IsAnswerTo clock workdays (Keep bounds) text found words = (lies_in bounds found ≡ Some true) × (words ≡ text)
 IsAnswerTo clock workdays other text found words = ⊥
@@ -139,14 +146,40 @@ abbrev pub compares : Request → DateOrMoment → Bool
 compares (Keep bounds) found = is_some (lies_in bounds found)
 compares other found = false
 
+-- ---- no answer
+-- A policy rejects the time to which a moment moves. Otherwise it is out of range, or has no text.
+abbrev pub why_rejected : LocalTimeError → NoAnswer
+why_rejected Skipped = why.Skipped
+why_rejected Repeated = why.Repeated
+why_rejected OutOfRange = why.None
+
+abbrev pub why_unmoved : Result LocalAndOffset LocalTimeError → NoAnswer
+why_unmoved (Ok m) = why.None
+why_unmoved (Err e) = why_rejected e
+
+abbrev pub IsWhyUnmoved : Clock → WorkWeek → AnyMove → LocalAndOffset → NoAnswer → Type 0
+IsWhyUnmoved clock workdays by from any = (r : Result LocalAndOffset LocalTimeError) × IsMovedOn clock workdays by from r × (any ≡ why_unmoved r)
+
+abbrev pub IsWhyNotMoved : Option Clock → WorkWeek → AnyMove → DateOrMoment → NoAnswer → Type 0
+IsWhyNotMoved (Some clock) workdays by (read.Moment form m) any = IsWhyUnmoved clock workdays by m any
+IsWhyNotMoved clock workdays by found any = any ≡ why.None
+
+-- Why a date or moment has no answer.
+abbrev pub IsWhyUnanswered : Option Clock → WorkWeek → Request → DateOrMoment → NoAnswer → Type 0
+IsWhyUnanswered clock workdays (Move by) found any = IsWhyNotMoved clock workdays by found any
+IsWhyUnanswered clock workdays (MoveAt own by) found any = IsWhyUnmoved own workdays by (moment_of found) any
+IsWhyUnanswered clock workdays other found any = any ≡ why.None
+
 -- ---- the answer to a text
 -- The words that replace it, or None if its line is left out, or why it has no answer.
 abbrev pub Answer : Type 0
 Answer = Result (Option (List ℕ)) NoAnswer
 
--- The date or moment that was read has no answer, and its line is not left out.
-abbrev pub HasNone : Filter → List ℕ → DateOrMoment → Type 0
-HasNone filter text found = (leaves_out filter.request found ≡ false) × ((words : List ℕ) → ¬ IsAnswerBy filter text found words)
+-- The date or moment that was read has no answer for this reason, and its line is not left out.
+abbrev pub HasNone : Filter → List ℕ → DateOrMoment → NoAnswer → Type 0
+HasNone filter text found any =
+    (leaves_out filter.request found ≡ false) × ((words : List ℕ) → ¬ IsAnswerBy filter text found words)
+    × IsWhyUnanswered filter.clock filter.workdays filter.request found any
 
 -- The text is read, as this date or moment. With a clock, its local time is a reading of the clock.
 abbrev pub IsReadAs : Filter → List ℕ → DateOrMoment → Type 0
@@ -162,5 +195,4 @@ IsNotRead filter text any = IsUnread filter.assumptions filter.readers text any
 abbrev pub IsAnswer : Filter → List ℕ → Answer → Type 0
 IsAnswer filter text (Ok (Some words)) = (found : DateOrMoment) × IsReadAs filter text found × IsAnswerBy filter text found words
 IsAnswer filter text (Ok None) = (found : DateOrMoment) × IsReadAs filter text found × (leaves_out filter.request found ≡ true)
-IsAnswer filter text (Err why.None) = (found : DateOrMoment) × IsReadAs filter text found × HasNone filter text found
-IsAnswer filter text (Err other) = IsNotRead filter text other
+IsAnswer filter text (Err any) = IsNotRead filter text any ⊎ ((found : DateOrMoment) × IsReadAs filter text found × HasNone filter text found any)

@@ -1,20 +1,18 @@
 -- The day after a move, and the moments on it.
 use Rattle.std.specs.Prelude.{◌≡◌, ℕ, ◌+◌, ◌-◌, ◌*◌, ◌%◌, max, true, false, pos, ◌*ℤ◌, List, [], ◌∷◌, Some, slice_get}
-use Rattle.cal_time.specs.Date.{IsDate, HasCalendarDate, year_at, month_at, weekday_at}
-use Rattle.cal_time.specs.Lengths.{days_in_month}
+use Rattle.cal_time.specs.Date.{IsDate}
 use Rattle.cal_time.specs.Occurrences.{next_occurrences, prev_occurrences, kth}
 use Rattle.cal_time.specs.SignedDuration as duration
 use Rattle.cal_time.specs.Time.{hour_of, minute_of}
 use Rattle.cal_datetime.specs.DateTime.{date_at, date_time, time_at}
 use Rattle.cal_datetime.specs.OffsetDateTime.{LocalAndOffset}
 use Rattle.cal_time.specs.Weekday.{index}
-use Rattle.cal_schedule.specs.Months.{IsMonthsLater, quarter_at}
+use Rattle.cal_schedule.specs.Months.{IsMonthsLater}
+use Rattle.cal_schedule.specs.Units.{IsFirstOf, IsLastOf}
 use Rattle.cal_schedule.specs.Weekdays.{occurrences_from, occurrences_upto}
 use Rattle.cal_schedule.specs.Workdays.{WorkWeek, nth_workday}
 use Rattle.caldate_answers.specs.declared.request.DayMove.{DayMove}
 use Rattle.caldate_answers.specs.declared.request.DayMove.TheVariants as move
-use Rattle.caldate_answers.specs.declared.request.Period.{Period}
-use Rattle.caldate_answers.specs.declared.request.Period.TheVariants.{Week, Month, Quarter, Year}
 
 -- Monday to Friday, without holidays or without these.
 abbrev pub weekdays_except : List ℕ → WorkWeek
@@ -22,20 +20,6 @@ weekdays_except days = record { marks = true ∷ true ∷ true ∷ true ∷ true
 
 abbrev pub monday_to_friday : WorkWeek
 monday_to_friday = weekdays_except []
-
--- Day r is the first or the last day of the period that contains day n. A week goes from Monday, 0,
--- to Sunday, 6.
-abbrev pub IsFirstOf : Period → ℕ → ℕ → Type 0
-IsFirstOf Week n r = r + weekday_at n ≡ n
-IsFirstOf Month n r = HasCalendarDate (year_at n) (month_at n) 1 r
-IsFirstOf Quarter n r = HasCalendarDate (year_at n) (3 * quarter_at n - 2) 1 r
-IsFirstOf Year n r = HasCalendarDate (year_at n) 1 1 r
-
-abbrev pub IsLastOf : Period → ℕ → ℕ → Type 0
-IsLastOf Week n r = r + weekday_at n ≡ n + 6
-IsLastOf Month n r = HasCalendarDate (year_at n) (month_at n) (days_in_month (year_at n) (month_at n)) r
-IsLastOf Quarter n r = HasCalendarDate (year_at n) (3 * quarter_at n) (days_in_month (year_at n) (3 * quarter_at n)) r
-IsLastOf Year n r = HasCalendarDate (year_at n) 12 31 r
 
 -- Moment m moves to day n and keeps its time of day and offset.
 abbrev pub on_day : LocalAndOffset → ℕ → LocalAndOffset
@@ -56,5 +40,5 @@ MovesTo workdays (move.OnOrBefore w) n r = slice_get (occurrences_upto (index w)
 MovesTo workdays (move.Months z) n r = IsDate r × IsMonthsLater n z r
 MovesTo workdays (move.Years z) n r = IsDate r × IsMonthsLater n (pos 12 *ℤ z) r
 MovesTo workdays (move.Workdays z) n r = nth_workday workdays z n ≡ Some r
-MovesTo workdays (move.Start period) n r = IsDate r × IsFirstOf period n r
-MovesTo workdays (move.End period) n r = IsDate r × IsLastOf period n r
+MovesTo workdays (move.Start unit) n r = IsDate r × IsFirstOf unit n r
+MovesTo workdays (move.End unit) n r = IsDate r × IsLastOf unit n r

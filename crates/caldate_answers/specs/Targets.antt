@@ -16,19 +16,19 @@ use Rattle.caldate_answers.specs.declared.request.Target.TheVariants.{Text, Fiel
 -- ---- requests
 -- The fields of the line that have TEXT, by their numbers or by a name.
 abbrev pub target_fields : Request → Option FieldNumbers
-target_fields (Until (Fields numbers) unit) = Some numbers
-target_fields (Since (Fields numbers) unit) = Some numbers
+target_fields (Until own (Fields numbers) unit) = Some numbers
+target_fields (Since own (Fields numbers) unit) = Some numbers
 target_fields request = None
 
 abbrev pub target_name : Request → Option (List ℕ)
-target_name (Until (Name name) unit) = Some name
-target_name (Since (Name name) unit) = Some name
+target_name (Until own (Name name) unit) = Some name
+target_name (Since own (Name name) unit) = Some name
 target_name request = None
 
 -- The request with this in place of its TEXT, if it has one.
 abbrev pub with_target : Target → Request → Request
-with_target target (Until old unit) = Until target unit
-with_target target (Since old unit) = Since target unit
+with_target target (Until own old unit) = Until own target unit
+with_target target (Since own old unit) = Since own target unit
 with_target target request = request
 
 -- ---- lines

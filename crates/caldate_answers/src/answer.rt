@@ -5,7 +5,7 @@ ghost use Rattle.cal_datetime.specs.OffsetDateTime.{LocalAndOffset};
 ghost use Rattle.cal_text.specs.declared.any.DateOrMoment.{DateOrMoment};
 ghost use Rattle.caldate_lines.specs.Room.{HasRoom, longest_answer};
 ghost use Rattle.caldate_lines.specs.declared.no_answer.NoAnswer.{NoAnswer};
-ghost use Rattle.caldate_answers.specs.Answers.{IsAnswer, IsAnswerLater, IsAnswerTo, IsAt, IsBetween, IsBetweenBy, IsDayLater, IsLater, IsMomentLater, IsMoved, IsMovedAt, IsMovedBy, IsNotRead, IsOnMovedDay, IsReadAs, compares, floored, form_read, is_date, keeps, moment_of, offset_in, on_day, until_text};
+ghost use Rattle.caldate_answers.specs.Answers.{IsAnswer, IsAnswerLater, IsAnswerTo, IsAt, IsBetween, IsBetweenBy, IsDayLater, IsLater, IsMomentLater, IsMoved, IsMovedAt, IsMovedBy, IsNotRead, IsOnMovedDay, IsReadAs, compares, floored, form_read, is_date, keeps, moment_of, offset_in, on_day, own_clock, until_text};
 ghost use Rattle.caldate_answers.specs.Bounds.{lies_in};
 ghost use Rattle.caldate_answers.specs.ClockCounts.{IsCountOn};
 ghost use Rattle.caldate_answers.specs.Forms.{IsInForm, format_text};
@@ -20,10 +20,11 @@ ghost use Rattle.caldate_answers.specs.declared.reading.reader.Reader.TheVariant
 pub(crate) mod bounds;
 pub(crate) mod clock;
 pub(crate) mod clock_counts;
-pub(crate) mod clock_moves;
+pub mod clock_moves;
 pub(crate) mod counts;
 pub(crate) mod forms;
 pub mod moves;
+pub(crate) mod reasons;
 pub(crate) mod signed;
 pub(crate) mod texts;
 
@@ -33,6 +34,7 @@ use crate::answer::clock_counts::count_on;
 use crate::answer::clock_moves::moved_on;
 use crate::answer::counts::count_between;
 use crate::answer::moves::moved_day;
+use crate::answer::reasons::why_unanswered;
 use crate::answer::texts::{
     push_basic, push_date, push_month, push_quarter, push_rfc3339, push_signed, push_unix,
     push_whole_unix,
@@ -185,7 +187,7 @@ fn push_found(
     } else if compares(&filter.request, found) {
         Ok(false)
     } else {
-        Err(NoAnswer::None)
+        Err(why_unanswered(clock, &filter.workdays, &filter.request, found))
     }
 }
 
@@ -235,16 +237,16 @@ fn push_answer_to(
             let form = Form::Moment(MomentForm::Rfc3339);
             push_moved_at(buffer, clock, workdays, *by, form, moment_of(found))
         }
-        Request::Until(Target::Text(to), unit) => {
-            push_between_by(buffer, clock, workdays, *unit, found, to)
+        Request::Until(own, Target::Text(to), unit) => {
+            push_between_at(buffer, own, clock, workdays, *unit, found, to)
         }
-        Request::Since(Target::Text(from), unit) => {
-            push_between_by(buffer, clock, workdays, *unit, from, found)
+        Request::Since(own, Target::Text(from), unit) => {
+            push_between_at(buffer, own, clock, workdays, *unit, from, found)
         }
-        Request::Until(Target::Fields(_), _) => false,
-        Request::Until(Target::Name(_), _) => false,
-        Request::Since(Target::Fields(_), _) => false,
-        Request::Since(Target::Name(_), _) => false,
+        Request::Until(_, Target::Fields(_), _) => false,
+        Request::Until(_, Target::Name(_), _) => false,
+        Request::Since(_, Target::Fields(_), _) => false,
+        Request::Since(_, Target::Name(_), _) => false,
         Request::At(place) => push_at(buffer, place, moment_of(found)),
         Request::Keep(bounds) => push_kept(buffer, bounds, text, found),
     }
@@ -432,8 +434,8 @@ fn push_moved_at(
 {
     one_local(&clock.zone);
     match moved_on(clock, workdays, by, moment) {
-        Some(moved) => push_in_form(buffer, form, moved),
-        None => false,
+        Ok(moved) => push_in_form(buffer, form, moved),
+        Err(_) => false,
     }
 }
 
@@ -520,10 +522,35 @@ fn offset_in(place: &Place<'_>, moment: OffsetDateTime) -> UtcOffset
     }
 }
 
+/// Appends the number of units by the clocks of the request, or by the others if it has none.
+/// Returns whether there is one.
+#[inline(always)]
+pub fn push_between_at(
+    buffer: &mut Buffer,
+    own: &Option<Clock<'_>>,
+    clock: &Option<Clock<'_>>,
+    workdays: &Workdays<'_>,
+    unit: Option<TimeUnit>,
+    from: &DateOrMoment,
+    to: &DateOrMoment,
+) -> bool
+    requires { HasRoom longest_answer buffer.old }
+    ensures has { result ≡ true → AppendsSome
+        (IsBetweenBy (own_clock own.now clock.now) workdays.now unit from.now to.now) buffer.old buffer.new }
+    ensures none { result ≡ false → (buffer.new ≡ buffer.old) × ((words : List ℕ)
+        → ¬ IsBetweenBy (own_clock own.now clock.now) workdays.now unit from.now to.now words) }
+    ensures short { length buffer.new ≤ length buffer.old + longest_answer }
+{
+    match own {
+        Some(_) => push_between_by(buffer, own, workdays, unit, from, to),
+        None => push_between_by(buffer, clock, workdays, unit, from, to),
+    }
+}
+
 /// Appends the number of units, or without a unit the days or the duration. Returns whether there
 /// is one: `false` only with a clock, if what it shows is out of range.
 #[inline(always)]
-pub fn push_between_by(
+fn push_between_by(
     buffer: &mut Buffer,
     clock: &Option<Clock<'_>>,
     workdays: &Workdays<'_>,

@@ -6,7 +6,7 @@ ghost use Rattle.caldate_answers.specs.Targets.{target_fields, target_name};
 use crate::reading::Readers;
 use crate::reading::reader::Assumptions;
 use cal_format::Format;
-use cal_schedule::Workdays;
+use cal_schedule::{CalendarUnit, Workdays};
 use cal_text::{DateForm, DateOrMoment, MomentForm};
 use cal_time::{SignedDuration, UtcOffset, Weekday};
 use cal_zone::{Policy, Zone};
@@ -60,16 +60,6 @@ pub enum TimeUnit {
     Seconds,
 }
 
-/// A period with a first and a last day.
-#[derive(Clone, Copy)]
-pub enum Period {
-    /// Monday to Sunday.
-    Week,
-    Month,
-    Quarter,
-    Year,
-}
-
 /// A move from one day to another.
 #[derive(Clone, Copy)]
 pub enum DayMove {
@@ -87,10 +77,10 @@ pub enum DayMove {
     Years(i64),
     /// `add N workdays`: the N-th working day after the day.
     Workdays(i64),
-    /// `start PERIOD`: the first day of the period.
-    Start(Period),
-    /// `end PERIOD`: the last day of the period.
-    End(Period),
+    /// `start PERIOD`: the first day of the unit.
+    Start(CalendarUnit),
+    /// `end PERIOD`: the last day of the unit.
+    End(CalendarUnit),
 }
 
 /// A move of a date or a moment.
@@ -156,12 +146,14 @@ pub enum Request<'a> {
     Print(Format),
     /// The moved date or moment, such as `add N UNIT`.
     Move(Move),
-    /// `at ZONE` and a move: the moment moved by the clocks of the zone, at the offset of the zone.
+    /// `at ZONE` or `at OFFSET`, and a move: the moment moved by these clocks, at their offset.
     MoveAt(Clock<'a>, Move),
-    /// `until TEXT [in UNIT]`: the days or the duration to TEXT, or the whole units.
-    Until(Target<'a>, Option<TimeUnit>),
-    /// `since TEXT [in UNIT]`: the days or the duration from TEXT, or the whole units.
-    Since(Target<'a>, Option<TimeUnit>),
+    /// `until TEXT [in UNIT]`: the days or the duration to TEXT, or the whole units, by these clocks
+    /// if it is after `at`.
+    Until(Option<Clock<'a>>, Target<'a>, Option<TimeUnit>),
+    /// `since TEXT [in UNIT]`: the days or the duration from TEXT, or the whole units, by these clocks
+    /// if it is after `at`.
+    Since(Option<Clock<'a>>, Target<'a>, Option<TimeUnit>),
     /// `at OFFSET` or `at ZONE`: the moment at this offset, or at the offset of the zone.
     At(Place<'a>),
     /// `keep BOUNDS`: the line itself if it lies within the bounds, otherwise nothing.
@@ -184,8 +176,8 @@ impl<'a> Request<'a> {
         ensures { result ≡ target_fields self.now }
     {
         match self {
-            Request::Until(Target::Fields(numbers), _) => Some(*numbers),
-            Request::Since(Target::Fields(numbers), _) => Some(*numbers),
+            Request::Until(_, Target::Fields(numbers), _) => Some(*numbers),
+            Request::Since(_, Target::Fields(numbers), _) => Some(*numbers),
             _ => None,
         }
     }
@@ -196,8 +188,8 @@ impl<'a> Request<'a> {
             (λ name. target_name self.now ≡ Some name.now) }
     {
         match self {
-            Request::Until(Target::Name(name), _) => Some(name.as_bytes()),
-            Request::Since(Target::Name(name), _) => Some(name.as_bytes()),
+            Request::Until(_, Target::Name(name), _) => Some(name.as_bytes()),
+            Request::Since(_, Target::Name(name), _) => Some(name.as_bytes()),
             _ => None,
         }
     }
@@ -218,7 +210,7 @@ impl<'a> Request<'a> {
         }
     }
 
-    /// Returns whether this is `at ZONE` and a move.
+    /// Returns whether this is `at` and a move.
     pub fn moves_at(&self) -> bool {
         match self {
             Request::MoveAt(_, _) => true,
@@ -231,8 +223,8 @@ impl<'a> Request<'a> {
         match self {
             Request::Move(Move::Day(DayMove::Workdays(_))) => true,
             Request::MoveAt(_, Move::Day(DayMove::Workdays(_))) => true,
-            Request::Until(_, Some(TimeUnit::Workdays)) => true,
-            Request::Since(_, Some(TimeUnit::Workdays)) => true,
+            Request::Until(_, _, Some(TimeUnit::Workdays)) => true,
+            Request::Since(_, _, Some(TimeUnit::Workdays)) => true,
             _ => false,
         }
     }

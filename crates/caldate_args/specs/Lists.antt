@@ -8,7 +8,7 @@ use Rattle.cal_time.specs.Date.{IsDate}
 use Rattle.caldate_lines.specs.Outputs.{IfAll, WritesPage}
 use Rattle.caldate_lines.specs.declared.run_error.RunError.{RunError}
 use Rattle.caldate_args.specs.declared.command.Command.{Command}
-use Rattle.caldate_args.specs.declared.command.Command.TheVariants.{Dates}
+use Rattle.caldate_args.specs.declared.command.Command.TheVariants.{Dates, Moments}
 use Rattle.caldate_args.specs.declared.command.Listing.{Listing}
 use Rattle.caldate_args.specs.declared.command.Step.{Step}
 use Rattle.caldate_args.specs.declared.command.StepUnit.{StepUnit}
@@ -21,6 +21,7 @@ IsStep step = (1 ≤ step.every) × (step.every ≤ 51539607540)
 -- If the command is a list in steps, its step has a length in this range.
 abbrev pub HasValidStep : Command → Type 0
 HasValidStep (Dates listing) = IsStep listing.step
+HasValidStep (Moments moments) = IsStep moments.step
 HasValidStep other = ⊤
 
 -- Day r is `count` days or months after day n.

@@ -11,6 +11,7 @@ pub(crate) mod messages;
 pub(crate) mod names;
 pub(crate) mod offset;
 pub(crate) mod options;
+pub mod requirement;
 pub(crate) mod spelling;
 pub(crate) mod target;
 pub mod usage_error;
@@ -18,24 +19,25 @@ pub mod usage_message;
 pub mod words;
 
 use crate::args::bounds::bounds_at;
-use crate::args::clock_words::now_in;
+use crate::args::clock_words::{now_in, now_on};
 use crate::args::formats::to_of;
 use crate::args::listing::list_of;
 use crate::args::names::{CommandName, MoveVerb, Verb};
 use crate::args::offset::offset_of;
 use crate::args::options::{
-    Options, assumptions_in, conflict_in, field_of, options_of, readers_in, zone_of,
+    Options, assumptions_in, field_of, options_of, readers_in, unmet_in, zone_of,
 };
+use crate::args::requirement::Requirement;
 use crate::args::spelling::{
     command_of, minutes_of, minutes_word, parse_i64, parse_u8, period_of, start_of, unit_of,
     verb_of, weekday_of,
 };
 use crate::args::target::target_at;
-use crate::args::usage_error::{Expected, UsageError, usage_error_at};
+use crate::args::usage_error::{Expected, UsageError, requirement_at, usage_error_at};
 use crate::args::words::{cut, ended, ends_at, only_at, word_as, word_at};
 use crate::command::Command;
 use crate::data_files::DataFiles;
-use crate::zones::is_zone_like;
+use crate::zones::{is_zone_like, zone_with};
 use cal_datetime::{OffsetDateTime, PlainDateTime};
 use cal_schedule::Workdays;
 use cal_time::{SignedDuration, Weekday};
@@ -61,7 +63,7 @@ pub fn asked_by<'a, D: DataFiles<'a>>(
 {
     match arguments {
         Some(words) => parse_args(words, now, files),
-        None => Err(usage_error_at(0, Expected::Short)),
+        None => Err(requirement_at(0, Requirement::Short)),
     }
 }
 
@@ -75,7 +77,7 @@ pub fn parse_args<'a, D: DataFiles<'a>>(
 ) -> Result<Command<'a>, UsageError<'a>>
     ensures steps { IfOk result HasValidStep }
 {
-    let nothing = usage_error_at(0, Expected::Something);
+    let nothing = requirement_at(0, Requirement::Something);
     let first = word_at(words, 0).ok_or(nothing)?;
     if first == b"".as_slice() && ends_at(words, 1) {
         return Err(nothing);
@@ -165,8 +167,8 @@ fn filter_at<'a, D: DataFiles<'a>>(
     requires few { at ≤ 2 }
 {
     let (options, at) = options_of(rest, at, files)?;
-    if let Some(expected) = conflict_in(&options) {
-        return Err(usage_error_at(at, expected));
+    if let Some(requirement) = unmet_in(&options) {
+        return Err(requirement_at(at, requirement));
     }
     let now = now_in(&options.zone, now);
     let request = request_at(words, at, policy_of(options.policy), now, files)?;
@@ -179,28 +181,28 @@ fn filter_with<'a>(
     options: Options<'a>,
     request: Request<'a>,
 ) -> Result<Filter<'a>, UsageError<'static>> {
-    if let Some(expected) = conflict_with_request(&options, &request) {
-        return Err(usage_error_at(at, expected));
+    if let Some(requirement) = unmet_by(&options, &request) {
+        return Err(requirement_at(at, requirement));
     }
     let filter = filter_of(options, request);
     if !filter.names.any() && filter.several.overlap() {
-        return Err(usage_error_at(at, Expected::Overlap));
+        return Err(requirement_at(at, Requirement::Overlap));
     }
     Ok(filter)
 }
 
 /// Returns the requirement of the request that the options don't meet, if there is one.
-fn conflict_with_request(options: &Options<'_>, request: &Request<'_>) -> Option<Expected> {
+fn unmet_by(options: &Options<'_>, request: &Request<'_>) -> Option<Requirement> {
     if options.append.is_some() && request.keeps() {
-        Some(Expected::AppendKeep)
+        Some(Requirement::AppendKeep)
     } else if request.reads_other() && options.fields.is_none() {
-        Some(Expected::OtherField)
+        Some(Requirement::OtherField)
     } else if request.names_other() && !options.header {
-        Some(Expected::Header)
+        Some(Requirement::Header)
     } else if options.workdays.is_some() && !request.counts_workdays() {
-        Some(Expected::WorkdaysOnly)
+        Some(Requirement::WorkdaysOnly)
     } else if options.policy.is_some() && options.zone.is_none() && !request.moves_at() {
-        Some(Expected::ZoneOption)
+        Some(Requirement::ZoneOption)
     } else {
         None
     }
@@ -283,22 +285,16 @@ fn request_at<'a, D: DataFiles<'a>>(
     now: Option<OffsetDateTime>,
     files: &mut D,
 ) -> Result<Request<'a>, UsageError<'a>>
-    requires { at + 5 < 2 ^ 64 }
+    requires { at + 7 < 2 ^ 64 }
 {
     let verb = word_as(words, at, verb_of, expected_verb(at))?;
     let at = at + 1;
     match verb {
         Verb::To => to_at(words, at),
         Verb::Move(verb) => Ok(Request::Move(move_of(verb, words, at)?)),
-        Verb::Until => {
-            let (target, unit) = target_at(words, at, now)?;
-            Ok(Request::Until(target, unit))
-        }
-        Verb::Since => {
-            let (target, unit) = target_at(words, at, now)?;
-            Ok(Request::Since(target, unit))
-        }
-        Verb::At => at_place(words, at, policy, files),
+        Verb::Until => until_at(words, at, None, now),
+        Verb::Since => since_at(words, at, None, now),
+        Verb::At => at_place(words, at, policy, now, files),
         Verb::Keep => Ok(Request::Keep(bounds_at(words, at, now)?)),
     }
 }
@@ -366,27 +362,79 @@ fn end_at(words: &[u8], at: usize) -> Result<Move, UsageError<'static>>
     Ok(Move::Day(DayMove::End(period)))
 }
 
-/// Parses `OFFSET`, `ZONE`, or `ZONE` and a move.
+/// Parses `OFFSET` or `ZONE`, perhaps with a move, `until` or `since`.
 fn at_place<'a, D: DataFiles<'a>>(
     words: &'a [u8],
     at: usize,
     policy: Policy,
+    now: Option<OffsetDateTime>,
     files: &mut D,
 ) -> Result<Request<'a>, UsageError<'a>>
+    requires { at + 6 < 2 ^ 64 }
+{
+    let place = place_at(words, at, files)?;
+    let Some(verb) = word_at(words, at + 1).and_then(verb_of) else {
+        return ended(words, at + 1, Request::At(place));
+    };
+    let Some(clock) = clock_in(place, policy) else {
+        return Err(usage_error_at(at, Expected::Place));
+    };
+    let now = now_on(&clock.zone, now);
+    match verb {
+        Verb::Move(verb) => Ok(Request::MoveAt(clock, move_of(verb, words, at + 2)?)),
+        Verb::Until => until_at(words, at + 2, Some(clock), now),
+        Verb::Since => since_at(words, at + 2, Some(clock), now),
+        Verb::To | Verb::At | Verb::Keep => Err(usage_error_at(at + 1, Expected::End)),
+    }
+}
+
+/// Parses `OFFSET` or `ZONE`, after which words may follow.
+fn place_at<'a, D: DataFiles<'a>>(
+    words: &'a [u8],
+    at: usize,
+    files: &mut D,
+) -> Result<Place<'a>, UsageError<'a>> {
+    if names_zone(words, at) {
+        return Ok(Place::Zone(first_zone_at(words, at, files)?));
+    }
+    Ok(Place::Offset(word_as(words, at, offset_of, Expected::Place)?))
+}
+
+/// Returns the clocks of a place, or `None` if its offset can't be that of a zone.
+fn clock_in<'a>(place: Place<'a>, policy: Policy) -> Option<Clock<'a>> {
+    match place {
+        Place::Zone(zone) => Some(Clock { zone, policy }),
+        Place::Offset(offset) => match zone_with(offset) {
+            Some(zone) => Some(Clock { zone, policy }),
+            None => None,
+        },
+    }
+}
+
+/// Parses the arguments of `until`, whose units these clocks count.
+fn until_at<'a>(
+    words: &'a [u8],
+    at: usize,
+    own: Option<Clock<'a>>,
+    now: Option<OffsetDateTime>,
+) -> Result<Request<'a>, UsageError<'static>>
     requires { at + 4 < 2 ^ 64 }
 {
-    if !names_zone(words, at) {
-        let offset = only_at(words, at, offset_of, Expected::Place)?;
-        return Ok(Request::At(Place::Offset(offset)));
-    }
-    let zone = first_zone_at(words, at, files)?;
-    match word_at(words, at + 1).and_then(verb_of) {
-        Some(Verb::Move(verb)) => {
-            let by = move_of(verb, words, at + 2)?;
-            Ok(Request::MoveAt(Clock { zone, policy }, by))
-        }
-        _ => ended(words, at + 1, Request::At(Place::Zone(zone))),
-    }
+    let (target, unit) = target_at(words, at, now)?;
+    Ok(Request::Until(own, target, unit))
+}
+
+/// Parses the arguments of `since`, whose units these clocks count.
+fn since_at<'a>(
+    words: &'a [u8],
+    at: usize,
+    own: Option<Clock<'a>>,
+    now: Option<OffsetDateTime>,
+) -> Result<Request<'a>, UsageError<'static>>
+    requires { at + 4 < 2 ^ 64 }
+{
+    let (target, unit) = target_at(words, at, now)?;
+    Ok(Request::Since(own, target, unit))
 }
 
 /// Returns whether the word is read as the name of a zone.

@@ -4,7 +4,7 @@ use cal_datetime::OffsetDateTime;
 use cal_recurrence::Recurrence;
 use cal_time::Date;
 use cal_zone::Zone;
-use caldate_answers::request::Filter;
+use caldate_answers::request::{Clock, Filter};
 use caldate_lines::field::Field;
 
 /// A unit of steps.
@@ -31,6 +31,19 @@ pub struct Listing {
     /// The last date that the list may have.
     pub last: Date,
     /// The step from one date to the next.
+    pub step: Step,
+}
+
+/// A list of moments. Each is counted from the first by clocks.
+#[derive(Drop)]
+pub struct Moments<'a> {
+    /// The clocks.
+    pub clock: Clock<'a>,
+    /// The first moment.
+    pub first: OffsetDateTime,
+    /// The last moment that the list may have.
+    pub last: OffsetDateTime,
+    /// The step from one moment to the next.
     pub step: Step,
 }
 
@@ -72,6 +85,8 @@ pub enum Command<'a> {
     NamedOnce(Filter<'a>, Field),
     /// `list from A to B [by N UNIT]`: the dates from A to B.
     Dates(Listing),
+    /// `list from A to B by N UNIT at ZONE`: the moments from A to B.
+    Moments(Moments<'a>),
     /// `list from A to B by RULE [at ZONE]`: the dates or moments of the recurrence.
     Recurring(Occurrences<'a>),
 }

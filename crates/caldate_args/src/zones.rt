@@ -9,8 +9,9 @@ pub mod zone_source;
 use crate::args::offset::offset_of;
 use crate::zones::read_zone_error::ReadZoneError;
 use crate::zones::zone_source::{MAX_FILE_BYTES, read_whole};
+use cal_time::UtcOffset;
 use cal_tzif::parse;
-use cal_zone::Zone;
+use cal_zone::{LocalType, Table, Zone};
 use caldate_answers::scan::is_letter;
 use caldate_lines::streams::Source;
 
@@ -57,6 +58,20 @@ fn is_name_byte(byte: u8) -> bool
 /// Returns whether the word is read as the name of a zone, and not as an offset.
 pub fn is_zone_like(word: &[u8]) -> bool {
     is_zone_name(word) && offset_of(word).is_none()
+}
+
+/// Returns a zone whose clocks always have this offset.
+pub(crate) fn zone_with<'a>(offset: UtcOffset) -> Option<Zone<'a>> {
+    let clocks = LocalType {
+        offset: offset.whole_seconds(),
+        is_daylight: false,
+        name_start: 0,
+        name_end: 0,
+    };
+    match Zone::new(clocks, Table::empty(b""), None) {
+        Ok(zone) => Some(zone),
+        Err(_) => None,
+    }
 }
 
 /// Reads the file of a zone into the buffer, and returns the zone.

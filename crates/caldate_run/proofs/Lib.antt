@@ -1,6 +1,7 @@
 pub mod Advances
 pub mod FrontDays
 pub mod Listed
+pub mod MomentSteps
 pub mod Named
 pub mod OneList
 pub mod Others

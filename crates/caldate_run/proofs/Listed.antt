@@ -21,7 +21,7 @@ use Rattle.caldate_args.specs.Lists.{AreListed, IsEnd, IsUnitsAfter, Lists, Writ
 use Rattle.caldate_run.specs.Recurring.{AreListedIn, IsEndIn, IsNextIn}
 
 -- any two days of the range are less than a thousand million months from each other
-few_months : (n m s : ℕ) → IsDate n → IsDate s → IsMonthsLater n (pos m) s → m < 1000000000
+pub few_months : (n m s : ℕ) → IsDate n → IsDate s → IsMonthsLater n (pos m) s → m < 1000000000
 few_months n m s d e h =
     let a = IsMonthNumber-date n d in
     let b = IsMonthNumber-date s e in
@@ -63,7 +63,7 @@ lists line Are start now given r old new end follows page =
     let (whole, is, e) = follows (is_ok r) [] end in
     (whole, is, subst (λ bytes. WritesPage bytes r old new) (sym (e ∙ append-nil given)) page)
 
-if_all : (all : Bool) (P : Type 0) → P → IfAll all P
+pub if_all : (all : Bool) (P : Type 0) → P → IfAll all P
 if_all true P h = h
 if_all false P h = tt
 

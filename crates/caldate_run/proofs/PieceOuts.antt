@@ -167,8 +167,8 @@ kept_words clock workdays (To form) text found words h e = absurd (false≢true 
 kept_words clock workdays (Print items) text found words h e = absurd (false≢true e)
 kept_words clock workdays (Move by) text found words h e = absurd (false≢true e)
 kept_words clock workdays (MoveAt other by) text found words h e = absurd (false≢true e)
-kept_words clock workdays (Until target unit) text found words h e = absurd (false≢true e)
-kept_words clock workdays (Since target unit) text found words h e = absurd (false≢true e)
+kept_words clock workdays (Until own target unit) text found words h e = absurd (false≢true e)
+kept_words clock workdays (Since own target unit) text found words h e = absurd (false≢true e)
 kept_words clock workdays (At place) text found words h e = absurd (false≢true e)
 
 own_words : (filter : Filter) (text words : List ℕ) → IsAnswer filter text (Ok (Some words)) → placed filter.field text words ≡ words

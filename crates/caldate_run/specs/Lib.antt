@@ -3,3 +3,4 @@ pub mod Pieces
 pub mod Recurring
 pub mod Replies
 pub mod Runs
+pub mod Steps

@@ -32,14 +32,15 @@ invalid, or the input or the output fails.
                                   of the line; also since, and N-M or NAME as after --field
   caldate at OFFSET               the moment at that offset, such as +01:00
   caldate at ZONE                 the moment by the clocks of that zone, such as Europe/Berlin
-  caldate at ZONE MOVE            the moment moved by those clocks; MOVE is add, next, last,
+  caldate at PLACE MOVE           the moment moved by those clocks; MOVE is add, next, last,
                                   on-or-after, on-or-before, start or end with its words
+  caldate at PLACE until DATE ..  whole units by those clocks; also since
   caldate keep from A to B        the line itself if it is from A to B, otherwise nothing;
                                   also keep after A and keep before B
   caldate list from A to B        without input: all dates from A to B; with by N UNIT every N
                                   days, weeks, months or years; with by RULE the dates of a
                                   recurrence, such as FREQ=MONTHLY;BYDAY=-1FR, or its moments if
-                                  A and B are moments
+                                  A and B are moments; with at ZONE, moments by its clocks
   caldate --date DATE ...         answers for this date or moment, without input
   caldate --invalid MODE ...      what is written for a line without an answer: keep for the line
                                   (the default with --field and --scan), answer for the reason (the

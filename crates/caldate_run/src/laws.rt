@@ -14,12 +14,13 @@ ghost use Rattle.caldate_answers.specs.declared.request.Clock.{Clock};
 ghost use Rattle.caldate_answers.specs.declared.request.Move.{Move};
 ghost use Rattle.caldate_answers.specs.declared.request.Request.TheVariants.{MoveAt};
 ghost use Rattle.caldate_run.specs.Recurring.{ListsOccurrences};
+ghost use Rattle.caldate_run.specs.Steps.{ListsSteps};
 
 use cal_text::DateOrMoment;
 use cal_zone::laws::one_local;
 use caldate_answers::answer::read_with;
 use caldate_answers::request::{Clock, Filter, Request};
-use caldate_args::command::{Occurrences, Span};
+use caldate_args::command::{Moments, Occurrences, Span};
 use caldate_lines::field::Field;
 use caldate_lines::no_answer::NoAnswer;
 
@@ -65,6 +66,15 @@ pub fn one_list(asked: &Occurrences<'_>)
         Span::Moments(_, _) => {}
         Span::InZone(zone, _, _) => one_local(zone),
     }
+}
+
+/// Proves that steps by the clocks of a zone have one list of moments.
+pub fn one_list_of_steps(moments: &Moments<'_>)
+    ensures { (held : List ℕ) (outcome other : Result Unit RunError) (new later : Option (List ℕ))
+        → IsOk outcome → IsOk other → ListsSteps moments.now outcome (Some held) new
+        → ListsSteps moments.now other (Some held) later → new ≡ later }
+{
+    one_local(&moments.clock.zone);
 }
 
 /// Proves that the fields of a record of RFC 4180 are split at its separators, which are not quotes.

@@ -5,6 +5,7 @@ ghost use Rattle.caldate_lines.specs.Calls.{Writes, write_failure};
 ghost use Rattle.caldate_args.specs.Lists.{IsEnd, IsUnitsAfter, IsStep, IsWithin, Lists};
 
 pub(crate) mod in_zone;
+pub mod moments;
 pub mod recurring;
 pub(crate) mod remaining;
 

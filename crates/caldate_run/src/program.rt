@@ -8,15 +8,18 @@ ghost use Rattle.caldate_lines.specs.declared.run_error.RunError.{RunError};
 ghost use Rattle.caldate_lines.specs.declared.field.Field.{Field};
 ghost use Rattle.caldate_answers.specs.declared.request.Filter.{Filter};
 ghost use Rattle.caldate_args.specs.declared.command.Listing.{Listing};
+ghost use Rattle.caldate_args.specs.declared.command.Moments.{Moments};
 ghost use Rattle.caldate_args.specs.declared.command.Occurrences.{Occurrences};
 ghost use Rattle.caldate_args.specs.Files.{FailsOrKeeps};
 ghost use Rattle.caldate_args.specs.Lists.{HasValidStep, Lists};
 ghost use Rattle.caldate_run.specs.Named.{EndsNamed};
 ghost use Rattle.caldate_run.specs.Recurring.{ListsOccurrences};
 ghost use Rattle.caldate_run.specs.Runs.{IsRunResult};
+ghost use Rattle.caldate_run.specs.Steps.{ListsSteps};
 
 use crate::help::{HELP, VERSION};
 use crate::list::list;
+use crate::list::moments::list_moments;
 use crate::list::recurring::list_occurrences;
 use crate::run::named::run_named;
 use crate::run::run;
@@ -92,6 +95,10 @@ pub fn perform<R: Source, W: Sink, E: Sink>(
         × Lists listing outcome (W.contents writer.old) (W.contents writer.new)
         × Writes W.write_gives writer.old (write_failure outcome) writer.new
         × ReportsOutcome outcome result (E.contents errors.old) (E.contents errors.new)) }
+    ensures steps { (moments : Moments) → asked.entry ≡ Ok (Command.Moments moments) → (reader.new ≡ reader.old) × ((outcome : Result Unit RunError)
+        × ListsSteps moments outcome (W.contents writer.old) (W.contents writer.new)
+        × Writes W.write_gives writer.old (write_failure outcome) writer.new
+        × ReportsOutcome outcome result (E.contents errors.old) (E.contents errors.new)) }
     ensures recurring { (dates : Occurrences) → asked.entry ≡ Ok (Command.Recurring dates) → (reader.new ≡ reader.old) × ((outcome : Result Unit RunError)
         × ListsOccurrences dates outcome (W.contents writer.old) (W.contents writer.new)
         × Writes W.write_gives writer.old (write_failure outcome) writer.new
@@ -125,6 +132,10 @@ pub fn perform<R: Source, W: Sink, E: Sink>(
         }
         Ok(Command::Dates(listing)) => {
             let outcome = list(&listing, writer);
+            end(outcome, errors)
+        }
+        Ok(Command::Moments(moments)) => {
+            let outcome = list_moments(&moments, writer);
             end(outcome, errors)
         }
         Ok(Command::Recurring(dates)) => {

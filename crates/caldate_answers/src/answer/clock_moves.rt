@@ -1,109 +1,126 @@
 //! Moments moved by the clocks of a zone.
-ghost use Rattle.std.specs.Prelude.{◌≡◌, MatchOption};
-ghost use Rattle.cal_datetime.specs.OffsetDateTime.{LocalAndOffset};
-ghost use Rattle.cal_zoned.specs.Zoned.{InZone};
-ghost use Rattle.caldate_answers.specs.ClockMoves.{IsMovedIn, IsMovedOn, IsOnDay, IsRounded};
-ghost use Rattle.caldate_answers.specs.declared.request.Move.TheVariants.{Day};
+ghost use Rattle.std.specs.Prelude.{◌≡◌, ◌+ℤ◌, pos};
+ghost use Rattle.cal_time.specs.Date.{IsDate};
+ghost use Rattle.cal_time.specs.SignedDuration.{whole_days};
+ghost use Rattle.cal_datetime.specs.OffsetDateTime.{instant};
+ghost use Rattle.cal_zoned.specs.Zoned.{IsSeen, instant_in};
+ghost use Rattle.caldate_answers.specs.ClockMoves.{IsDayWith, IsMovedIn, IsMovedOn, IsOnDay, IsRounded};
 
 use crate::answer::floored;
 use crate::answer::moves::moved_day;
-use crate::request::{Clock, DayMove, Move};
+use crate::request::{Clock, Move};
 use cal_datetime::OffsetDateTime;
 use cal_schedule::Workdays;
-use cal_time::Date;
-use cal_zone::Policy;
+use cal_time::{Date, SignedDuration};
+use cal_zone::{LocalTimeError, Policy, Zone};
 use cal_zoned::ZonedDateTime;
-use cal_zoned::laws::{one_kept, one_resolved, one_start};
 
-/// Moves a moment by the clocks of a zone. Returns `None` if what the clocks show is out of range,
-/// or if they skip or repeat it and the policy is to reject it.
+/// Moves a moment by the clocks of a zone. In Berlin a month after 2024-03-15 12:00 +01:00:00 is
+/// 2024-04-15 12:00 +02:00:00.
 ///
-/// In Berlin a month after 2024-03-15 12:00 +01:00:00 is 2024-04-15 12:00 +02:00:00.
+/// # Errors
+///
+/// Returns `Skipped` or `Repeated` if the policy rejects what the clocks skip or show twice, and
+/// `OutOfRange` if what they show is out of range.
 #[inline(never)]
 pub fn moved_on(
     clock: &Clock<'_>,
     workdays: &Workdays<'_>,
     by: Move,
     moment: OffsetDateTime,
-) -> Option<OffsetDateTime>
-    ensures { MatchOption result
-        ((m : LocalAndOffset) → ¬ IsMovedOn clock.now workdays.now by moment m)
-        (IsMovedOn clock.now workdays.now by moment) }
+) -> Result<OffsetDateTime, LocalTimeError>
+    ensures { IsMovedOn clock.now workdays.now by moment result }
 {
-    let here = ZonedDateTime::from_offset_date_time(moment, &clock.zone)?;
-    moved_in(clock.policy, workdays, by, &here)
+    match seen_in(&clock.zone, moment) {
+        Ok(here) => match moved_in(clock.policy, workdays, by, &here) {
+            Ok(there) => Ok(there.to_offset_date_time()),
+            Err(error) => Err(error),
+        },
+        Err(error) => Err(error),
+    }
+}
+
+/// Returns what the clocks of a zone show at a moment.
+fn seen_in<'z>(
+    zone: &'z Zone<'z>,
+    moment: OffsetDateTime,
+) -> Result<ZonedDateTime<'z>, LocalTimeError>
+    ensures { IsSeen zone.now (instant moment) result }
+{
+    match ZonedDateTime::from_offset_date_time(moment, zone) {
+        Some(here) => Ok(here),
+        None => Err(LocalTimeError::OutOfRange),
+    }
 }
 
 /// Moves a date-time in a zone.
-fn moved_in(
+fn moved_in<'z>(
     policy: Policy,
     workdays: &Workdays<'_>,
     by: Move,
-    from: &ZonedDateTime<'_>,
-) -> Option<OffsetDateTime>
-    ensures { MatchOption result ((r : InZone) → ¬ IsMovedIn policy workdays.now by from.now r)
-        (λ m. (r : InZone) × IsMovedIn policy workdays.now by from.now r × (m ≡ r.moment)) }
+    from: &ZonedDateTime<'z>,
+) -> Result<ZonedDateTime<'z>, LocalTimeError>
+    ensures { IsMovedIn policy workdays.now by from.now result }
 {
     match by {
-        Move::Day(by) => on_moved_day(policy, workdays, by, from),
-        Move::Days(duration) => match from.date().checked_add(duration) {
-            Some(date) => on_day(policy, date, from),
-            None => None,
-        },
-        Move::Add(duration) => Some(from.checked_add(duration)?.to_offset_date_time()),
+        Move::Day(by) => on_day(policy, moved_day(workdays, from.date(), by), from),
+        Move::Days(duration) => on_day(policy, days_later(from.date(), duration), from),
+        Move::Add(duration) => later(duration, from),
         Move::Floor(minutes) => rounded_down(policy, minutes, from),
     }
 }
 
-/// Moves a date-time in a zone by a move of days.
-fn on_moved_day(
-    policy: Policy,
-    workdays: &Workdays<'_>,
-    by: DayMove,
-    from: &ZonedDateTime<'_>,
-) -> Option<OffsetDateTime>
-    ensures { MatchOption result ((r : InZone) → ¬ IsMovedIn policy workdays.now (Day by) from.now r)
-        (λ m. (r : InZone) × IsMovedIn policy workdays.now (Day by) from.now r × (m ≡ r.moment)) }
+/// Adds the whole days of a duration, or returns `None` if the result is out of range.
+fn days_later(date: Date, duration: SignedDuration) -> Option<Date>
+    ensures { IsDayWith (λ n. IsDate n × (pos n ≡ pos date +ℤ whole_days duration)) result }
 {
-    match moved_day(workdays, from.date(), by) {
-        Some(date) => on_day(policy, date, from),
+    match date.checked_add(duration) {
+        Some(day) => Some(day),
         None => None,
     }
 }
 
-/// Moves a date-time in a zone to another day, on which the clocks show the same time of day.
-fn on_day(policy: Policy, date: Date, from: &ZonedDateTime<'_>) -> Option<OffsetDateTime>
-    ensures { MatchOption result ((r : InZone) → ¬ IsOnDay policy from.now date r)
-        (λ m. (r : InZone) × IsOnDay policy from.now date r × (m ≡ r.moment)) }
+/// Moves a date-time in a zone to another day, if there is one.
+fn on_day<'z>(
+    policy: Policy,
+    day: Option<Date>,
+    from: &ZonedDateTime<'z>,
+) -> Result<ZonedDateTime<'z>, LocalTimeError>
+    ensures { IsOnDay policy from.now day result }
 {
-    one_resolved(from.zone());
-    if date == from.date() {
-        return Some(from.to_offset_date_time());
+    match day {
+        Some(date) => from.moved_to(date, policy),
+        None => Err(LocalTimeError::OutOfRange),
     }
-    let reading = from.local().replace_date(date);
-    match ZonedDateTime::from_local(reading, from.zone(), policy) {
-        Ok(there) => Some(there.to_offset_date_time()),
-        Err(_) => None,
+}
+
+/// Moves the instant of a date-time in a zone.
+fn later<'z>(
+    duration: SignedDuration,
+    from: &ZonedDateTime<'z>,
+) -> Result<ZonedDateTime<'z>, LocalTimeError>
+    ensures { IsSeen from.now.zone (instant_in from.now +ℤ duration) result }
+{
+    match from.checked_add(duration) {
+        Some(there) => Ok(there),
+        None => Err(LocalTimeError::OutOfRange),
     }
 }
 
 /// Rounds the time of day that the clocks show down to a multiple of `minutes` minutes, or for 1440
 /// minutes to the start of the day.
-fn rounded_down(policy: Policy, minutes: u16, from: &ZonedDateTime<'_>) -> Option<OffsetDateTime>
-    ensures { MatchOption result ((r : InZone) → ¬ IsRounded policy minutes from.now r)
-        (λ m. (r : InZone) × IsRounded policy minutes from.now r × (m ≡ r.moment)) }
+fn rounded_down<'z>(
+    policy: Policy,
+    minutes: u16,
+    from: &ZonedDateTime<'z>,
+) -> Result<ZonedDateTime<'z>, LocalTimeError>
+    ensures { IsRounded policy minutes from.now result }
 {
-    one_start(from.zone());
-    one_kept(from);
     if minutes == 1440 {
         return match from.start_of_day() {
-            Some(there) => Some(there.to_offset_date_time()),
-            None => None,
+            Some(there) => Ok(there),
+            None => Err(LocalTimeError::OutOfRange),
         };
     }
-    let reading = floored(minutes, from.to_offset_date_time()).local();
-    match from.with_local(reading, policy) {
-        Ok(there) => Some(there.to_offset_date_time()),
-        Err(_) => None,
-    }
+    from.with_local(floored(minutes, from.to_offset_date_time()).local(), policy)
 }

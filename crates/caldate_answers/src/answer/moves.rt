@@ -4,13 +4,11 @@ ghost use Rattle.cal_time.specs.Date.{IsDate, julian_day_at};
 ghost use Rattle.cal_schedule.specs.Months.{IsMonthsLater};
 ghost use Rattle.cal_schedule.specs.Workdays.{nth_workday};
 ghost use Rattle.cal_time.specs.Counted.{IsRising};
-ghost use Rattle.caldate_answers.specs.Moves.{IsFirstOf, IsLastOf, MovesTo, monday_to_friday, weekdays_except};
+ghost use Rattle.caldate_answers.specs.Moves.{MovesTo, monday_to_friday, weekdays_except};
 
-use crate::request::{DayMove, Period};
+use crate::request::DayMove;
 use cal_schedule::{
-    Workdays, checked_add_months, checked_add_years, first_of_iso_week, first_of_month,
-    first_of_quarter, first_of_year, last_of_iso_week, last_of_month, last_of_quarter,
-    last_of_year, on_or_after, on_or_before,
+    Workdays, checked_add_months, checked_add_years, first_of, last_of, on_or_after, on_or_before,
 };
 use cal_time::Date;
 
@@ -27,8 +25,8 @@ pub fn moved_day(workdays: &Workdays<'_>, date: Date, by: DayMove) -> Option<Dat
         DayMove::Months(months) => months_later(date, months),
         DayMove::Years(years) => years_later(date, years),
         DayMove::Workdays(days) => workdays_later(workdays, date, days),
-        DayMove::Start(period) => Some(first_of(period, date)),
-        DayMove::End(period) => last_of(period, date),
+        DayMove::Start(unit) => Some(first_of(date, unit)),
+        DayMove::End(unit) => last_of(date, unit),
     }
 }
 
@@ -83,31 +81,5 @@ pub fn workdays_except(holidays: &[Date]) -> Workdays<'_>
     match Workdays::new([true, true, true, true, true, false, false], holidays) {
         Some(workdays) => workdays,
         None => unreachable!(),
-    }
-}
-
-/// Returns the first day of the period that contains a day. The range begins on a Monday.
-fn first_of(period: Period, date: Date) -> Date
-    ensures first { IsFirstOf period date result }
-    ensures range { IsDate result }
-{
-    match period {
-        Period::Week => first_of_iso_week(date),
-        Period::Month => first_of_month(date),
-        Period::Quarter => first_of_quarter(date),
-        Period::Year => first_of_year(date),
-    }
-}
-
-/// Returns the last day of the period that contains a day, or `None` if the range ends before it.
-fn last_of(period: Period, date: Date) -> Option<Date>
-    ensures { MatchOption result ((n : ℕ) → ¬ (IsDate n × IsLastOf period date n))
-        (λ n. IsDate n × IsLastOf period date n) }
-{
-    match period {
-        Period::Week => last_of_iso_week(date),
-        Period::Month => Some(last_of_month(date)),
-        Period::Quarter => Some(last_of_quarter(date)),
-        Period::Year => Some(last_of_year(date)),
     }
 }

@@ -19,6 +19,14 @@ pub fn now_in(zone: &Option<Zone<'_>>, now: Option<PlainDateTime>) -> Option<Off
     }
 }
 
+/// Returns the same moment at the offset of the zone.
+pub fn now_on(zone: &Zone<'_>, now: Option<OffsetDateTime>) -> Option<OffsetDateTime> {
+    match now {
+        Some(now) => Some(moment_in(zone, now)),
+        None => None,
+    }
+}
+
 /// Returns the moment at the offset that the zone has then.
 pub fn moment_in(zone: &Zone<'_>, moment: OffsetDateTime) -> OffsetDateTime
     ensures { result ≡ moment_in (Some zone.now) (instant moment) }

@@ -2,21 +2,23 @@
 ghost use Rattle.std.specs.Prelude.{◌≤◌, IfOk, IfSome};
 ghost use Rattle.caldate_args.specs.Lists.{HasValidStep, IsStep};
 
+use crate::args::requirement::Requirement;
 use crate::args::spelling::{parse_u32, unit_of};
-use crate::args::usage_error::{Expected, UsageError, usage_error_at};
-use crate::args::words::{ends_at, found_at, keyword_at, word_as, word_at};
+use crate::args::usage_error::{Expected, UsageError, requirement_at, usage_error_at};
+use crate::args::words::{ended, ends_at, found_at, keyword_at, word_as, word_at};
 use crate::args::zone_at;
-use crate::command::{Command, Listing, Occurrences, Span, Step, StepUnit};
+use crate::command::{Command, Listing, Moments, Occurrences, Span, Step, StepUnit};
 use crate::data_files::DataFiles;
 use cal_datetime::OffsetDateTime;
 use cal_recurrence::{Recurrence, parse};
 use cal_text::DateOrMoment;
 use cal_time::Date;
-use caldate_answers::request::TimeUnit;
+use cal_zone::Policy;
+use caldate_answers::request::{Clock, TimeUnit};
 use caldate_lines::lines::index_of;
 
-/// Parses `list from A to B`, `list from A to B by N UNIT` or `list from A to B by RULE`, perhaps
-/// with `at ZONE`.
+/// Parses `list from A to B`, `list from A to B by N UNIT` or `list from A to B by RULE`, the last
+/// two perhaps with `at ZONE`.
 pub fn list_of<'a, D: DataFiles<'a>>(
     words: &'a [u8],
     now: &Option<OffsetDateTime>,
@@ -28,11 +30,48 @@ pub fn list_of<'a, D: DataFiles<'a>>(
     if is_rule_like(words) {
         return Ok(Command::Recurring(occurrences_of(words, now, files)?));
     }
+    if is_in_zone(words) {
+        return Ok(Command::Moments(moments_of(words, now, files)?));
+    }
     let first = date_at(words, 2, now)?;
     keyword_at(words, 3, b"to", Expected::UpTo)?;
     let last = date_at(words, 4, now)?;
     let step = step_of(words)?;
+    ended(words, 8, ())?;
     Ok(Command::Dates(Listing { first, last, step }))
+}
+
+/// Returns whether word 8 is `at`.
+fn is_in_zone(words: &[u8]) -> bool {
+    match word_at(words, 8) {
+        Some(word) => word == b"at".as_slice(),
+        None => false,
+    }
+}
+
+/// Parses `A to B by N UNIT at ZONE`, where A and B are two moments.
+fn moments_of<'a, D: DataFiles<'a>>(
+    words: &'a [u8],
+    now: &Option<OffsetDateTime>,
+    files: &mut D,
+) -> Result<Moments<'a>, UsageError<'a>>
+    ensures { IfOk result (λ moments. IsStep moments.step) }
+{
+    let first = found_at(words, 2, Expected::Target, *now)?;
+    keyword_at(words, 3, b"to", Expected::UpTo)?;
+    let span = span_from(words, &first, now)?;
+    let step = step_of(words)?;
+    let Span::Moments(first, last) = span else {
+        return Err(requirement_at(8, Requirement::TwoMoments));
+    };
+    let zone = zone_at(words, 9, files)?;
+    let policy = Policy::Compatible;
+    Ok(Moments {
+        clock: Clock { zone, policy },
+        first,
+        last,
+        step,
+    })
 }
 
 /// Parses `A to B by RULE`, where A and B are two dates or two moments, perhaps with `at ZONE`.
@@ -61,7 +100,7 @@ fn span_at<'a, D: DataFiles<'a>>(
     }
     keyword_at(words, 7, b"at", Expected::End)?;
     let Span::Moments(first, last) = span else {
-        return Err(usage_error_at(7, Expected::TwoMoments));
+        return Err(requirement_at(7, Requirement::TwoMoments));
     };
     let zone = zone_at(words, 8, files)?;
     Ok(Span::InZone(zone, first, last))
@@ -128,13 +167,10 @@ fn step_of(words: &[u8]) -> Result<Step, UsageError<'static>>
     keyword_at(words, 5, b"by", Expected::By)?;
     let number = number_at(words, 6)?;
     let unit = word_as(words, 7, unit_of, Expected::UnitOfDays)?;
-    let Some(step) = step_in(number, unit) else {
-        return Err(usage_error_at(7, Expected::UnitOfDays));
-    };
-    if !ends_at(words, 8) {
-        return Err(usage_error_at(8, Expected::End));
+    match step_in(number, unit) {
+        Some(step) => Ok(step),
+        None => Err(usage_error_at(7, Expected::UnitOfDays)),
     }
-    Ok(step)
 }
 
 /// Parses the word at an index as a number from 1 to 4294967295.

@@ -1,10 +1,11 @@
 //! The names in the arguments, and their meanings.
 
+use cal_schedule::CalendarUnit;
 use cal_text::{DateForm, MomentForm};
 use cal_zone::Policy;
 use caldate_answers::reading::DateOrder;
 use caldate_answers::reading::spelling::Spelling;
-use caldate_answers::request::{Form, Period, TimeUnit, UnixUnit};
+use caldate_answers::request::{Form, TimeUnit, UnixUnit};
 use caldate_lines::on_invalid::OnInvalid;
 
 /// A form of `--read` that has a name.
@@ -178,11 +179,11 @@ pub(crate) const UNITS: [(&str, TimeUnit); 8] = [
 ];
 
 /// The periods of `start` and `end`.
-pub(crate) const PERIODS: [(&str, Period); 4] = [
-    ("weeks", Period::Week),
-    ("months", Period::Month),
-    ("quarters", Period::Quarter),
-    ("years", Period::Year),
+pub(crate) const PERIODS: [(&str, CalendarUnit); 4] = [
+    ("weeks", CalendarUnit::Week),
+    ("months", CalendarUnit::Month),
+    ("quarters", CalendarUnit::Quarter),
+    ("years", CalendarUnit::Year),
 ];
 
 /// The units to which `start` rounds down, with their minutes.

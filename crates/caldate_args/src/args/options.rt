@@ -4,6 +4,7 @@ ghost use Rattle.std.specs.Prelude.{◌+◌, ◌≤◌, ◌^◌, IfOk};
 use crate::args::formats::reader_of;
 use crate::args::names::{MODES, OPTIONS, OptionName, POLICIES, value_named};
 use crate::args::offset::offset_of;
+use crate::args::requirement::Requirement;
 use crate::args::spelling::parse_i64;
 use crate::args::usage_error::{Expected, UsageError, usage_error_at};
 use crate::args::words::cut;
@@ -245,6 +246,7 @@ pub fn is_option(word: &[u8]) -> bool {
 
 /// Sets the option, or returns the error if the value is invalid. An option without a value ignores
 /// it.
+// A proof costs more the longer a function is, so the options are in three.
 fn with_value<'a, D: DataFiles<'a>>(
     options: Options<'a>,
     option: OptionName,
@@ -254,22 +256,45 @@ fn with_value<'a, D: DataFiles<'a>>(
 ) -> Result<Options<'a>, UsageError<'a>> {
     let mut more = options;
     match option {
-        OptionName::Invalid => more.on_invalid = Some(value_named(value, &MODES).ok_or(invalid)?),
-        OptionName::Field => return with_named(more, value).ok_or(invalid),
-        OptionName::Append => more.append = Some(FieldName::new(value)),
         OptionName::Csv => more.csv = true,
         OptionName::Header => more.header = true,
         OptionName::Scan => more.scan = true,
-        OptionName::Separator => more.separator = Some(byte_of(value).ok_or(invalid)?),
-        OptionName::Skip => more.skip = Some(skip_of(value).ok_or(invalid)?),
-        OptionName::Read => return with_reader(more, value).ok_or(invalid),
-        OptionName::Assume => more.offset = Some(offset_of(value).ok_or(invalid)?),
-        OptionName::AssumeYear => more.year = Some(year_of(value).ok_or(invalid)?),
         OptionName::Zone => more.zone = Some(zone_of(value, invalid, files)?),
-        OptionName::Ambiguous => more.policy = Some(value_named(value, &POLICIES).ok_or(invalid)?),
         OptionName::Holidays => more.workdays = Some(workdays_of(value, invalid, files)?),
+        _ => return with_word(more, option, value).ok_or(invalid),
     }
     Ok(more)
+}
+
+/// Sets an option for fields or lines, or returns `None` if the value is invalid.
+fn with_word<'a>(options: Options<'a>, option: OptionName, value: &'a [u8]) -> Option<Options<'a>> {
+    let mut more = options;
+    match option {
+        OptionName::Field => return with_named(more, value),
+        OptionName::Read => return with_reader(more, value),
+        OptionName::Append => more.append = Some(FieldName::new(value)),
+        OptionName::Separator => more.separator = Some(byte_of(value)?),
+        OptionName::Skip => more.skip = Some(skip_of(value)?),
+        _ => return with_meaning(more, option, value),
+    }
+    Some(more)
+}
+
+/// Sets an option for the meaning of texts, or returns `None` if the value is invalid.
+fn with_meaning<'a>(
+    options: Options<'a>,
+    option: OptionName,
+    value: &'a [u8],
+) -> Option<Options<'a>> {
+    let mut more = options;
+    match option {
+        OptionName::Invalid => more.on_invalid = Some(value_named(value, &MODES)?),
+        OptionName::Assume => more.offset = Some(offset_of(value)?),
+        OptionName::AssumeYear => more.year = Some(year_of(value)?),
+        OptionName::Ambiguous => more.policy = Some(value_named(value, &POLICIES)?),
+        _ => return None,
+    }
+    Some(more)
 }
 
 /// Returns the zone with this name, or the error with the reason why it has none.
@@ -497,44 +522,44 @@ fn has_own(reader: &Reader) -> bool {
 }
 
 /// Returns the option that is missing or excluded, if the others need or exclude it.
-pub fn conflict_in(options: &Options<'_>) -> Option<Expected> {
+pub fn unmet_in(options: &Options<'_>) -> Option<Requirement> {
     if options.scan && options.fields.is_some() {
-        Some(Expected::ScanField)
+        Some(Requirement::ScanField)
     } else if options.scan && options.csv {
-        Some(Expected::ScanCsv)
+        Some(Requirement::ScanCsv)
     } else if options.scan && options.append.is_some() {
-        Some(Expected::ScanAppend)
+        Some(Requirement::ScanAppend)
     } else if options.scan && options.separator.is_some() {
-        Some(Expected::ScanSeparator)
+        Some(Requirement::ScanSeparator)
     } else if options.separator.is_some() && options.fields.is_none() {
-        Some(Expected::Field)
+        Some(Requirement::Field)
     } else if options.csv && options.fields.is_none() {
-        Some(Expected::CsvField)
+        Some(Requirement::CsvField)
     } else if options.append.is_some() && options.fields.is_none() {
-        Some(Expected::AppendField)
+        Some(Requirement::AppendField)
     } else if options.append.is_some() && options.more.as_slice().len() > 0 {
-        Some(Expected::AppendFields)
+        Some(Requirement::AppendFields)
     } else if options.csv && options.separator == Some(b'"') {
-        Some(Expected::CsvSeparator)
+        Some(Requirement::CsvSeparator)
     } else if options.names.any() && !options.header {
-        Some(Expected::Header)
+        Some(Requirement::Header)
     } else {
-        conflict_with_readers(options)
+        unmet_by_readers(options)
     }
 }
 
 /// Returns the option that is missing or excluded for the forms of `--read`, if there is one.
-fn conflict_with_readers(options: &Options<'_>) -> Option<Expected> {
+fn unmet_by_readers(options: &Options<'_>) -> Option<Requirement> {
     if any_yearless(options.readers.as_slice()) && options.year.is_none() {
-        Some(Expected::AssumeYear)
+        Some(Requirement::AssumeYear)
     } else if options.year.is_some() && !any_yearless(options.readers.as_slice()) {
-        Some(Expected::Yearless)
+        Some(Requirement::Yearless)
     } else if options.zone.is_some() {
-        conflict_with_zone(options)
+        unmet_by_zone(options)
     } else if any_local(options.readers.as_slice()) && options.offset.is_none() {
-        Some(Expected::Assume)
+        Some(Requirement::Assume)
     } else if options.offset.is_some() && !any_local(options.readers.as_slice()) {
-        Some(Expected::Local)
+        Some(Requirement::Local)
     } else {
         None
     }
@@ -542,11 +567,11 @@ fn conflict_with_readers(options: &Options<'_>) -> Option<Expected> {
 
 /// Returns the requirement of `--zone` that the options don't meet, if there is one: no `--assume`,
 /// and only forms without an offset.
-fn conflict_with_zone(options: &Options<'_>) -> Option<Expected> {
+fn unmet_by_zone(options: &Options<'_>) -> Option<Requirement> {
     if options.offset.is_some() {
-        Some(Expected::OffsetOrZone)
+        Some(Requirement::OffsetOrZone)
     } else if !any_local(options.readers.as_slice()) || any_own(options.readers.as_slice()) {
-        Some(Expected::LocalOnly)
+        Some(Requirement::LocalOnly)
     } else {
         None
     }

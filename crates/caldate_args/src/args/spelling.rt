@@ -6,8 +6,9 @@ use crate::args::names::{
     COMMANDS, CommandName, PERIODS, ROUNDINGS, UNITS, VERBS, Verb, spells, spells_unit,
     value_named, value_of_unit,
 };
+use cal_schedule::CalendarUnit;
 use cal_time::Weekday;
-use caldate_answers::request::{DayMove, Move, Period, TimeUnit};
+use caldate_answers::request::{DayMove, Move, TimeUnit};
 use std::str;
 
 /// Parses the name of a command that reads no input.
@@ -70,7 +71,7 @@ pub fn weekday_of(word: &[u8]) -> Option<Weekday> {
 }
 
 /// Parses a period. `month`, `MONTHS` and `mon` are the same.
-pub fn period_of(word: &[u8]) -> Option<Period> {
+pub fn period_of(word: &[u8]) -> Option<CalendarUnit> {
     value_of_unit(word, &PERIODS)
 }
 

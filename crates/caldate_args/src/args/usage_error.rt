@@ -1,44 +1,17 @@
 //! Invalid arguments.
 
+use crate::args::requirement::Requirement;
 use crate::data_files::data_error::DataError;
 
 /// An argument that is expected at an index.
-#[derive(Clone, Copy, Debug, PartialEq, Eq)]
+#[derive(Clone, Copy)]
 pub enum Expected {
-    /// Any command, because nothing is given.
-    Something,
-    /// Arguments of at most 4096 bytes.
-    Short,
+    /// What the arguments require together.
+    Requirement(Requirement),
     /// A verb or an option, such as `--field`.
     Start,
     /// A verb, or an option that is not given yet and needs a verb.
     Verb,
-    /// No `--field`, which `--scan` excludes.
-    ScanField,
-    /// No `--csv`, which `--scan` excludes.
-    ScanCsv,
-    /// No `--append`, which `--scan` excludes.
-    ScanAppend,
-    /// No `--separator`, which `--scan` excludes.
-    ScanSeparator,
-    /// `--field`, which `--separator` requires.
-    Field,
-    /// `--field`, which `--csv` requires.
-    CsvField,
-    /// `--field`, which `--append` requires.
-    AppendField,
-    /// A single `--field`, which `--append` requires.
-    AppendFields,
-    /// Fields that overlap.
-    Overlap,
-    /// A request that isn't `keep`, which `--append` requires.
-    AppendKeep,
-    /// `--field`, which `field N` after `until` or `since` requires.
-    OtherField,
-    /// A separator other than a quote, which `--csv` requires.
-    CsvSeparator,
-    /// `--header`, which the name of a field requires.
-    Header,
     /// A mode of `--invalid`, such as `keep`.
     Invalid,
     /// A number from 1 to 65535, two such numbers, or a name.
@@ -51,26 +24,10 @@ pub enum Expected {
     Skip,
     /// A value of `--read`, such as `dmy`.
     Reading,
-    /// `--assume`, which `--read local` requires.
-    Assume,
-    /// `--read local`, which `--assume` requires.
-    Local,
-    /// `--assume-year`, which a format without a year requires.
-    AssumeYear,
-    /// A format without a year, which `--assume-year` requires.
-    Yearless,
-    /// `--zone`, or `at ZONE` and a move, which `--ambiguous` requires.
-    ZoneOption,
-    /// Only one of `--assume` and `--zone`.
-    OffsetOrZone,
-    /// Only forms without an offset, which `--zone` requires.
-    LocalOnly,
     /// A policy of `--ambiguous`, such as `earlier`.
     Policy,
     /// The name of a file of `--holidays` that can be read, and has a date in each line.
     Holidays,
-    /// A number of working days, which `--holidays` requires.
-    WorkdaysOnly,
     /// A form, such as `week`.
     Form,
     /// A number.
@@ -119,14 +76,12 @@ pub enum Expected {
     Rule,
     /// A unit of dates, such as `months`.
     UnitOfDays,
-    /// Two moments, which the zone of a list requires.
-    TwoMoments,
     /// No word.
     End,
 }
 
 /// An error in the arguments: the first invalid or missing word.
-#[derive(Clone, Copy, Debug, PartialEq, Eq)]
+#[derive(Clone, Copy)]
 pub struct UsageError<'a> {
     /// The index of the word, counted from 0. A missing word has the index that it would have.
     pub index: usize,
@@ -143,6 +98,11 @@ pub fn usage_error_at(index: usize, expected: Expected) -> UsageError<'static> {
         expected,
         reason: None,
     }
+}
+
+/// Creates the error for a requirement that the arguments before an index don't meet.
+pub fn requirement_at(index: usize, requirement: Requirement) -> UsageError<'static> {
+    usage_error_at(index, Expected::Requirement(requirement))
 }
 
 impl UsageError<'_> {

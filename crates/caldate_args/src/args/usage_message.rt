@@ -3,7 +3,7 @@ ghost use Rattle.std.specs.Prelude.{ℕ, List, ◌≡◌, ◌+◌, ◌<◌, ◌�
 ghost use Rattle.caldate_lines.specs.Calls.{Writes, write_failure};
 ghost use Rattle.caldate_lines.specs.Outputs.{WritesPage};
 
-use crate::args::messages::{Message, message_for};
+use crate::args::messages::message_for;
 use crate::args::options::is_option;
 use crate::args::usage_error::{Expected, UsageError};
 use crate::args::words::word_at;
@@ -52,22 +52,27 @@ fn push_problem(line: &mut Buffer, arguments: &[u8], usage_error: UsageError<'_>
     requires { length line.old ≤ 9 }
     ensures short { length line.new ≤ 9_500 }
 {
-    let message = message_for(usage_error.expected);
-    if message.noun.is_empty() {
-        line.push(message.error.as_bytes());
+    let message = message_for(usage_error.expected).as_bytes();
+    if let Expected::Requirement(_) = usage_error.expected {
+        line.push(message);
         return;
     }
     match word_at(arguments, usage_error.index) {
         Some(word) => push_on_word(line, message, usage_error, word),
-        None => push_on_missing(line, message, arguments, usage_error.index),
+        None => push_on_missing(
+            line,
+            message,
+            usage_error.expected,
+            arguments,
+            usage_error.index,
+        ),
     }
 }
 
 /// Appends the message on a word: `unknown unit 'fortnights'; expected ..`, `duplicate --field`.
-fn push_on_word(line: &mut Buffer, message: Message, usage_error: UsageError<'_>, word: &[u8])
+fn push_on_word(line: &mut Buffer, message: &[u8], usage_error: UsageError<'_>, word: &[u8])
     requires old { length line.old ≤ 9 }
-    requires error { length message.error.now ≤ 60 }
-    requires words { length message.words.now ≤ 300 }
+    requires message { length message.now ≤ 330 }
     ensures short { length line.new ≤ 9_500 }
 {
     if is_duplicate(usage_error.expected, word) {
@@ -75,10 +80,11 @@ fn push_on_word(line: &mut Buffer, message: Message, usage_error: UsageError<'_>
         line.push(Excerpt::new(word).as_bytes());
         return;
     }
-    line.push(message.error.as_bytes());
+    let (error, words) = error_and_words(message);
+    line.push(error);
     line.push(b" ");
     push_quoted(line, word);
-    line.push(message.words.as_bytes());
+    line.push(words);
     push_rule_error(line, usage_error.expected, word);
     if let Some(error) = usage_error.reason {
         push_data_error(line, error);
@@ -86,22 +92,56 @@ fn push_on_word(line: &mut Buffer, message: Message, usage_error: UsageError<'_>
     push_file_hint(line, usage_error.expected, word);
 }
 
+/// Splits a message before the expected words, which begin with `;`.
+fn error_and_words(message: &[u8]) -> (&[u8], &[u8])
+    ensures { length result.0.now + length result.1.now ≡ length message.now }
+{
+    match index_of(b';', message) {
+        Some(at) => (&message[..at], &message[at..]),
+        None => (message, b""),
+    }
+}
+
 /// Appends the message on a missing word: `missing number after 'add'; expected ..`.
-fn push_on_missing(line: &mut Buffer, message: Message, arguments: &[u8], index: usize)
+fn push_on_missing(
+    line: &mut Buffer,
+    message: &[u8],
+    expected: Expected,
+    arguments: &[u8],
+    index: usize,
+)
     requires old { length line.old ≤ 9 }
-    requires noun { length message.noun.now ≤ 20 }
-    requires words { length message.words.now ≤ 300 }
+    requires message { length message.now ≤ 330 }
     ensures short { length line.new ≤ 9_500 }
 {
+    let (error, words) = error_and_words(message);
     line.push(b"missing ");
-    line.push(message.noun.as_bytes());
+    line.push(noun_of(expected, error));
     push_after_word(line, arguments, index);
-    line.push(message.words.as_bytes());
+    line.push(words);
+}
+
+/// Returns the name of an argument: for most the error without its first word, such as `unit`.
+fn noun_of<'a>(expected: Expected, error: &'a [u8]) -> &'a [u8]
+    ensures { length result.now ≤ length error.now + 8 }
+{
+    match expected {
+        Expected::Verb => b"command".as_slice(),
+        Expected::Column => b"name".as_slice(),
+        Expected::Holidays => b"file".as_slice(),
+        Expected::StartPeriod => b"period".as_slice(),
+        Expected::Zone => b"zone".as_slice(),
+        Expected::Moment => b"argument".as_slice(),
+        _ => match index_of(b' ', error) {
+            Some(at) => &error[at + 1..],
+            None => error,
+        },
+    }
 }
 
 /// Appends the word before an index: ` after 'add'`. Appends nothing for the index 0.
 fn push_after_word(line: &mut Buffer, arguments: &[u8], index: usize)
-    requires { length line.old ≤ 100 }
+    requires { length line.old ≤ 400 }
     ensures short { length line.new ≤ length line.old + 89 }
 {
     if index == 0 {
@@ -148,7 +188,7 @@ fn push_file_hint(line: &mut Buffer, expected: Expected, word: &[u8])
 }
 
 fn is_word_too_many(expected: Expected) -> bool {
-    expected == Expected::End || expected == Expected::In
+    matches!(expected, Expected::End | Expected::In)
 }
 
 /// Returns whether the word has a dot or a slash, and doesn't begin like a date.
@@ -164,5 +204,5 @@ fn is_file_like(word: &[u8]) -> bool {
 
 /// Returns whether the word is a duplicate option.
 fn is_duplicate(expected: Expected, word: &[u8]) -> bool {
-    expected == Expected::Verb && is_option(word)
+    matches!(expected, Expected::Verb) && is_option(word)
 }

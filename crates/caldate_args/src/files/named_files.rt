@@ -7,7 +7,7 @@ ghost use Rattle.caldate_args.specs.Files.{FailsOrKeeps, ReportsFile};
 
 use crate::files::Texts;
 use crate::zones::read_zone_error::{FileError, file_words};
-use crate::zones::zone_source::file_error;
+use crate::zones::zone_source::{file_error, open_any};
 use caldate_lines::excerpt::printable;
 use caldate_lines::output::buffer::Buffer;
 use caldate_lines::output::write_all;
@@ -16,7 +16,6 @@ use caldate_lines::streams::Sink;
 use std::env::{Env, FillError};
 use std::fs::Files;
 use std::io::{self, ErrorKind, Read};
-use std::{fs, str};
 
 /// The maximum length of a name, in bytes.
 const MAX_NAME_BYTES: usize = 4096;
@@ -88,7 +87,7 @@ impl<'a, S: Env + Files, R: Read + Drop, E: Sink + Drop> NamedFiles<'a, S, R, E>
             self.current = Current::Input;
             return;
         }
-        let opened = open_file(self.system, name);
+        let opened = open_any(self.system, name);
         self.go_to(name, opened);
     }
 
@@ -184,18 +183,6 @@ impl<S: Env + Files, R: Read + Drop, E: Sink + Drop> Texts for NamedFiles<'_, S,
             }
             Err(FillError::NotPresent) => false,
         }
-    }
-}
-
-/// Opens a file, or returns the reason why it can't be opened, such as `NotFound`. A name that isn't
-/// UTF-8 is `Failed`.
-pub(crate) fn open_file<S: Files>(system: &S, name: &[u8]) -> Result<S::File, FileError> {
-    let Ok(path) = str::from_utf8(name) else {
-        return Err(FileError::Failed);
-    };
-    match fs::open(system, path) {
-        Ok(file) => Ok(file),
-        Err(error) => Err(file_error(&error)),
     }
 }
 

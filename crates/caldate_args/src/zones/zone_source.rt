@@ -48,20 +48,31 @@ pub(crate) fn open_zone<S: Files>(
 }
 
 /// Opens a regular file, or returns the reason why it can't be opened, such as `NotFound`. Any other
-/// file isn't opened, since a FIFO could wait for ever. A path that isn't UTF-8 is `Failed`.
+/// file isn't opened, since a FIFO could wait for ever.
 pub(crate) fn open_file<S: Files>(system: &S, path: &[u8]) -> Result<S::File, FileError> {
-    let Ok(path) = str::from_utf8(path) else {
-        return Err(FileError::Failed);
-    };
     check_file(system, path)?;
-    match fs::open(system, path) {
+    open_any(system, path)
+}
+
+/// Opens a file of any kind, or returns the reason why it can't be opened. A path that isn't UTF-8
+/// is `Failed`.
+pub(crate) fn open_any<S: Files>(system: &S, path: &[u8]) -> Result<S::File, FileError> {
+    match fs::open(system, utf8_of(path)?) {
         Ok(file) => Ok(file),
         Err(error) => Err(file_error(&error)),
     }
 }
 
+fn utf8_of(path: &[u8]) -> Result<&str, FileError> {
+    match str::from_utf8(path) {
+        Ok(path) => Ok(path),
+        Err(_) => Err(FileError::Failed),
+    }
+}
+
 /// Checks that there is a regular file at a path.
-fn check_file<S: Files>(system: &S, path: &str) -> Result<(), FileError> {
+fn check_file<S: Files>(system: &S, path: &[u8]) -> Result<(), FileError> {
+    let path = utf8_of(path)?;
     match fs::metadata(system, path) {
         Ok(metadata) if metadata.is_file() => Ok(()),
         Ok(metadata) if metadata.is_dir() => Err(FileError::Folder),

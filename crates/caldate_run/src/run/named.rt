@@ -189,8 +189,8 @@ fn with_target<'a>(request: Request<'a>, target: Target<'a>) -> Request<'a>
     ensures { result ≡ with_target target.entry request.entry }
 {
     match request {
-        Request::Until(_, unit) => Request::Until(target, unit),
-        Request::Since(_, unit) => Request::Since(target, unit),
+        Request::Until(own, _, unit) => Request::Until(own, target, unit),
+        Request::Since(own, _, unit) => Request::Since(own, target, unit),
         other => other,
     }
 }

@@ -7,7 +7,7 @@ ghost use Rattle.caldate_answers.specs.Appends.{AppendsAnswer, AppendsSome};
 ghost use Rattle.caldate_answers.specs.Targets.{IsAnswerAt, IsOther, IsReadOther, other_field, target_fields, with_text};
 
 use cal_text::DateOrMoment;
-use caldate_answers::answer::{push_answer, push_between_by, read_with};
+use caldate_answers::answer::{push_answer, push_between_at, read_with};
 use caldate_answers::request::{Filter, Request};
 use caldate_lines::field::Field;
 use caldate_lines::input::field_text::{FieldText, plain_text};
@@ -124,16 +124,17 @@ fn push_count(
     ensures has { result ≡ true → (asked : List ℕ) → AppendsSome
         (IsAnswerBy (with_text filter.now target.now) asked found.now) buffer.old buffer.new }
     ensures none { result ≡ false → (buffer.new ≡ buffer.old) × ((asked : List ℕ)
-        → HasNone (with_text filter.now target.now) asked found.now) }
+        → HasNone (with_text filter.now target.now) asked found.now NoAnswer.None) }
     ensures short { length buffer.new ≤ length buffer.old + longest_answer }
 {
+    let clock = &filter.clock;
     let workdays = &filter.workdays;
     match &filter.request {
-        Request::Until(_, unit) => {
-            push_between_by(buffer, &filter.clock, workdays, *unit, found, target)
+        Request::Until(own, _, unit) => {
+            push_between_at(buffer, own, clock, workdays, *unit, found, target)
         }
-        Request::Since(_, unit) => {
-            push_between_by(buffer, &filter.clock, workdays, *unit, target, found)
+        Request::Since(own, _, unit) => {
+            push_between_at(buffer, own, clock, workdays, *unit, target, found)
         }
         _ => unreachable!(),
     }

@@ -1,7 +1,6 @@
-use Rattle.std.proofs.Common.{Some, Ok, Err, refl}
+use Rattle.std.proofs.Common.{Some, Ok, Err, inl, inr, refl}
 use Rattle.caldate_lines.specs.declared.no_answer.NoAnswer.TheVariants as why
 use Rattle.caldate_answers.specs.Targets.{with_text}
-use Rattle.caldate_answers.proofs.Lacks.{unread}
 use Rattle.caldate_run.proofs.Others.{beside, has_fields}
 use Rattle.caldate_run.proofs.run.other.push_beside.Goals as goal
 
@@ -31,7 +30,7 @@ returns-else-push_count-clause-answered c =
     let none = c.push_count.ensures.none c.if-push_count.false in (
       none.0,
       beside c.args.filter.now c.args.other c.args.text.now asked (Err why.None) (Ok c.in-Ok.target) c.requires.other c.in-Ok.ensures
-          (c.in-Ok-read_with.found, c.in-Ok-read_with.ensures.has, none.1 asked),
+          (inr (c.in-Ok-read_with.found, c.in-Ok-read_with.ensures.has, none.1 asked)),
     )
 
 pub returns-in-Err-read_with-clause-answered : goal.returns-in-Err-read_with-clause-answered
@@ -39,4 +38,4 @@ returns-in-Err-read_with-clause-answered c =
     let filter = c.args.filter.now in
     let asked = c.args.asked.now in
     let why = c.in-Err-read_with.why in
-    (refl, beside filter c.args.other c.args.text.now asked (Err why) (Ok c.in-Ok.target) c.requires.other c.in-Ok.ensures (unread (with_text filter c.in-Ok.target) asked why c.in-Err-read_with.ensures.error))
+    (refl, beside filter c.args.other c.args.text.now asked (Err why) (Ok c.in-Ok.target) c.requires.other c.in-Ok.ensures (inl c.in-Err-read_with.ensures.error))
