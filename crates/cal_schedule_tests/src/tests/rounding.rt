@@ -1,16 +1,16 @@
 //! Rows of the documentation of Java's `RoundingMode` and of Temporal.
 
-use crate::unchecked::round_in_zone;
-use crate::{
+use crate::tests::same;
+use cal_datetime::laws::max_date_time;
+use cal_datetime::{OffsetDateTime, PlainDateTime, with_hms};
+use cal_rounding::unchecked::round_in_zone;
+use cal_rounding::{
     RoundingMode, RoundingUnit, round_date_time, round_duration, round_offset_date_time,
     round_time, round_zoned,
 };
-use cal_datetime::laws::max_date_time;
-use cal_datetime::{OffsetDateTime, PlainDateTime, with_hms};
 use cal_time::{Date, Month, SignedDuration, Time, UtcOffset, Weekday};
 use cal_zone::{LocalType, Rule, Table, Yearly, Zone};
 use cal_zoned::ZonedDateTime;
-use std::fmt::Debug;
 use std::process::Abort;
 
 mod one_answer;
@@ -22,11 +22,6 @@ const MODES: [RoundingMode; 5] = [
     RoundingMode::HalfCeil,
     RoundingMode::HalfEven,
 ];
-
-/// Checks that two values are equal. This function is proved once, and `assert_eq!` at each place.
-fn same<T: Copy + Debug + PartialEq>(rt: &impl Abort, found: T, wanted: T) {
-    assert!(rt; found == wanted, "{found:?} and not {wanted:?}");
-}
 
 fn unit(rt: &impl Abort, minutes: u16) -> RoundingUnit {
     RoundingUnit::new(SignedDuration::minutes(i64::from(minutes))).expect(rt, "no unit")
