@@ -3,7 +3,7 @@ mod DigitReads
 mod PartsReads
 mod FormReads
 mod Parsed
-mod OneAnswer
+pub mod OneAnswer
 pub mod Shapes
 mod Ranges
 mod Lengths

@@ -9,8 +9,6 @@ mod from_numbers;
 mod laws;
 mod numbers;
 pub mod period;
-#[cfg(test)]
-mod tests;
 mod text;
 
 pub use error::{DurationComponent, ParseDurationError};

@@ -18,6 +18,3 @@ pub use in_zone::round_zoned;
 pub use rounding_mode::RoundingMode;
 pub use rounding_unit::RoundingUnit;
 pub use time::round_time;
-
-#[cfg(test)]
-mod tests;

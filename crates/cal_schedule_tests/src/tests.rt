@@ -5,11 +5,13 @@ use cal_time::{Date, Month};
 use std::fmt::Debug;
 use std::process::Abort;
 
+mod durations;
 mod iso_weeks;
 mod months;
 mod one_answer;
 mod periods;
 mod recurrences;
+mod rounding;
 mod rules;
 mod rules_laws;
 mod times_of_day;

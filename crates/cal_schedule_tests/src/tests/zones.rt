@@ -52,7 +52,7 @@ fn zone(rt: &impl Abort, one: Yearly, other: Yearly) -> Zone<'static> {
 }
 
 /// `CET-1CEST,M3.5.0,M10.5.0/3`.
-fn berlin(rt: &impl Abort) -> Zone<'static> {
+pub(super) fn berlin(rt: &impl Abort) -> Zone<'static> {
     zone(
         rt,
         sunday(Month::March, 5, 7_200, kind(7_200, true)),

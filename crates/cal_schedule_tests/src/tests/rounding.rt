@@ -1,16 +1,16 @@
 //! Rows of the documentation of Java's `RoundingMode` and of Temporal.
 
-use crate::unchecked::round_in_zone;
-use crate::{
+use crate::tests::same;
+use crate::tests::zones::berlin;
+use cal_datetime::laws::max_date_time;
+use cal_datetime::{OffsetDateTime, PlainDateTime, with_hms};
+use cal_rounding::unchecked::round_in_zone;
+use cal_rounding::{
     RoundingMode, RoundingUnit, round_date_time, round_duration, round_offset_date_time,
     round_time, round_zoned,
 };
-use cal_datetime::laws::max_date_time;
-use cal_datetime::{OffsetDateTime, PlainDateTime, with_hms};
-use cal_time::{Date, Month, SignedDuration, Time, UtcOffset, Weekday};
-use cal_zone::{LocalType, Rule, Table, Yearly, Zone};
+use cal_time::{Date, Month, SignedDuration, Time, UtcOffset};
 use cal_zoned::ZonedDateTime;
-use std::fmt::Debug;
 use std::process::Abort;
 
 mod one_answer;
@@ -22,11 +22,6 @@ const MODES: [RoundingMode; 5] = [
     RoundingMode::HalfCeil,
     RoundingMode::HalfEven,
 ];
-
-/// Checks that two values are equal. This function is proved once, and `assert_eq!` at each place.
-fn same<T: Copy + Debug + PartialEq>(rt: &impl Abort, found: T, wanted: T) {
-    assert!(rt; found == wanted, "{found:?} and not {wanted:?}");
-}
 
 fn unit(rt: &impl Abort, minutes: u16) -> RoundingUnit {
     RoundingUnit::new(SignedDuration::minutes(i64::from(minutes))).expect(rt, "no unit")
@@ -163,31 +158,6 @@ fn date_times(rt: HostRuntime) {
         round_date_time(max_date_time(), RoundingUnit::HOUR, RoundingMode::Ceil),
         None,
     );
-}
-
-/// Returns the rule of a change at 1:00 UTC on the last Sunday of a month, in Berlin.
-fn last_sunday(month: Month, before: i32, after: i32) -> Yearly {
-    Yearly {
-        month,
-        week: 5,
-        weekday: Weekday::Sunday,
-        time: 3_600 + before.clamp(-93_599, 93_599),
-        kind: LocalType {
-            offset: after,
-            is_daylight: after > before,
-            name_start: 0,
-            name_end: 0,
-        },
-    }
-}
-
-fn berlin(rt: &impl Abort) -> Zone<'static> {
-    let spring = last_sunday(Month::March, 3_600, 7_200);
-    let autumn = last_sunday(Month::October, 7_200, 3_600);
-    let rule = Rule::new(spring, autumn).expect(rt, "no rule");
-    Zone::new(rule.before(), Table::empty(b""), Some(rule))
-        .ok()
-        .expect(rt, "no zone")
 }
 
 /// Returns the date-time on this day of March 2024, at an offset of whole hours.

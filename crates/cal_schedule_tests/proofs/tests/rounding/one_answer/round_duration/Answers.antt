@@ -1,6 +1,6 @@
 use Rattle.cal_time.specs.SignedDuration.{IsDuration}
 use Rattle.cal_rounding.proofs.OneResult.{duration-one}
-use Rattle.cal_rounding.proofs.tests.one_answer.round_duration.Goals as goal
+use Rattle.cal_schedule_tests.proofs.tests.rounding.one_answer.round_duration.Goals as goal
 
 pub returns : goal.returns
 returns c =

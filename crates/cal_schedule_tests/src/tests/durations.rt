@@ -1,6 +1,6 @@
-//! Worked rows, and contracts that allow one result.
+//! Periods and durations in text: worked rows.
 
-use crate::{DurationComponent, ParseDurationError, duration, period};
+use cal_duration::{DurationComponent, ParseDurationError, duration, period};
 use cal_schedule::Period;
 use cal_time::SignedDuration;
 use std::process::Abort;
