@@ -248,7 +248,7 @@ until-one z order m other unit policy r s =
     need-one r s _ stable (need-one r s _ stable (need-one r s _ stable (need-one r s _ stable (need-one r s _ stable (need-one r s _ stable
     (by_unit-one unit (λ u x. (p : Policy) × (policy_number p ≡ policy) × IsExactPeriodWith (IsUntilInZone p u (zoned_in z m) (zoned_in z other)) x) r s
     (λ u. by_policy-one policy (λ p. IsExactPeriodWith (IsUntilInZone p u (zoned_in z m) (zoned_in z other))) r s
-    (λ p. period_with-one r s (λ a b. until_in_zone-one p u (zoned_in z m) (zoned_in z other) a b (local-one z order)))))))))))
+    (λ p. period_with-one r s (λ a b. until_in_zone-one p u (zoned_in z m) (zoned_in z other) a b (local-one z order))))))))))
 
 -- ---- columns
 pub later_seconds-one : (z : Timeline) → InOrder z → (seconds : ℤ) (period : Parts) (p : Policy) (r s : Int64Result) → IsLaterSeconds z seconds period p r → IsLaterSeconds z seconds period p s → r ≡ s

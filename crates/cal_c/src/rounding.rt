@@ -9,9 +9,7 @@ ghost use Rattle.cal_c.specs.Rounding.{mode_number, IsMode, IsPositiveDuration, 
 ghost use Rattle.cal_c.specs.Values.{need◌else◌then◌, day_of, nanoseconds_in, IsDurationPair, IsJulianDay};
 
 use crate::moment::valid_moment;
-use crate::results::{
-    Duration, DurationResult, Moment, MomentResult, PairResult, TimeResult,
-};
+use crate::results::{Duration, DurationResult, Moment, MomentResult, PairResult, TimeResult};
 use crate::status::{
     INVALID_DATE, INVALID_DURATION, INVALID_MOMENT, INVALID_ROUNDING_MODE, INVALID_ROUNDING_UNIT,
     INVALID_TIME, RESULT_OUT_OF_RANGE,
@@ -118,7 +116,11 @@ pub extern "C" fn fots_moment_round(moment: Moment, unit: Duration, mode: u32) -
         (local_and_offset_in moment) result }
 {
     let moment = or_error!(MomentResult, valid_moment(moment), INVALID_MOMENT);
-    let unit = or_error!(MomentResult, valid_rounding_unit(unit), INVALID_ROUNDING_UNIT);
+    let unit = or_error!(
+        MomentResult,
+        valid_rounding_unit(unit),
+        INVALID_ROUNDING_UNIT
+    );
     let mode = or_error!(MomentResult, valid_mode(mode), INVALID_ROUNDING_MODE);
     rounded_moment(moment, unit, mode)
 }
@@ -152,7 +154,11 @@ pub extern "C" fn fots_duration_round(
         (nanoseconds_in duration) result }
 {
     let duration = or_error!(DurationResult, valid_duration(duration), INVALID_DURATION);
-    let unit = or_error!(DurationResult, positive_duration(unit), INVALID_ROUNDING_UNIT);
+    let unit = or_error!(
+        DurationResult,
+        positive_duration(unit),
+        INVALID_ROUNDING_UNIT
+    );
     let mode = or_error!(DurationResult, valid_mode(mode), INVALID_ROUNDING_MODE);
     rounded_duration(duration, unit, mode)
 }

@@ -104,7 +104,11 @@ pub extern "C" fn fots_pair_nth_period(
 fn pair_after(local: PlainDateTime, period: Period, n: i32) -> PairResult
     ensures { IsPairAfter local period n result }
 {
-    let later = or_error!(PairResult, nth_period(local, period, n), RESULT_OUT_OF_RANGE);
+    let later = or_error!(
+        PairResult,
+        nth_period(local, period, n),
+        RESULT_OUT_OF_RANGE
+    );
     PairResult::from_option(Some((later.date(), later.time())))
 }
 
@@ -128,7 +132,12 @@ pub extern "C" fn fots_pair_step_of(
     let start_date = or_error!(NumberResult, valid_date(start_date), INVALID_DATE);
     let start_time = or_error!(NumberResult, valid_time(start_time), INVALID_TIME);
     let period = or_error!(NumberResult, valid_period(period), INVALID_PERIOD);
-    step_in(PlainDateTime::new(start_date, start_time), period, date, time)
+    step_in(
+        PlainDateTime::new(start_date, start_time),
+        period,
+        date,
+        time,
+    )
 }
 
 /// Returns the step that a date and a time are in.

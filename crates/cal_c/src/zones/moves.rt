@@ -85,11 +85,7 @@ fn start_of(zone: &UncheckedZone<'_>, moment: Moment, unit: u32) -> MomentResult
 }
 
 /// Returns the result of the start of a unit.
-fn unit_start(
-    moment: OffsetDateTime,
-    unit: CalendarUnit,
-    zone: &UncheckedZone<'_>,
-) -> MomentResult
+fn unit_start(moment: OffsetDateTime, unit: CalendarUnit, zone: &UncheckedZone<'_>) -> MomentResult
     ensures { InOrder zone.now
         → IsStartOfUnitResult unit (in_zone zone.now moment) result }
 {

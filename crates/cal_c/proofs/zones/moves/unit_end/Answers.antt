@@ -14,9 +14,9 @@ returns-in-None-next_day c = λ order.
     let m = in_zone c.args.zone.now c.args.moment in
     let last = c.in-Some.ensures.value in
     no_end c.args.unit m _ (λ s h.
-        let day = next_day c.args.unit m s c.date.result c.in-Some.value last.0 c.date.ensures.value last.1 h in
-        let next = h.next in
-        c.in-None-next_day.ensures.value (omega (arith, day, next))) c.error-in-None-next_day.ensures
+    let day = next_day c.args.unit m s c.date.result c.in-Some.value last.0 c.date.ensures.value last.1 h in
+    let next = h.next in
+    c.in-None-next_day.ensures.value (omega (arith, day, next))) c.error-in-None-next_day.ensures
 
 pub returns-in-None-day_start : goal.returns-in-None-day_start
 returns-in-None-day_start c = λ order.
@@ -24,8 +24,8 @@ returns-in-None-day_start c = λ order.
     let m = in_zone z c.args.moment in
     let last = c.in-Some.ensures.value in
     no_end c.args.unit m _ (λ s h.
-        let day = next_day c.args.unit m s c.date.result c.in-Some.value last.0 c.date.ensures.value last.1 h in
-        no_start z z _ c.in-Some-next_day.value s refl (c.in-Some-next_day.ensures.value.1 ∙ ap (λ (n : ℕ). n + 1) day) (c.in-None-day_start.ensures order) h.start) c.error-in-None-day_start.ensures
+    let day = next_day c.args.unit m s c.date.result c.in-Some.value last.0 c.date.ensures.value last.1 h in
+    no_start z z _ c.in-Some-next_day.value s refl (c.in-Some-next_day.ensures.value.1 ∙ ap (λ (n : ℕ). n + 1) day) (c.in-None-day_start.ensures order) h.start) c.error-in-None-day_start.ensures
 
 pub returns : goal.returns
 returns c = λ order.
