@@ -120,7 +120,7 @@ const DERIVES: &[(&str, &[&str], &[&str])] = &[
         &["Debug"],
     ),
     ("cal_recurrence", &["ZonedSet", "Occurrences", "CountedZonedSet"], &["Debug"]),
-    ("cal_duration", &["Text"], &["Copy", "Debug"]),
+    ("cal_duration", &["Text"], &["Copy"]),
     ("cal_zone", &["Zone", "UncheckedZone", "Table"], &["Copy", "Debug", "PartialEq", "Eq"]),
     ("cal_c", &["Policy"], &["PartialEq", "Eq", "Hash"]),
     ("cal_zone", &["Gap", "Layout", "Local", "Rule", "Yearly"], &["Debug", "PartialEq", "Eq"]),

@@ -1,6 +1,6 @@
 //! The text of a period.
 ghost use Rattle.std.specs.Prelude.{◌≡◌, ◌+◌, ◌≤◌, ◌++◌, Some, length, [], unsigned_abs};
-ghost use Rattle.std.specs.Fmt.{padded};
+ghost use Rattle.std.specs.Fmt.{debug_str, padded};
 ghost use Rattle.cal_duration.specs.DurationText.{is_negative, is_zero, period_text, time_text};
 ghost use Rattle.cal_duration.specs.PeriodBytes.{HasRoom, capacity};
 ghost use Rattle.cal_time.specs.SignedDuration.{part_text};
@@ -121,6 +121,15 @@ impl fmt::Display for Text {
 
     fn fmt<W: fmt::Write>(&self, f: &mut fmt::Formatter<W>) -> fmt::Result {
         f.pad(self.as_str())
+    }
+}
+
+/// Formats the text in quotation marks.
+impl fmt::Debug for Text {
+    ghost debug_output = { λ text. debug_str text };
+
+    fn fmt<W: fmt::Write>(&self, f: &mut fmt::Formatter<W>) -> fmt::Result {
+        fmt::Debug::fmt(self.as_str(), f)
     }
 }
 
