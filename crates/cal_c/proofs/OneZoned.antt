@@ -3,14 +3,11 @@ use Rattle.std.proofs.Common.{◌≡◌, ◌∙◌, ◌==◌, ℕ, refl, sym, ap
 use Rattle.std.proofs.lemmas.Int.{ints}
 use Rattle.std.specs.Prelude.{if◌then◌else◌, Option, Result, ℤ, Ok, Err}
 use Rattle.cal_time.specs.Date.{IsDate}
-use Rattle.cal_datetime.specs.DateTime.{IsDateTime, date_at, date_time, with_date}
-use Rattle.cal_datetime.specs.OffsetDateTime.{instant}
+use Rattle.cal_datetime.specs.DateTime.{IsDateTime, date_at, date_time}
 use Rattle.cal_schedule.specs.Period.{IsDaysLater, Parts}
 use Rattle.cal_schedule.specs.declared.unit.CalendarUnit.{CalendarUnit}
 use Rattle.cal_schedule.specs.declared.unit.CalendarUnit.TheVariants as units
-use Rattle.cal_zone.specs.Local.{IsLocalOf}
 use Rattle.cal_zone.specs.Timeline.{Timeline, InOrder}
-use Rattle.cal_zone.specs.declared.local.Local.{Local}
 use Rattle.cal_zone.specs.declared.local_time_error.LocalTimeError.{LocalTimeError}
 use Rattle.cal_zone.specs.declared.policy.Policy.{Policy}
 use Rattle.cal_zone.specs.declared.policy.Policy.TheVariants.{Compatible, Earlier, Later, Reject}
@@ -31,7 +28,7 @@ use Rattle.cal_c.specs.Periods.{exact_period_ok, parts_in, IsExactPeriodWith}
 use Rattle.cal_c.specs.Results.{duration_ok}
 use Rattle.cal_c.specs.Schedule.{unit_number}
 use Rattle.cal_c.specs.Values.{need◌else◌then◌, day_of}
-use Rattle.cal_c.specs.Zoned.{seconds_or_error, start_or_error, start_seconds_or_error, zoned_in, zoned_or_error, instant_at, IsDayLengthResult, IsDurationEarlier, IsDurationLater, IsEndOfUnit, IsEndResult, IsFromLocal, IsLaterSeconds, IsLengthOfDate, IsMovedToDate, IsNthPeriodResult, IsPeriodLaterResult, IsStartOfDate, IsStartOfUnit, IsStartOfUnitResult, IsStartResult, IsStartSeconds, IsUntilInZoneResult, IsWithLocal, IsZonedAt, IsZonedWith}
+use Rattle.cal_c.specs.Zoned.{seconds_or_error, start_or_error, start_seconds_or_error, zoned_in, zoned_or_error, instant_at, IsDurationEarlier, IsDurationLater, IsEndOfUnit, IsEndResult, IsFromLocal, IsLaterSeconds, IsLengthOfDate, IsMovedToDate, IsNthPeriodResult, IsPeriodLaterResult, IsStartOfDate, IsStartOfUnit, IsStartOfUnitResult, IsStartSeconds, IsUntilInZoneResult, IsWithLocal, IsZonedAt, IsZonedWith}
 use Rattle.cal_c.specs.Zones.{policy_number}
 use Rattle.cal_c.specs.declared.results.Duration.{Duration}
 use Rattle.cal_c.specs.declared.results.DurationResult.{DurationResult}

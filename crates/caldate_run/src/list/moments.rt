@@ -33,7 +33,7 @@ pub fn list_moments<W: Sink>(moments: &Moments<'_>, writer: &mut W) -> Result<()
     let mut count = 0;
     while let Some(moment) = moment_within(moments, count) {
         count += moments.step.every;
-        if is_later(before, moment) {
+        if is_later(&before, moment) {
             match output.push_line(rfc3339_or_unix_text(moment).as_bytes(), writer) {
                 Ok(()) => before = Some(moment),
                 Err(error) => return Err(error),
@@ -44,11 +44,11 @@ pub fn list_moments<W: Sink>(moments: &Moments<'_>, writer: &mut W) -> Result<()
 }
 
 /// Returns whether the moment is after the one listed before it, if there is one.
-fn is_later(before: Option<OffsetDateTime>, moment: OffsetDateTime) -> bool
-    ensures { result ≡ is_later before moment }
+fn is_later(before: &Option<OffsetDateTime>, moment: OffsetDateTime) -> bool
+    ensures { result ≡ is_later before.now moment }
 {
     match before {
-        Some(before) => before < moment,
+        Some(before) => *before < moment,
         None => true,
     }
 }

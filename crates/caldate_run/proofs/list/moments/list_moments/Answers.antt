@@ -12,8 +12,8 @@ use Rattle.caldate_run.proofs.list.moments.list_moments.Goals as goal
 pub loop-moment-init : goal.loop-moment-init
 loop-moment-init g c = (([], new_output g.W.Sink.contents g.W.Sink.write_gives _ c.new-output.result c.new-output.ensures.buffer c.new-output.ensures.outcome, λ all items are. (items, are, refl)), omega arith)
 
-pub loop-moment-preserved-then-is_later : goal.loop-moment-preserved-then-is_later
-loop-moment-preserved-then-is_later g c =
+pub loop-moment-preserved-in-Ok : goal.loop-moment-preserved-in-Ok
+loop-moment-preserved-in-Ok g c =
     let (given, outputs, follows) = c.loop-moment.invariant.0 in
     let moment = c.in-Some.moment in
     let bytes = c.as_bytes.result.now ++ 10 ∷ [] in
@@ -28,8 +28,8 @@ loop-moment-preserved-then-is_later g c =
       omega (arith, c.in-Some.ensures.near, c.requires.1),
     )
 
-pub loop-moment-preserved-else-is_later : goal.loop-moment-preserved-else-is_later
-loop-moment-preserved-else-is_later g c =
+pub loop-moment-preserved : goal.loop-moment-preserved
+loop-moment-preserved g c =
     let (given, outputs, follows) = c.loop-moment.invariant.0 in
     let late = sym c.is_later.ensures ∙ c.if-is_later.false in (
       (given, outputs, λ all items are. follows all items (skipped c.loop-moment.before c.loop-moment.count c.in-Some.moment items c.in-Some.ensures.step late are)),
