@@ -17,8 +17,9 @@ use cal_time::{ShortText, SignedDuration};
 
 /// Parses an exact duration, such as `PT2H30M0.5S`, `-PT90M` or `PT36H`.
 ///
-/// After the letters PT come hours (H), minutes (M) and seconds (S), at least one of them, as in
-/// [`crate::period::parse`]. Years, months, weeks and days have no exact length and are rejected.
+/// After the letters PT come hours (H), minutes (M) and seconds (S), at least one of them, as in a
+/// [period](super::period::parse). Years, months, weeks and days have no exact length and are
+/// rejected.
 ///
 /// Returns `UnexpectedByte` or `UnexpectedEnd` for any other form, and `OutOfRange` with the first
 /// part that is out of range: the hours, the hours and the minutes, and all parts together fit in a
