@@ -1,6 +1,6 @@
 -- The moments of steps by the clocks of a zone, one after another.
-use Rattle.std.proofs.Common.{◌≡◌, ◌∙◌, ℕ, ◌+◌, ◌*◌, ◌<◌, ◌≤◌, ℤ, Bool, true, false, Option, None, Some, Result, Ok, Err, List, [], ◌∷◌, ap, arith, pos, refl, subst, sym}
-use Rattle.std.specs.Prelude.{◌≤ℤ◌, ◌<ℤ◌, IsOk}
+use Rattle.std.proofs.Common.{◌≡◌, ◌∙◌, ℕ, ◌+◌, ◌*◌, ◌<◌, ◌≤◌, ℤ, Bool, true, Option, None, Some, Result, Ok, Err, List, [], ◌∷◌, ap, arith, pos, refl, subst, sym}
+use Rattle.std.specs.Prelude.{◌<ℤ◌, IsOk}
 use Rattle.std.specs.List.{flat_map}
 use Rattle.std.proofs.lemmas.Bool.{false≢true}
 use Rattle.std.proofs.lemmas.Int.{ints}

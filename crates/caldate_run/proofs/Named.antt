@@ -1,6 +1,5 @@
 -- Runs with names of fields.
-use denote.Ref.{Bor}
-use Rattle.std.proofs.Common.{◌≡◌, ◌⊎◌, ◌<◌, ◌∙◌, ℕ, ℤ, List, Bool, false, true, Option, Some, Result, Ok, Err, inl, inr, length, subst, sym}
+use Rattle.std.proofs.Common.{◌≡◌, ◌⊎◌, ◌<◌, ℕ, List, Bool, false, true, Option, Some, Result, Ok, Err, inl, inr, length, subst, sym}
 use Rattle.std.specs.Prelude.{MatchBool, MatchResult}
 use Rattle.caldate_lines.specs.Ending.{Says}
 use Rattle.caldate_lines.specs.Fields.{overlap}

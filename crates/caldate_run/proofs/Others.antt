@@ -1,13 +1,13 @@
 -- Answers by TEXT in other fields of the line.
-use Rattle.std.proofs.Common.{◌≡◌, ◌∙◌, ℕ, true, List, Option, Some, None, Result, Ok, Err, refl, ap, subst, sym}
+use Rattle.std.proofs.Common.{◌≡◌, ℕ, true, List, Option, Some, None, Result, refl, ap, subst, sym}
 use Rattle.std.specs.Prelude.{MatchOption, is_some, option_and_then, option_map}
 use Rattle.std.proofs.lemmas.Option.{none-some}
 use Rattle.cal_text.specs.declared.any.DateOrMoment.{DateOrMoment}
 use Rattle.caldate_lines.specs.declared.field.Field.{Field}
 use Rattle.caldate_lines.specs.declared.field_numbers.FieldNumbers.{FieldNumbers}
 use Rattle.caldate_lines.specs.declared.no_answer.NoAnswer.{NoAnswer}
-use Rattle.caldate_answers.specs.Answers.{Answer, IsAnswer, IsNotRead, IsReadAs}
-use Rattle.caldate_answers.specs.Targets.{IsAnswerAt, IsAnswerBeside, IsAnswerWith, IsOther, IsReadOther, fields_beside, other_field, target_fields, with_text}
+use Rattle.caldate_answers.specs.Answers.{Answer, IsAnswer}
+use Rattle.caldate_answers.specs.Targets.{IsAnswerAt, IsAnswerBeside, IsAnswerWith, IsOther, fields_beside, other_field, target_fields}
 use Rattle.caldate_answers.specs.declared.request.Filter.{Filter}
 use Rattle.caldate_answers.specs.declared.request.Request.{Request}
 

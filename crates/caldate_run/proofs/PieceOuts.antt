@@ -1,5 +1,5 @@
 -- What goes out for the pieces of a line.
-use Rattle.std.proofs.Common.{◌≡◌, ◌∙◌, ℕ, ◌+◌, ◌-◌, ◌<◌, ◌≤◌, Bool, true, false, cond, List, [], ◌∷◌, ◌++◌, length, take, drop, get_or, Option, Some, None, Result, Ok, Err, refl, sym, ap, arith, subst, append_assoc, length-append}
+use Rattle.std.proofs.Common.{◌≡◌, ◌∙◌, ℕ, ◌+◌, ◌-◌, ◌<◌, ◌≤◌, Bool, true, false, cond, List, [], ◌∷◌, ◌++◌, length, take, drop, get_or, Option, Some, None, Ok, refl, sym, ap, arith, subst, append_assoc, length-append}
 use Rattle.std.specs.Prelude.{◌&&◌, is_some, nat_le, option_map, unwrap_or}
 use Rattle.std.specs.Result.{result_err}
 use Rattle.std.proofs.Math.Seq.{drop-append_seam, take-append_seam}
@@ -8,19 +8,19 @@ use Rattle.std.proofs.lemmas.Bool.Decides.{nat_tests}
 use Rattle.std.proofs.lemmas.List.{append-nil, take_all, take_rest}
 use Rattle.cal_schedule.specs.Workdays.{WorkWeek}
 use Rattle.cal_text.specs.declared.any.DateOrMoment.{DateOrMoment}
-use Rattle.caldate_lines.specs.Fields.{Cut, cut_of, end_of_field, in_place_of, in_quotes, as_field, field_text, is_quote, is_quoted, unquoted, with_numbers}
+use Rattle.caldate_lines.specs.Fields.{Cut, cut_of, end_of_field, in_quotes, as_field, field_text, is_quote, unquoted, with_numbers}
 use Rattle.caldate_lines.proofs.NewFields.{plain_words}
 use Rattle.caldate_lines.specs.declared.field.Field.{Field}
 use Rattle.caldate_lines.specs.declared.no_answer.NoAnswer.{NoAnswer}
 use Rattle.caldate_lines.specs.declared.several_fields.RankedField.{RankedField}
 use Rattle.caldate_answers.specs.Answers.{Answer, IsAnswer, IsAnswerTo, keeps}
-use Rattle.caldate_answers.specs.Appends.{AppendsAnswer, AppendsSome}
+use Rattle.caldate_answers.specs.Appends.{AppendsAnswer}
 use Rattle.caldate_answers.specs.Targets.{other_field}
 use Rattle.caldate_answers.specs.declared.request.Filter.{Filter}
 use Rattle.caldate_answers.specs.declared.request.Clock.{Clock}
 use Rattle.caldate_answers.specs.declared.request.Request.{Request}
 use Rattle.caldate_answers.specs.declared.request.Request.TheVariants.{To, Print, Move, MoveAt, Until, Since, At, Keep}
-use Rattle.caldate_run.specs.Pieces.{IsAnswered, IsAnswerToAsked, IsOutOf, IsPieceOut, Piece, Pieces, closed_words, earlier, field_end, field_piece, fields_from, fields_in, is_quoted_in, joined, later_cut, new_field, own_field, pieces_in, pieces_of, placed, replaced, single, whole}
+use Rattle.caldate_run.specs.Pieces.{IsAnswered, IsOutOf, IsPieceOut, Piece, Pieces, closed_words, earlier, field_end, field_piece, fields_from, fields_in, is_quoted_in, joined, later_cut, new_field, own_field, pieces_in, pieces_of, placed, replaced, single, whole}
 use Rattle.caldate_run.specs.Runs.{AppendsOut}
 use Rattle.caldate_run.proofs.Others.{by_itself}
 use Rattle.caldate_run.proofs.Replied.{weaker}

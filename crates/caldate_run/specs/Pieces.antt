@@ -1,5 +1,5 @@
 -- A line in pieces. What goes out are the same pieces, with each text replaced by its answer.
-use Rattle.std.specs.Prelude.{◌≡◌, ℕ, ◌+◌, ◌||◌, nat_le, nat_lt, Bool, true, false, List, [], ◌∷◌, ◌++◌, length, drop, MatchOption, Option, Some, None, option_map, is_some, Ok, Err, if◌then◌else◌}
+use Rattle.std.specs.Prelude.{◌≡◌, ℕ, ◌+◌, ◌||◌, nat_le, nat_lt, Bool, false, List, [], ◌∷◌, ◌++◌, length, drop, MatchOption, Option, Some, None, option_map, is_some, Ok, Err, if◌then◌else◌}
 use Rattle.std.specs.Option.{option_map_or}
 use Rattle.std.specs.Result.{result_err}
 use Rattle.caldate_lines.specs.Fields.{Cut, cut_of, end_of_field, field_text, in_place_of, is_quoted, selected_text, with_numbers}

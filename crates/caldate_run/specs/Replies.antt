@@ -1,5 +1,5 @@
 -- The reply to a line, and the count of the lines without an answer.
-use Rattle.std.specs.Prelude.{◌≡◌, ℕ, ◌+◌, ◌-◌, ◌==◌, ◌&&◌, not, nat_lt, Bool, true, false, List, [], ◌++◌, length, MatchBool, MatchOption, IsSomeAnd, Option, Some, None, is_some, Ok, Err, if◌then◌else◌}
+use Rattle.std.specs.Prelude.{◌≡◌, ℕ, ◌+◌, ◌==◌, ◌&&◌, not, nat_lt, Bool, true, false, List, [], ◌++◌, length, MatchBool, MatchOption, IsSomeAnd, Option, Some, None, is_some, Ok, Err, if◌then◌else◌}
 use Rattle.std.specs.Result.{result_err}
 use Rattle.caldate_lines.specs.Fields.{text_without, with_last}
 use Rattle.caldate_lines.specs.Lines.{end_of, text_of}

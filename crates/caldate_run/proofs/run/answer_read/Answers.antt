@@ -1,5 +1,5 @@
-use Rattle.std.proofs.Common.{◌≡◌, ◌-◌, ◌∙◌, ℕ, List, ap, drop, length, subst, sym, rules}
-use Rattle.caldate_run.specs.Runs.{Advances, HasRun}
+use Rattle.std.proofs.Common.{◌∙◌, ℕ, List, subst, sym}
+use Rattle.caldate_run.specs.Runs.{HasRun}
 use Rattle.caldate_run.proofs.Advances.{failed_early, front_dropped, if_err, on_ok, passes_on}
 use Rattle.caldate_run.proofs.run.answer_read.Goals as goal
 

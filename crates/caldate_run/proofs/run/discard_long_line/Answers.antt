@@ -1,4 +1,4 @@
-use Rattle.std.proofs.Common.{◌≡◌, ◌-◌, ◌++◌, ◌∙◌, List, ℕ, [], length, drop, take, take-append-drop, ap, arith, refl, subst, sym, true}
+use Rattle.std.proofs.Common.{◌-◌, ◌++◌, ◌∙◌, List, ℕ, length, drop, take, take-append-drop, ap, arith, refl, subst, sym, true}
 use Rattle.std.proofs.lemmas.List.{append-nil}
 use Rattle.caldate_lines.specs.RunStates.{NoEnd, RunState, passed, quoting_in, quoting_of}
 use Rattle.caldate_lines.specs.declared.progress.Progress.{Progress}

@@ -1,6 +1,5 @@
 use Rattle.std.proofs.Common.{Some, Ok, Err, inl, inr, refl}
 use Rattle.caldate_lines.specs.declared.no_answer.NoAnswer.TheVariants as why
-use Rattle.caldate_answers.specs.Targets.{with_text}
 use Rattle.caldate_run.proofs.Others.{beside, has_fields}
 use Rattle.caldate_run.proofs.run.other.push_beside.Goals as goal
 

@@ -1,4 +1,4 @@
-use Rattle.std.proofs.Common.{◌≡◌, ◌∙◌, ℕ, Option, ap, refl, subst, sym}
+use Rattle.std.proofs.Common.{◌∙◌, ℕ, Option, ap, subst, sym}
 use Rattle.std.specs.Prelude.{◌&&◌}
 use Rattle.caldate_lines.specs.declared.no_answer.NoAnswer.{NoAnswer}
 use Rattle.caldate_run.specs.Pieces.{IsOutOf, fields_from}

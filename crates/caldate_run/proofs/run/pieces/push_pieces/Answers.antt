@@ -1,7 +1,4 @@
-use Rattle.std.proofs.Common.{◌≡◌, ◌∙◌, ap, arith, length, sym, subst}
-use Rattle.std.proofs.lemmas.List.{nil_from_length}
-use Rattle.caldate_run.specs.Pieces.{fields_in}
-use Rattle.caldate_run.proofs.PieceOuts.{fields_answered, new_pieces, several_in, single_answered, whole_pieces}
+use Rattle.caldate_run.proofs.PieceOuts.{new_pieces, single_answered, whole_pieces}
 use Rattle.caldate_run.proofs.run.pieces.push_pieces.Goals as goal
 
 pub returns-in-Some-clause-answered : goal.returns-in-Some-clause-answered

@@ -1,5 +1,5 @@
-use Rattle.std.proofs.Common.{◌≡◌, ◌∙◌, ◌++◌, [], Option, List, ℕ, None, Err, ap, false, refl, subst, sym}
-use Rattle.std.specs.Prelude.{is_some, unwrap_or}
+use Rattle.std.proofs.Common.{◌≡◌, ◌∙◌, Option, List, ℕ, None, Err, ap, false, refl, subst, sym}
+use Rattle.std.specs.Prelude.{is_some}
 use Rattle.caldate_lines.specs.declared.no_answer.NoAnswer.TheVariants as why
 use Rattle.caldate_run.specs.Pieces.{IsAnswerToAsked, replaced}
 use Rattle.caldate_run.proofs.run.pieces.push_unquoted.Goals as goal

@@ -1,4 +1,4 @@
-use Rattle.std.proofs.Common.{◌≡◌, ◌∙◌, ◌++◌, [], Some, None, Ok, ap, append_assoc, false, refl, subst, sym, true}
+use Rattle.std.proofs.Common.{◌≡◌, ◌∙◌, ◌++◌, Some, None, Ok, ap, append_assoc, false, refl, subst, sym, true}
 use Rattle.std.proofs.lemmas.List.{append-nil}
 use Rattle.caldate_answers.specs.Answers.{IsAnswer}
 use Rattle.caldate_answers.specs.Appends.{AppendsAnswer, AppendsSome}

@@ -1,6 +1,3 @@
-use Rattle.std.proofs.Common.{◌≡◌, Some, false, subst}
-use Rattle.std.specs.Prelude.{IfSome}
-use Rattle.caldate_lines.specs.declared.field.Field.{Field}
 use Rattle.caldate_run.proofs.PieceOuts.{whole_answered}
 use Rattle.caldate_run.proofs.run.reply.push_simple.Goals as goal
 
