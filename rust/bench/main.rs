@@ -5,6 +5,7 @@
 
 mod calls;
 mod formats;
+mod periods;
 mod zones;
 
 use std::hint::black_box;
@@ -237,5 +238,6 @@ fn main() {
     #[cfg(has_time)]
     calls::compare_calls(&numbers);
     formats::compare_formats();
+    periods::compare_periods(&numbers);
     zones::compare_zones();
 }

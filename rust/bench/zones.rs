@@ -1,7 +1,7 @@
-//! The offset at an instant and the instants of a local time, over random instants of Europe/Berlin.
+//! The offset at an instant, the instants of a local time, and moves, over random instants of Europe/Berlin.
 
 use super::{compare, over, Draw, DRAWN};
-use fotsevindre::Zone;
+use fotsevindre::{OffsetDateTime, Period, Policy, Zone, ZonedDateTime};
 
 const FILE: &str = "/usr/share/zoneinfo/Europe/Berlin";
 
@@ -27,8 +27,7 @@ pub fn compare_zones() {
 fn compare_period(zone: &Zone, name: &str, first: i64, last: i64) {
     let mut draw = Draw(0x9e37_79b9_7f4a_7c15);
     let instants: Vec<_> = (0..DRAWN).map(|_| first + draw.below((last - first) as u64) as i64).collect();
-    let readings: Vec<_> =
-        instants.iter().map(|instant| fotsevindre::OffsetDateTime::from_unix_timestamp(*instant).unwrap().local()).collect();
+    let readings: Vec<_> = instants.iter().map(|instant| OffsetDateTime::from_unix_timestamp(*instant).unwrap().local()).collect();
     #[cfg(has_chrono_tz)]
     use chrono::TimeZone;
     #[cfg(has_chrono_tz)]
@@ -47,6 +46,19 @@ fn compare_period(zone: &Zone, name: &str, first: i64, last: i64) {
             ("ours", over(&readings, |reading| zone.resolve(*reading))),
             #[cfg(has_chrono_tz)]
             ("chrono-tz", over(&chronos, |reading| chrono_tz::Europe::Berlin.offset_from_local_datetime(reading))),
+        ],
+    );
+    let month = Period::from_months(1);
+    let moved: Vec<_> =
+        readings.iter().map(|reading| ZonedDateTime::from_local(*reading, zone, Policy::Compatible).unwrap()).collect();
+    compare(
+        &format!("moves {name}"),
+        vec![
+            ("resolve", over(&readings, |reading| zone.resolve(*reading))),
+            ("from_local", over(&readings, |reading| ZonedDateTime::from_local(*reading, zone, Policy::Compatible))),
+            ("a month later", over(&moved, |value| value.checked_add_period(month, Policy::Compatible))),
+            ("the next day", over(&moved, |value| value.moved_to(value.date().next_day().unwrap(), Policy::Compatible))),
+            ("start_of_day", over(&moved, |value| value.start_of_day())),
         ],
     );
 }

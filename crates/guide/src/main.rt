@@ -27,27 +27,26 @@ mod zones;
 use std::io;
 
 fn main(rt: HostRuntime) -> io::Result<()> {
-    let rt = &rt;
-    constructors::show(rt)?;
-    errors::show(rt)?;
-    components::show(rt)?;
-    arithmetic::show(rt)?;
-    datetimes::show(rt)?;
-    walking::show(rt)?;
-    order::show(rt)?;
-    printing::show(rt)?;
-    generic::show(rt)?;
-    clauses::show(rt)?;
-    callers::show(rt)?;
-    days::show(rt)?;
-    texts::show(rt)?;
-    times::show(rt)?;
-    bills::show(rt)?;
-    recurrences::show(rt)?;
-    counts::show(rt)?;
-    sets::show(rt)?;
-    zones::show(rt)?;
-    periods::show(rt)?;
-    rounding::show(rt)?;
+    constructors::show(&rt)?;
+    errors::show(&rt)?;
+    components::show(&rt)?;
+    arithmetic::show(&rt)?;
+    datetimes::show(&rt)?;
+    walking::show(&rt)?;
+    order::show(&rt)?;
+    printing::show(&rt)?;
+    generic::show(&rt)?;
+    clauses::show(&rt)?;
+    callers::show(&rt)?;
+    days::show(&rt)?;
+    texts::show(&rt)?;
+    times::show(&rt)?;
+    bills::show(&rt)?;
+    recurrences::show(&rt)?;
+    counts::show(&rt)?;
+    sets::show(&rt)?;
+    zones::show(&rt)?;
+    periods::show(&rt)?;
+    rounding::show(&rt)?;
     arrival::main(rt)
 }
