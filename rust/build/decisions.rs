@@ -110,6 +110,8 @@ const HIDDEN: &[(&str, &[&str])] = &[
     ("", &["nth_next_occurrence", "nth_prev_occurrence", "month_number_and_day", "clamped_date_in_month"]),
     ("", &["stays", "in_order", "not_past", "one_more", "months_round_trip"]),
     ("", &["scan_positive_number", "push_interval", "push_end", "push_list", "push_week_start"]),
+    ("", &["date_from_numbers", "time_from_numbers", "plain_from_numbers", "moment_from_numbers"]),
+    ("", &["push_fraction", "scan_more_decimals"]),
     ("", &["has_room", "values_of", "put", "split"]),
 ];
 

@@ -3,7 +3,7 @@ pub mod YearTexts
 pub mod Ranges
 pub mod DayForms
 pub mod NumberTexts
-mod PrintedDecimals
+pub mod PrintedDecimals
 mod PrintedMoments
 mod UnixReads
 pub mod Results
@@ -27,10 +27,10 @@ pub mod Positions
 pub mod Parts
 pub mod Forms
 pub mod DigitForms
-mod Errors
-mod Parsed
-mod PlainReads
-mod OffsetDateTimeReads
+pub mod Errors
+pub mod Parsed
+pub mod PlainReads
+pub mod OffsetDateTimeReads
 mod AnyForms
 mod AnyPositions
 mod UnixPrinted

@@ -12,10 +12,10 @@ use Rattle.cal_text.proofs.Positions.{IsShapeOf}
 use Rattle.cal_text.proofs.ReadDigits.{printed}
 
 -- ---- a sign
-abbrev IsSign : List ℕ → Bool → Type 0
+abbrev pub IsSign : List ℕ → Bool → Type 0
 IsSign bytes b = bytes ≡ sign_byte b ∷ []
 
-sign : IsForm Sign IsSign always
+pub sign : IsForm Sign IsSign always
 sign = retold IsSign (either 43 0 (led 43 nothing) (led 45 nothing)) into there here
   where
     into : Unit {0} ⊎ Unit {0} → Bool

@@ -8,9 +8,10 @@ ghost use Rattle.cal_text.specs.Rfc3339Form.{HasFractionBefore};
 use crate::scanner::Scanner;
 use cal_time::ShortText;
 
-/// Appends a fraction of a second, given in nanoseconds, or nothing for 0.
+/// Appends a fraction of a second, given in nanoseconds, or nothing for 0. For 250 million it
+/// appends `.25`.
 #[tactic(auto, using(cal_time::proofs::TextLengths::text_lengths))]
-pub(crate) fn push_fraction(text: &mut ShortText, nanosecond: u32)
+pub fn push_fraction(text: &mut ShortText, nanosecond: u32)
     requires room { HasRoom 10 text.old }
     requires range { nanosecond < 1_000_000_000 }
     ensures appended { text.new ≡ text.old ++ fraction_text nanosecond }
@@ -65,7 +66,7 @@ pub(crate) fn scan_positive_decimals(scanner: &mut Scanner, unit: u32, more: usi
 
 /// Parses up to `most` further digits of a fraction and adds them to `nanosecond`. The first digit
 /// counts `unit` nanoseconds, each later digit a tenth of the digit before it.
-fn scan_more_decimals(scanner: &mut Scanner, nanosecond: u32, unit: u32, most: usize) -> u32
+pub fn scan_more_decimals(scanner: &mut Scanner, nanosecond: u32, unit: u32, most: usize) -> u32
     requires { nanosecond + 10 * unit ≤ 1_000_000_000 }
     ensures scans { (f : Shape) → unmatched_bytes (UpTo most f) scanner.old.rest.now
         ≡ unmatched_bytes f scanner.new.rest.now }

@@ -14,8 +14,8 @@ use crate::scanner::Scanner;
 use cal_datetime::OffsetDateTime;
 
 mod form;
-mod from_numbers;
-mod numbers;
+pub(crate) mod from_numbers;
+pub(crate) mod numbers;
 
 /// Parses a moment, such as `2024-02-29 23:59:59.25 +01:00` or `2024-W09-4T9:05Z`.
 ///

@@ -13,7 +13,7 @@ use crate::rfc3339::from_numbers::moment_from_numbers;
 use crate::scanner::Scanner;
 use cal_datetime::OffsetDateTime;
 
-mod form;
+pub(crate) mod form;
 mod from_numbers;
 mod numbers;
 mod text;

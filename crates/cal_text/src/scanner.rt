@@ -92,7 +92,7 @@ impl Scanner<'_> {
 
     /// Parses two digits at once, or one after the other if that fails, which finds the wrong byte.
     #[inline(always)]
-    pub(crate) fn two_digits(&mut self) -> Option<u32>
+    pub fn two_digits(&mut self) -> Option<u32>
         ensures scans { Scans (Digits 2) self.old.rest.now self.new.rest.now result }
         ensures value { IfSome result (λ n. ParsesDigits self.old.rest.now self.new.rest.now 2 n) }
         ensures range { IfSome result (λ n. n < 100) }
@@ -110,7 +110,7 @@ impl Scanner<'_> {
 
     /// Parses three digits, and returns their number.
     #[inline(always)]
-    pub(crate) fn three_digits(&mut self) -> Option<u32>
+    pub fn three_digits(&mut self) -> Option<u32>
         ensures scans { Scans (Digits 3) self.old.rest.now self.new.rest.now result }
         ensures value { IfSome result (λ n. ParsesDigits self.old.rest.now self.new.rest.now 3 n) }
         ensures range { IfSome result (λ n. n < 1000) }
@@ -122,7 +122,7 @@ impl Scanner<'_> {
 
     /// Parses four digits, and returns their number.
     #[inline(always)]
-    pub(crate) fn four_digits(&mut self) -> Option<u32>
+    pub fn four_digits(&mut self) -> Option<u32>
         ensures scans { Scans (Digits 4) self.old.rest.now self.new.rest.now result }
         ensures value { IfSome result (λ n. ParsesDigits self.old.rest.now self.new.rest.now 4 n) }
         ensures range { IfSome result (λ n. n < 10000) }

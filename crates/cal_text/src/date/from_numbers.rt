@@ -12,11 +12,12 @@ use crate::date_numbers::DateNumbers;
 use cal_time::error::ComponentRange;
 use cal_time::{Cycle, Date, Month, Weekday};
 
-/// Returns the date with the numbers of the form, or the error of the first component out of range.
+/// Returns the date with the numbers of a text, or the error of the first component out of range.
+/// `Calendar(2024, 2, 29)`, `Ordinal(2024, 60)` and `Week(2024, 9, 4)` are the same date.
 // Inlined, so that the caller has the result in registers: in memory it is written by parts, and the
 // processor waits before it reads them as one number.
 #[inline(always)]
-pub(crate) fn date_from_numbers(form: DateNumbers) -> Result<Date, ComponentRange>
+pub fn date_from_numbers(form: DateNumbers) -> Result<Date, ComponentRange>
     requires { DigitsFit form }
     ensures every { (n : ℕ) → IsDate n → IsOnDay form n → result ≡ Ok n }
     ensures value { IfOk result (λ n. IsDate n × IsOnDay form n) }

@@ -47,9 +47,10 @@ fn scan_whole_date(scanner: &mut Scanner) -> Option<DateNumbers>
     Some(form)
 }
 
-/// Parses a year, a hyphen, and then a week and a weekday, a month and a day, or an ordinal.
+/// Parses the numbers of a date: a year, a hyphen, and then a week and a weekday, a month and a day,
+/// or an ordinal.
 #[inline(always)]
-pub(crate) fn scan_date(scanner: &mut Scanner) -> Option<DateNumbers>
+pub fn scan_date(scanner: &mut Scanner) -> Option<DateNumbers>
     ensures scans { Scans Date scanner.old.rest.now scanner.new.rest.now result }
     ensures value { IfSome result (λ form.
         GoesPast (λ bytes. HasForm bytes form) scanner.old.rest.now scanner.new.rest.now) }

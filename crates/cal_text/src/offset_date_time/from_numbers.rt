@@ -12,10 +12,9 @@ use crate::plain::from_numbers::plain_from_numbers;
 use cal_datetime::OffsetDateTime;
 use cal_time::error::ComponentRange;
 
-/// Returns the moment with these numbers, or the error of the first component out of range.
-pub(super) fn moment_from_numbers(
-    numbers: OffsetDateTimeNumbers,
-) -> Result<OffsetDateTime, ComponentRange>
+/// Returns the moment with the numbers of a text, or the error of the first component out of range:
+/// of the local date-time, then of the offset.
+pub fn moment_from_numbers(numbers: OffsetDateTimeNumbers) -> Result<OffsetDateTime, ComponentRange>
     requires { DigitsFit numbers.local.date × (numbers.local.time.nanosecond < 1_000_000_000) }
     ensures every { (m : LocalAndOffset) → IsOffsetDateTimeOf numbers m → result ≡ Ok m }
     ensures value { IfOk result (IsOffsetDateTimeOf numbers) }

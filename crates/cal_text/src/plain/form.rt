@@ -19,8 +19,8 @@ pub(super) fn scan_whole_plain(scanner: &mut Scanner) -> Option<PlainNumbers>
     Some(numbers)
 }
 
-/// Parses a date, a separator and a time of day.
-pub(crate) fn scan_plain(scanner: &mut Scanner) -> Option<PlainNumbers>
+/// Parses the numbers of a date-time: a date, a separator and a time of day.
+pub fn scan_plain(scanner: &mut Scanner) -> Option<PlainNumbers>
     ensures scans { Scans Plain scanner.old.rest.now scanner.new.rest.now result }
     ensures value { IfSome result (λ p.
         GoesPast (λ bytes. HasPlainForm bytes p) scanner.old.rest.now scanner.new.rest.now) }

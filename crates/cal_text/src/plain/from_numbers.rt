@@ -11,8 +11,9 @@ use crate::time::from_numbers::time_from_numbers;
 use cal_datetime::PlainDateTime;
 use cal_time::error::ComponentRange;
 
-/// Returns the date-time with these numbers, or the error of the first component out of range.
-pub(crate) fn plain_from_numbers(numbers: PlainNumbers) -> Result<PlainDateTime, ComponentRange>
+/// Returns the date-time with the numbers of a text, or the error of the first component out of
+/// range: of the date, then of the time of day.
+pub fn plain_from_numbers(numbers: PlainNumbers) -> Result<PlainDateTime, ComponentRange>
     requires { DigitsFit numbers.date × (numbers.time.nanosecond < 1_000_000_000) }
     ensures every { (p : ℤ) → IsPlainOf numbers p → result ≡ Ok p }
     ensures value { IfOk result (IsPlainOf numbers) }

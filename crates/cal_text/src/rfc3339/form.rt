@@ -33,9 +33,10 @@ pub(super) fn scan_numbers(scanner: &mut Scanner) -> Option<Numbers>
     })
 }
 
-/// Parses the byte between the date and the time.
+/// Parses the byte between a date and a time of day: `T`, `t` or a space. Returns `None` if another
+/// byte or the end comes next.
 #[inline(always)]
-pub(crate) fn scan_separator(scanner: &mut Scanner) -> Option<()>
+pub fn scan_separator(scanner: &mut Scanner) -> Option<()>
     ensures scans { Scans Separator scanner.old.rest.now scanner.new.rest.now result }
     ensures value { IfSome result (λ _.
         (b : ℕ) × IsSeparator b × (scanner.old.rest.now ≡ b ∷ scanner.new.rest.now)) }

@@ -8,8 +8,9 @@ use crate::time::numbers::TimeNumbers;
 use cal_time::Time;
 use cal_time::error::ComponentRange;
 
-/// Returns the time of day with these numbers, or the error of the first component out of range.
-pub(crate) fn time_from_numbers(numbers: TimeNumbers) -> Result<Time, ComponentRange>
+/// Returns the time of day with the numbers of a text, or the error of the first component out of
+/// range: `hour`, `minute` or `second`.
+pub fn time_from_numbers(numbers: TimeNumbers) -> Result<Time, ComponentRange>
     requires { numbers.nanosecond < 1_000_000_000 }
     ensures every { (t : ℕ) → IsTimeOf numbers t → result ≡ Ok t }
     ensures value { IfOk result (IsTimeOf numbers) }
