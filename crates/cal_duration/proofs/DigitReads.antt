@@ -10,7 +10,8 @@ use Rattle.cal_text.proofs.DigitParts.{is_digit, counted-each}
 use Rattle.cal_text.proofs.Parts.{BeginsOutside}
 use Rattle.cal_text.proofs.ReadDigits.{value-of}
 use Rattle.cal_text.proofs.Stops.{unmatched_bytes-most, unmatched_bytes-more, unmatched_bytes-branch_in}
-use Rattle.cal_duration.specs.Form.{IsNumber, DecimalsRead}
+use Rattle.cal_duration.specs.Form.{IsNumber}
+use Rattle.cal_duration.specs.PartsRead.{DecimalsRead}
 use Rattle.cal_duration.specs.DurationShape.{AnyNumber}
 
 -- ---- no digit comes next

@@ -1,4 +1,4 @@
-mod Levels
+pub mod Levels
 mod DigitReads
 mod PartsReads
 mod FormReads
@@ -7,5 +7,4 @@ pub mod OneAnswer
 pub mod Shapes
 mod Ranges
 mod Lengths
-mod PrintedDecimals
 mod Printed

@@ -3,7 +3,8 @@ use Rattle.std.proofs.Common.{◌≡◌, ℕ, suc, ◌+◌, ◌-◌, ◌<◌, �
 use Rattle.std.specs.Prelude.{true, false, Option, IfSome, IfNone, is_some}
 use Rattle.std.proofs.lemmas.List.{append_assoc, append-nil, length-append, length-drop, drop_more, set_at}
 use Rattle.cal_text.specs.Shape.{Shape, Branch, Branches, UpTo, unmatched_bytes, GoesPast}
-use Rattle.cal_duration.specs.Form.{IsNumber, IsPart, AreParts, PartsRead, IsSecondsEnd, DecimalsRead}
+use Rattle.cal_duration.specs.Form.{IsNumber, IsPart, IsSecondsEnd}
+use Rattle.cal_duration.specs.PartsRead.{AreParts, DecimalsRead, PartsRead}
 use Rattle.cal_duration.specs.DurationShape.{After}
 
 -- The parser has seen i letters. It went past parts with the numbers `done`, and past the digits of

@@ -12,7 +12,7 @@ use Rattle.cal_time.proofs.Decimals.{decimals-few}
 use Rattle.cal_schedule.specs.Period.{Parts, IsOneSign, IsNotNegative}
 use Rattle.cal_text.specs.Rfc3339.{fraction_text}
 use Rattle.cal_duration.proofs.Lengths.{not_below_zero}
-use Rattle.cal_duration.proofs.PrintedDecimals.{decimals-digits, decimals-nanoseconds}
+use Rattle.cal_text.proofs.PrintedDecimals.{decimals-digits, decimals-nanoseconds}
 use Rattle.cal_duration.specs.declared.numbers.TimeNumbers.{TimeNumbers}
 use Rattle.cal_duration.specs.declared.numbers.Numbers.{Numbers}
 use Rattle.cal_duration.specs.DurationText.{seconds_text, clock_text, time_text, duration_text, date_text, period_text, is_zero, is_negative}

@@ -74,10 +74,10 @@ seconds_end =
     ]
 
 -- ---- the last parts: seconds, and days
-abbrev IsShortSeconds : ℕ → List ℕ → ℕ × ℕ → Type 0
+abbrev pub IsShortSeconds : ℕ → List ℕ → ℕ × ℕ → Type 0
 IsShortSeconds more bytes v = ((bytes ≡ []) × (v ≡ (0, 0))) ⊎ IsThen (IsShort more) IsSecondsEnd bytes v
 
-seconds_level : (more : ℕ) → Level more SecondsEnd IsSecondsEnd (IsShortSeconds more) always
+pub seconds_level : (more : ℕ) → Level more SecondsEnd IsSecondsEnd (IsShortSeconds more) always
 seconds_level more = record { form = seconds_end; into = into; there = there; here = here }
   where
     Choice : Type 0
@@ -95,7 +95,7 @@ seconds_level more = record { form = seconds_end; into = into; there = there; he
     here bytes v (inl none) = (inr tt, none.0, sym none.1)
     here bytes v (inr h) = (inl v, h, refl)
 
-days_level : (more : ℕ) → Level more (Byte 68) (IsLed 68 IsNothing) (IsShortPart more 68) always
+pub days_level : (more : ℕ) → Level more (Byte 68) (IsLed 68 IsNothing) (IsShortPart more 68) always
 days_level more = record { form = led 68 nothing; into = into; there = there; here = here }
   where
     Choice : Type 0
@@ -114,13 +114,13 @@ days_level more = record { form = led 68 nothing; into = into; there = there; he
     here bytes n (inr (digits, is, e)) = (inl (n, tt), record { front = digits; back = 68 ∷ []; first = is; second = ([], refl, refl); bytes_are = e }, refl)
 
 -- ---- dates and times
-abbrev IsShortClock : ℕ → List ℕ → ℕ × (ℕ × (ℕ × ℕ)) → Type 0
+abbrev pub IsShortClock : ℕ → List ℕ → ℕ × (ℕ × (ℕ × ℕ)) → Type 0
 IsShortClock more = IsThen (IsShortPart more 72) (IsThen (IsShortPart more 77) (IsShortSeconds more))
 
-abbrev IsShortDate : ℕ → List ℕ → ℕ × (ℕ × (ℕ × ℕ)) → Type 0
+abbrev pub IsShortDate : ℕ → List ℕ → ℕ × (ℕ × (ℕ × ℕ)) → Type 0
 IsShortDate more = IsThen (IsShortPart more 89) (IsThen (IsShortPart more 77) (IsThen (IsShortPart more 87) (IsShortPart more 68)))
 
-abbrev Four : Type 0
+abbrev pub Four : Type 0
 Four = ℕ × (ℕ × (ℕ × ℕ))
 
 abbrev clock_of : Four → TimeNumbers
@@ -227,13 +227,13 @@ short_date more bytes m few h =
     }
 
 -- ---- the whole, with short numbers
-abbrev SomeClock : ℕ → List ℕ → Four → Type 0
+abbrev pub SomeClock : ℕ → List ℕ → Four → Type 0
 SomeClock more = IsSome (IsShortClock more)
 
-abbrev IsShortBody : ℕ → List ℕ → Four ⊎ (Four × (Four ⊎ Unit {0})) → Type 0
+abbrev pub IsShortBody : ℕ → List ℕ → Four ⊎ (Four × (Four ⊎ Unit {0})) → Type 0
 IsShortBody more = IsEither (IsLed 84 (SomeClock more)) (IsThen (IsSome (IsShortDate more)) (IsEither (IsLed 84 (SomeClock more)) IsNothing))
 
-abbrev RawBody : Type 0
+abbrev pub RawBody : Type 0
 RawBody = Four ⊎ (Four × (Four ⊎ Unit {0}))
 
 abbrev Raw : Type 0 → Type 0
@@ -274,22 +274,22 @@ from_raw IsRaw f Has into shapes there here = record {
       sym r.2 ∙ ap into ((shapes (length bytes)).one bytes r.0 s.0 r.1 s.1) ∙ s.2;
 }
 
-body_date : RawBody → DateNumbers
+pub body_date : RawBody → DateNumbers
 body_date (inl c) = no_date
 body_date (inr b) = date_of b.0
 
-or_no_time : Four ⊎ Unit {0} → TimeNumbers
+pub or_no_time : Four ⊎ Unit {0} → TimeNumbers
 or_no_time (inl c) = clock_of c
 or_no_time (inr u) = no_time
 
-body_time : RawBody → TimeNumbers
+pub body_time : RawBody → TimeNumbers
 body_time (inl c) = clock_of c
 body_time (inr b) = or_no_time b.1
 
 numbers_of : Bool → DateNumbers → TimeNumbers → Numbers
 numbers_of is_negative d t = record { is_negative = is_negative; date = d; time = t }
 
-no_dates : HasDate [] no_date
+pub no_dates : HasDate [] no_date
 no_dates = record { years = []; months = []; weeks = []; days = []; are_years = inl (refl, refl); are_months = inl (refl, refl); are_weeks = inl (refl, refl); are_days = inl (refl, refl); bytes_are = refl }
 
 some_time : (more : ℕ) (bytes : List ℕ) (c : Four) → SomeClock more bytes c → HasTime bytes (clock_of c)
@@ -300,7 +300,7 @@ unfolding or_no_time
 time_or_none more bytes (inl c) h = inr (h.0, some_time more h.0 c h.1, h.2)
 time_or_none more bytes (inr u) h = inl (h, refl)
 
-body_there : (more : ℕ) (bytes : List ℕ) (b : RawBody) → IsShortBody more bytes b → HasBody bytes (body_date b) (body_time b)
+pub body_there : (more : ℕ) (bytes : List ℕ) (b : RawBody) → IsShortBody more bytes b → HasBody bytes (body_date b) (body_time b)
 unfolding body_date body_time
 body_there more bytes (inl c) h = record {
   date = [];
@@ -319,7 +319,7 @@ body_there more bytes (inr b) h = record {
   bytes_are = h.bytes_are;
 }
 
-abbrev RawBodyOf : ℕ → List ℕ → DateNumbers → TimeNumbers → Type 0
+abbrev pub RawBodyOf : ℕ → List ℕ → DateNumbers → TimeNumbers → Type 0
 RawBodyOf more bytes d t = (b : RawBody) × IsShortBody more bytes b × (body_date b ≡ d) × (body_time b ≡ t)
 
 part_none : (letter : ℕ) (bytes : List ℕ) (n : ℕ) → IsPart letter bytes n → length bytes ≤ 0 → n ≡ 0
@@ -349,7 +349,7 @@ short_time_or_none more bytes t few (inl none) = (inr tt, none.0, sym none.1)
 short_time_or_none more bytes t few (inr (rest, h, e)) =
     let c = short_time more rest t (omega (arith, few, ap length e)) h in (inl c.0, (rest, c.1, e), c.2)
 
-body_here : (more : ℕ) (bytes : List ℕ) (d : DateNumbers) (t : TimeNumbers) → length bytes ≤ more → HasBody bytes d t → RawBodyOf more bytes d t
+pub body_here : (more : ℕ) (bytes : List ℕ) (d : DateNumbers) (t : TimeNumbers) → length bytes ≤ more → HasBody bytes d t → RawBodyOf more bytes d t
 unfolding body_date body_time
 body_here more bytes d t few h = at h.date h.has_date h.bytes_are
   where

@@ -1,6 +1,6 @@
 -- The form of a duration in text: numbers with letters (ISO 8601-1, duration by its components;
 -- ISO 8601-2 for the sign and for weeks beside other parts). The numbers need not be in range.
-use Rattle.std.specs.Prelude.{◌≡◌, ◌⊎◌, ℕ, ◌-◌, ◌<◌, ◌≤◌, ◌^◌, min, Bool, List, [], ◌∷◌, ◌++◌, codes, length, Option, MatchOption, if◌then◌else◌}
+use Rattle.std.specs.Prelude.{◌≡◌, ◌⊎◌, ℕ, ◌-◌, ◌<◌, ◌≤◌, ◌^◌, min, Bool, List, [], ◌∷◌, ◌++◌, codes, length, if◌then◌else◌}
 use Rattle.std.specs.Str.Parse.{AllDigits, digits_value}
 use Rattle.cal_text.specs.Rfc3339Form.{nanoseconds_of}
 use Rattle.cal_duration.specs.declared.numbers.DateNumbers.{DateNumbers}
@@ -41,6 +41,10 @@ pub record HasSeconds (bytes : List ℕ) (s n : ℕ) : Type 0 where
   pub is_number : IsNumber digits s
   pub is_fraction : IsFraction fraction n
   pub bytes_are : bytes ≡ digits ++ (fraction ++ 83 ∷ [])
+
+-- The bytes after the digits of the seconds.
+abbrev pub IsSecondsEnd : List ℕ → ℕ → Type 0
+IsSecondsEnd bytes n = (fraction : List ℕ) × IsFraction fraction n × (bytes ≡ fraction ++ 83 ∷ [])
 
 -- The seconds may be left out.
 abbrev pub AreSeconds : List ℕ → ℕ → ℕ → Type 0
@@ -108,31 +112,3 @@ pub record HasDurationForm (bytes : List ℕ) (m : Numbers) : Type 0 where
   pub rest : List ℕ
   pub has_time : HasTime rest m.time
   pub bytes_are : bytes ≡ sign_text m.is_negative ++ 80 ∷ 84 ∷ rest
-
--- ---- what a parser went past
--- Parts in the order of their letters.
-abbrev pub AreParts : List ℕ → List ℕ → List ℕ → Type 0
-AreParts [] bytes numbers = (bytes ≡ []) × (numbers ≡ [])
-AreParts (l ∷ ls) bytes [] = ⊥
-AreParts (l ∷ ls) bytes (n ∷ ns) = (part : List ℕ) × (rest : List ℕ) × IsPart l part n × AreParts ls rest ns × (bytes ≡ part ++ rest)
-
--- The parser went past parts with these numbers, and past a further number if there is one.
-pub record PartsRead (letters numbers : List ℕ) (further : Option ℕ) (old new : List ℕ) : Type 0 where
-  pub parts : List ℕ
-  pub digits : List ℕ
-  pub are : AreParts letters parts numbers
-  pub number : MatchOption further (digits ≡ []) (λ n. IsNumber digits n)
-  pub bytes_are : old ≡ parts ++ (digits ++ new)
-
--- The bytes after the digits of the seconds.
-abbrev pub IsSecondsEnd : List ℕ → ℕ → Type 0
-IsSecondsEnd bytes n = (fraction : List ℕ) × IsFraction fraction n × (bytes ≡ fraction ++ 83 ∷ [])
-
--- The parser went past the digits of a fraction of n nanoseconds and the letter S.
-pub record DecimalsRead (old new : List ℕ) (n : ℕ) : Type 0 where
-  pub digits : List ℕ
-  pub all : AllDigits 10 digits
-  pub some : 0 < length digits
-  pub few : length digits ≤ 9
-  pub value : n ≡ nanoseconds_of digits
-  pub bytes_are : old ≡ digits ++ 83 ∷ new

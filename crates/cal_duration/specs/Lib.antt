@@ -1,4 +1,5 @@
 pub mod Form
+pub mod PartsRead
 pub mod DurationShape
 pub mod ErrorText
 pub mod Parsing

@@ -1,14 +1,15 @@
 //! Numbers of any length, and fractions of a second.
-ghost use Rattle.std.specs.Prelude.{◌≡◌, ◌+◌, ◌*◌, ◌≤◌, IfNone, IfSome, length};
-ghost use Rattle.cal_text.specs.Shape.{GoesPast, ParsesDecimals, Scans, Shape, UpTo, unmatched_bytes};
+ghost use Rattle.std.specs.Prelude.{◌≡◌, ◌≤◌, IfNone, IfSome, length};
+ghost use Rattle.cal_text.specs.Shape.{GoesPast, Scans};
 ghost use Rattle.cal_duration.specs.DurationShape.{Decimals, ScansNumber, ScansOptional};
-ghost use Rattle.cal_duration.specs.Form.{DecimalsRead, IsNumber};
+ghost use Rattle.cal_duration.specs.Form.{IsNumber};
+ghost use Rattle.cal_duration.specs.PartsRead.{DecimalsRead};
 
-use cal_text::Scanner;
+use cal_text::{Scanner, scan_more_decimals};
 
 /// Parses a number of one digit or more. Returns 18446744073709551615 for a number above it, and
 /// `None`, without parsing anything, if no digit comes next.
-pub(crate) fn scan_number(scanner: &mut Scanner) -> Option<u64>
+pub fn scan_number(scanner: &mut Scanner) -> Option<u64>
     ensures scans { ScansNumber scanner.old.rest.now scanner.new.rest.now result }
     ensures optional { ScansOptional scanner.old.rest.now scanner.new.rest.now result }
     ensures value { IfSome result (λ n.
@@ -33,27 +34,4 @@ pub(crate) fn scan_decimals(scanner: &mut Scanner) -> Option<u32>
     let nanoseconds = scan_more_decimals(scanner, first * 100_000_000, 10_000_000, 8);
     scanner.byte(b'S')?;
     Some(nanoseconds)
-}
-
-/// Parses up to `most` further digits of a fraction and adds them to `nanoseconds`. The first digit
-/// counts `unit` nanoseconds, each later digit a tenth of the digit before it.
-fn scan_more_decimals(scanner: &mut Scanner, nanoseconds: u32, unit: u32, most: usize) -> u32
-    requires { nanoseconds + 10 * unit ≤ 1_000_000_000 }
-    ensures scans { (f : Shape) → unmatched_bytes (UpTo most f) scanner.old.rest.now
-        ≡ unmatched_bytes f scanner.new.rest.now }
-    ensures value { ParsesDecimals scanner.old.rest.now scanner.new.rest.now most unit nanoseconds
-        result }
-{
-    let mut nanoseconds = nanoseconds;
-    let mut unit = unit;
-    for _ in 0..most {
-        match scanner.digit() {
-            Some(digit) => {
-                nanoseconds += digit * unit;
-                unit /= 10;
-            }
-            None => return nanoseconds,
-        }
-    }
-    nanoseconds
 }

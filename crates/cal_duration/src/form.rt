@@ -1,8 +1,9 @@
 //! Parsing the numbers of a duration.
 ghost use Rattle.std.specs.Prelude.{◌≡◌, ◌≤◌, ◌++◌, ℕ, List, IfSome, length, replicate};
 ghost use Rattle.cal_text.specs.Shape.{GoesPast, Scans};
-ghost use Rattle.cal_duration.specs.Form.{HasBody, HasDurationForm, HasPeriodForm, HasTime, HasTimeOrNone, IsNumber, IsSecondsEnd, PartsRead};
-ghost use Rattle.cal_duration.specs.DurationShape.{Body, Date, Duration, OrTime, Period, ScansAfter, ScansToEnd, SecondsEnd, Time};
+ghost use Rattle.cal_duration.specs.Form.{HasBody, HasDurationForm, HasPeriodForm, HasTime, HasTimeOrNone, IsNumber, IsSecondsEnd};
+ghost use Rattle.cal_duration.specs.PartsRead.{PartsRead};
+ghost use Rattle.cal_duration.specs.DurationShape.{Body, Date, Duration, OrTime, Period, ScansAfter, ScansPart, ScansToEnd, SecondsEnd, Time};
 
 use crate::digits::{scan_decimals, scan_number};
 use crate::numbers::{DateNumbers, Numbers, TimeNumbers};
@@ -16,6 +17,7 @@ pub(crate) fn scan_period(scanner: &mut Scanner) -> Option<Numbers>
     let sign = scanner.byte(b'-');
     scanner.byte(b'P')?;
     let (date, time) = scan_body(scanner)?;
+    scanner.end()?;
     Some(Numbers {
         is_negative: sign.is_some(),
         date,
@@ -32,6 +34,7 @@ pub(crate) fn scan_duration(scanner: &mut Scanner) -> Option<Numbers>
     scanner.byte(b'P')?;
     scanner.byte(b'T')?;
     let time = scan_time(scanner)?;
+    scanner.end()?;
     Some(Numbers {
         is_negative: sign.is_some(),
         date: DateNumbers::NONE,
@@ -39,10 +42,11 @@ pub(crate) fn scan_duration(scanner: &mut Scanner) -> Option<Numbers>
     })
 }
 
-/// Parses what follows the letter P: a date, a time or both.
-fn scan_body(scanner: &mut Scanner) -> Option<(DateNumbers, TimeNumbers)>
-    ensures scans { ScansToEnd Body scanner.old.rest.now scanner.new.rest.now result }
-    ensures value { IfSome result (λ m. HasBody scanner.old.rest.now m.0 m.1) }
+/// Parses what follows the letter P of a period: a date, a time or both.
+pub fn scan_body(scanner: &mut Scanner) -> Option<(DateNumbers, TimeNumbers)>
+    ensures scans { ScansPart Body scanner.old.rest.now scanner.new.rest.now result }
+    ensures value { IfSome result (λ m.
+        GoesPast (λ bytes. HasBody bytes m.0 m.1) scanner.old.rest.now scanner.new.rest.now) }
 {
     match scanner.byte(b'T') {
         Some(()) => {
@@ -55,9 +59,10 @@ fn scan_body(scanner: &mut Scanner) -> Option<(DateNumbers, TimeNumbers)>
 
 /// Parses years, months, weeks and days, at least one of them, and a time, which may be left out.
 fn scan_date(scanner: &mut Scanner) -> Option<(DateNumbers, TimeNumbers)>
-    ensures scans { ScansToEnd (λ more f. Date more (OrTime more f))
+    ensures scans { ScansPart (λ more f. Date more (OrTime more f))
         scanner.old.rest.now scanner.new.rest.now result }
-    ensures value { IfSome result (λ m. HasBody scanner.old.rest.now m.0 m.1) }
+    ensures value { IfSome result (λ m.
+        GoesPast (λ bytes. HasBody bytes m.0 m.1) scanner.old.rest.now scanner.new.rest.now) }
 {
     let first = scan_number(scanner)?;
     let mut numbers = [0; 3];
@@ -74,37 +79,35 @@ fn scan_date(scanner: &mut Scanner) -> Option<(DateNumbers, TimeNumbers)>
     }
 }
 
-/// Parses T and a time, or the end.
+/// Parses T and a time. Without the T it parses nothing.
 fn scan_or_time(scanner: &mut Scanner) -> Option<TimeNumbers>
-    ensures scans { ScansToEnd OrTime scanner.old.rest.now scanner.new.rest.now result }
-    ensures value { IfSome result (HasTimeOrNone scanner.old.rest.now) }
+    ensures scans { ScansPart OrTime scanner.old.rest.now scanner.new.rest.now result }
+    ensures value { IfSome result (λ t.
+        GoesPast (λ bytes. HasTimeOrNone bytes t) scanner.old.rest.now scanner.new.rest.now) }
 {
     match scanner.byte(b'T') {
-        Some(()) => scan_time(scanner),
-        None => {
-            scanner.end()?;
-            Some(TimeNumbers::new([0; 2], 0, 0))
+        Some(()) => {
+            let time = scan_time(scanner)?;
+            Some(time)
         }
+        None => Some(TimeNumbers::new([0; 2], 0, 0)),
     }
 }
 
 /// Parses hours, minutes and seconds, at least one of them.
 fn scan_time(scanner: &mut Scanner) -> Option<TimeNumbers>
-    ensures scans { ScansToEnd Time scanner.old.rest.now scanner.new.rest.now result }
-    ensures value { IfSome result (HasTime scanner.old.rest.now) }
+    ensures scans { ScansPart Time scanner.old.rest.now scanner.new.rest.now result }
+    ensures value { IfSome result (λ t.
+        GoesPast (λ bytes. HasTime bytes t) scanner.old.rest.now scanner.new.rest.now) }
 {
     let first = scan_number(scanner)?;
     let mut numbers = [0; 2];
     match scan_parts(scanner, first, b"HM", &mut numbers) {
         Some(seconds) => {
             let nanoseconds = scan_seconds_end(scanner)?;
-            scanner.end()?;
             Some(TimeNumbers::new(numbers, seconds, nanoseconds))
         }
-        None => {
-            scanner.end()?;
-            Some(TimeNumbers::new(numbers, 0, 0))
-        }
+        None => Some(TimeNumbers::new(numbers, 0, 0)),
     }
 }
 

@@ -15,8 +15,8 @@ const NANOSECONDS_PER_MINUTE: u128 = 60_000_000_000;
 
 const NANOSECONDS_PER_SECOND: u128 = 1_000_000_000;
 
-/// Returns the period with these numbers, or the first part that is out of range.
-pub(crate) fn period_from_numbers(numbers: Numbers) -> Result<Period, DurationComponent>
+/// Returns the period with the numbers of a text, or the first part that is out of range.
+pub fn period_from_numbers(numbers: Numbers) -> Result<Period, DurationComponent>
     ensures value { IfOk result (IsPeriodOf numbers) }
     ensures error { IfErr result (IsPeriodError numbers) }
 {

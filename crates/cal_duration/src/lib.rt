@@ -11,4 +11,8 @@ mod numbers;
 pub mod period;
 mod text;
 
+pub use digits::scan_number;
 pub use error::{DurationComponent, ParseDurationError};
+pub use form::scan_body;
+pub use from_numbers::period_from_numbers;
+pub use numbers::{DateNumbers, Numbers, TimeNumbers};

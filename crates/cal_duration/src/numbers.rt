@@ -2,12 +2,16 @@
 ghost use Rattle.std.specs.Prelude.{◌≡◌, ◌∷◌, []};
 
 /// The calendar parts of a duration in text. They need not be in range.
-#[derive(Clone, Copy)]
-pub(crate) struct DateNumbers {
-    pub(crate) years: u64,
-    pub(crate) months: u64,
-    pub(crate) weeks: u64,
-    pub(crate) days: u64,
+#[derive(Clone, Copy, Debug)]
+pub struct DateNumbers {
+    /// The years.
+    pub years: u64,
+    /// The months past the years.
+    pub months: u64,
+    /// The weeks.
+    pub weeks: u64,
+    /// The days past the weeks.
+    pub days: u64,
 }
 
 impl DateNumbers {
@@ -36,12 +40,16 @@ impl DateNumbers {
 
 /// The exact parts of a duration in text. They need not be in range, except the nanoseconds past
 /// the seconds.
-#[derive(Clone, Copy)]
-pub(crate) struct TimeNumbers {
-    pub(crate) hours: u64,
-    pub(crate) minutes: u64,
-    pub(crate) seconds: u64,
-    pub(crate) nanoseconds: u32,
+#[derive(Clone, Copy, Debug)]
+pub struct TimeNumbers {
+    /// The hours.
+    pub hours: u64,
+    /// The minutes past the hours.
+    pub minutes: u64,
+    /// The seconds past the minutes.
+    pub seconds: u64,
+    /// The nanoseconds past the seconds.
+    pub nanoseconds: u32,
 }
 
 impl TimeNumbers {
@@ -62,9 +70,12 @@ impl TimeNumbers {
 }
 
 /// All parts of a duration in text, and its sign.
-#[derive(Clone, Copy)]
-pub(crate) struct Numbers {
-    pub(crate) is_negative: bool,
-    pub(crate) date: DateNumbers,
-    pub(crate) time: TimeNumbers,
+#[derive(Clone, Copy, Debug)]
+pub struct Numbers {
+    /// `true` for a minus sign.
+    pub is_negative: bool,
+    /// The calendar parts.
+    pub date: DateNumbers,
+    /// The exact parts.
+    pub time: TimeNumbers,
 }

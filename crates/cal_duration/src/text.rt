@@ -2,10 +2,10 @@
 ghost use Rattle.std.specs.Prelude.{◌≡◌, ◌+◌, ◌*◌, ◌<◌, ◌≤◌, ◌++◌, length};
 ghost use Rattle.cal_time.specs.ShortText.{HasRoom};
 ghost use Rattle.cal_time.specs.SignedDuration.{part_text, second};
-ghost use Rattle.cal_text.specs.Rfc3339.{fraction_text};
 ghost use Rattle.cal_duration.specs.DurationText.{clock_text, seconds_text};
 ghost use Rattle.cal_duration.specs.Form.{sign_text};
 
+use cal_text::push_fraction;
 use cal_time::ShortText;
 
 /// Returns the hours, the minutes and the seconds of a magnitude of whole seconds and nanoseconds.
@@ -50,21 +50,6 @@ fn push_seconds(text: &mut ShortText, seconds: u64, nanoseconds: u32)
     text.push_number(seconds);
     push_fraction(text, nanoseconds);
     text.push("S");
-}
-
-/// Appends a fraction of a second, given in nanoseconds, or nothing for 0.
-#[tactic(auto, using(cal_time::proofs::TextLengths::text_lengths))]
-fn push_fraction(text: &mut ShortText, nanoseconds: u32)
-    requires room { HasRoom 10 text.old }
-    requires range { nanoseconds < 1_000_000_000 }
-    ensures appended { text.new ≡ text.old ++ fraction_text nanoseconds }
-    ensures max_length { length text.new ≤ length text.old + 10 }
-{
-    if nanoseconds == 0 {
-        return;
-    }
-    text.push(".");
-    text.push_decimals(nanoseconds);
 }
 
 /// Returns a minus sign if something is negative, else nothing.
