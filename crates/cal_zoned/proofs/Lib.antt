@@ -1,4 +1,5 @@
 pub mod Instants
+pub mod NextItems
 pub mod Firsts
 pub mod OneResult
 pub mod Periods

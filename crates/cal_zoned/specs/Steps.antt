@@ -47,7 +47,7 @@ IsNextStep s r = IsNthLater s.start s.period (pos s.next) r
 -- one is out of range.
 abbrev pub YieldsStep : Series → Option ℤ → Series → Type 0
 YieldsStep old None new = (old.next < end_of_steps → (r : ℤ) → IsDateTime r → ¬ IsNextStep old r) × (new ≡ old)
-YieldsStep old (Some there) new = IsDateTime there × IsNextStep old there × (new ≡ series old.start old.period (old.next + 1))
+YieldsStep old (Some there) new = (old.next < end_of_steps) × IsDateTime there × IsNextStep old there × (new ≡ series old.start old.period (old.next + 1))
 
 -- The steps in a zone from the one with the number `next` on.
 pub record ZonedSeries : Type 0 where
@@ -64,7 +64,7 @@ abbrev pub IsNextResult : ZonedSeries → Result InZone LocalTimeError → Type 
 IsNextResult s r = IsNthPeriodLater s.policy s.start s.period (pos s.next) r
 
 -- The call returns the next result and goes past it, or returns `None` if no step is left or the
--- next one is out of range.
+-- next one is out of range, which is never an item.
 abbrev pub YieldsResult : ZonedSeries → Option (Result InZone LocalTimeError) → ZonedSeries → Type 0
 YieldsResult old None new = (old.next < end_of_steps → IsNextResult old (Err OutOfRange)) × (new ≡ old)
-YieldsResult old (Some r) new = IsNextResult old r × (new ≡ zoned_series old.start old.period old.policy (old.next + 1))
+YieldsResult old (Some r) new = (old.next < end_of_steps) × ¬ (r ≡ Err OutOfRange) × IsNextResult old r × (new ≡ zoned_series old.start old.period old.policy (old.next + 1))

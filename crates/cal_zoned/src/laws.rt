@@ -6,12 +6,13 @@ ghost use Rattle.cal_zone.specs.declared.policy.Policy.{Policy};
 ghost use Rattle.cal_zoned.specs.Day.{IsStart};
 ghost use Rattle.cal_zoned.specs.Moves.{IsMovedTo, IsNextStart, IsStartOf};
 ghost use Rattle.cal_zoned.specs.Period.{IsNthPeriodLater, IsPeriodLater};
-ghost use Rattle.cal_zoned.specs.Steps.{IsLastStep};
+ghost use Rattle.cal_zoned.specs.Steps.{series, zoned_series, IsLastStep, Series, YieldsResult, YieldsStep, ZonedSeries};
 ghost use Rattle.cal_zoned.specs.Until.{IsPeriodUntil, IsUntilInZone};
 ghost use Rattle.cal_schedule.specs.Period.{Parts};
 ghost use Rattle.cal_zoned.specs.Resolved.{IsKept, IsResolved};
 ghost use Rattle.cal_zoned.specs.Zoned.{at_instant, instant_in, InZone};
 
+use crate::steps::{END, step};
 use crate::{ZonedDateTime, checked_add_period, period_until};
 use cal_datetime::PlainDateTime;
 use cal_schedule::{CalendarUnit, Period, date_after, nth_date};
@@ -112,6 +113,29 @@ pub fn one_last_step(start: PlainDateTime, period: Period, reading: PlainDateTim
         → m ≡ n }
 {
     let _ = (start, period, reading);
+}
+
+/// Proves that an iterator over steps has one next item.
+pub fn one_next_step(start: PlainDateTime, period: Period, next: u32)
+    ensures { (a b : Option ℤ) (s t : Series)
+        → YieldsStep (series start period next) a s → YieldsStep (series start period next) b t
+        → (a ≡ b) × (s ≡ t) }
+{
+    if next < END {
+        let _ = step(start, period, next);
+    }
+}
+
+/// Proves that an iterator over steps in a zone has one next item.
+pub fn one_next_result(start: &ZonedDateTime<'_>, period: Period, policy: Policy, next: u32)
+    ensures { (a b : Option (Result InZone LocalTimeError)) (s t : ZonedSeries)
+        → YieldsResult (zoned_series start.now period policy next) a s
+        → YieldsResult (zoned_series start.now period policy next) b t
+        → (a ≡ b) × (s ≡ t) }
+{
+    if next < END {
+        one_nth_period_later(start, period, next as i32);
+    }
 }
 
 /// Proves that the period between two date-times in a zone is the only one that its definition

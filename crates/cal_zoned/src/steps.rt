@@ -66,7 +66,7 @@ fn last_step(start: PlainDateTime, period: Period, reading: PlainDateTime) -> u3
 }
 
 /// Returns a step, or `None` if it is out of range.
-fn step(start: PlainDateTime, period: Period, n: u32) -> Option<PlainDateTime>
+pub(crate) fn step(start: PlainDateTime, period: Period, n: u32) -> Option<PlainDateTime>
     requires { n < end_of_steps }
     ensures every { (r : ℤ) → IsDateTime r → IsNextStep (series start period n) r
         → result ≡ Some r }

@@ -19,4 +19,4 @@ pub returns-clause-steps : goal.returns-clause-steps
 returns-clause-steps c =
     let s = c.self.inside in
     subst (λ (v : Series). YieldsStep v (Some c.in_ok-step.step) (series s.start s.period (s.next + 1))) c.self.view_is
-    (c.in_ok-step.ensures.value.0, c.in_ok-step.ensures.value.1, refl)
+    (omega (arith), c.in_ok-step.ensures.value.0, c.in_ok-step.ensures.value.1, refl)
