@@ -1,0 +1,128 @@
+-- What is decided at the edges. Each query returns the rows whose result isn't the expected one.
+\pset format unaligned
+SET timezone = 'UTC';
+SET datestyle = 'ISO';
+SET intervalstyle = 'postgres';
+CREATE FUNCTION pg_temp.error_of(query text) RETURNS text LANGUAGE plpgsql AS $$
+DECLARE message text; detail text; state text;
+BEGIN
+    EXECUTE query;
+    RETURN 'no error';
+EXCEPTION WHEN OTHERS THEN
+    GET STACKED DIAGNOSTICS message = MESSAGE_TEXT, detail = PG_EXCEPTION_DETAIL, state = RETURNED_SQLSTATE;
+    RETURN state || ' ' || message || CASE WHEN detail = '' THEN '' ELSE ' / ' || detail END;
+END $$;
+
+-- infinity stays what it is from a date to a date, and is an error elsewhere
+SELECT * FROM (VALUES
+    (1, cal_add_months('infinity', 1)::text, 'infinity'), (2, cal_add_years('-infinity', 1)::text, '-infinity'),
+    (3, cal_add_workdays('infinity', -5)::text, 'infinity'), (4, cal_adjust('-infinity', 'following')::text, '-infinity'),
+    (5, cal_end_of('infinity', 'month')::text, 'infinity'), (6, cal_next_weekday('infinity', 1)::text, 'infinity'),
+    (7, cal_instant('infinity', 'UTC')::text, 'infinity'), (8, cal_local('-infinity', 'UTC')::text, '-infinity'),
+    (9, cal_add_period_zoned('infinity', '1 day', 'UTC')::text, 'infinity'), (10, cal_round_local('infinity', '1 hour')::text, 'infinity'),
+    (11, pg_temp.error_of($$SELECT cal_period('infinity', '2024-01-01')$$), '22008 date must be finite'),
+    (12, pg_temp.error_of($$SELECT cal_iso_week('infinity')$$), '22008 date must be finite'),
+    (13, pg_temp.error_of($$SELECT cal_is_workday('-infinity')$$), '22008 date must be finite'),
+    (14, pg_temp.error_of($$SELECT cal_local_kind('infinity', 'UTC')$$), '22008 timestamp must be finite'),
+    (15, pg_temp.error_of($$SELECT cal_series('2024-01-01', 'infinity', '1 day')$$), '22008 date must be finite'),
+    (16, pg_temp.error_of($$SELECT cal_days('FREQ=DAILY', '2024-01-01', daterange('2024-01-01', 'infinity'))$$), '22023 the recurrence has no end'),
+    (17, (SELECT count(*) FROM cal_days('FREQ=DAILY', '2024-01-01', daterange('-infinity', '2024-01-05')))::text, '4'),
+    (18, (SELECT count(*) FROM cal_days('FREQ=DAILY;COUNT=3', '2024-01-01', daterange('infinity', 'infinity', '[]')))::text, '0'),
+    (19, (SELECT count(*) FROM cal_times_zoned('FREQ=DAILY;COUNT=3', '2024-01-01', 'UTC', '[-infinity,infinity]'))::text, '3')
+) AS row(id, result, expected) WHERE result IS DISTINCT FROM expected;
+
+-- the functions go from 4714-11-24 BC to 999999-12-31, with a year 0 in texts for 1 BC
+SELECT * FROM (VALUES
+    (1, cal_add_months('999999-11-30', 1)::text, '999999-12-30'),
+    (2, pg_temp.error_of($$SELECT cal_add_months('999999-12-01', 1)$$), '22008 add months: result out of range'),
+    (3, pg_temp.error_of($$SELECT cal_quarter('1000000-01-01')$$), '22008 date out of range / The functions go to the year 999999.'),
+    (4, cal_add_years('0001-06-01', -1)::text, '0001-06-01 BC'), (5, cal_format('0001-06-01 BC', '%Y-%m-%d'), '0000-06-01'),
+    (6, cal_week_text('0045-03-15 BC'), '-0044-W11-4'), (7, cal_parse('0000-02-29')::text, '0001-02-29 BC'),
+    (8, cal_add_months('4714-12-24 BC', -1)::text, '4714-11-24 BC'),
+    (9, pg_temp.error_of($$SELECT cal_add_months('4714-11-24 BC', -1)$$), '22008 add months: result out of range'),
+    (10, cal_local('294276-12-31 12:00Z', 'UTC')::text, '294276-12-31 12:00:00'),
+    (11, pg_temp.error_of($$SELECT cal_instant('294276-12-31 23:30', 'Etc/GMT+5')$$), '22008 local time: result out of range'),
+    (12, cal_instant('4714-11-24 00:00:00 BC', 'UTC')::text, '4714-11-24 00:00:00+00 BC'),
+    (13, (SELECT count(*) FROM cal_days('FREQ=YEARLY', '999990-01-01', daterange(NULL, '1000005-01-01')))::text, '10'),
+    (14, (SELECT count(*) FROM cal_series('999990-01-01', '999999-12-31', '1 year'))::text, '10')
+) AS row(id, result, expected) WHERE result IS DISTINCT FROM expected;
+
+-- errors: a text that isn't one, a value out of range, another argument; and where
+SELECT * FROM (VALUES
+    (1, pg_temp.error_of($$SELECT cal_parse('2023-02-29')$$), '22008 invalid date: "2023-02-29" / day out of range'),
+    (2, pg_temp.error_of($$SELECT cal_parse('2024-02-2x')$$), '22007 invalid date: "2024-02-2x" / unexpected byte at character 10'),
+    (3, pg_temp.error_of($$SELECT cal_parse('2024-02')$$), '22007 invalid date: "2024-02" / unexpected end at character 8'),
+    (4, pg_temp.error_of($$SELECT cal_parse('2024–02-29')$$), '22007 invalid date: "2024–02-29" / unexpected byte at character 5'),
+    (5, pg_temp.error_of($$SELECT cal_parse('Wed 2024-02-29', '%a %Y-%m-%d')$$), '22007 invalid date: "Wed 2024-02-29" / contradiction'),
+    (6, pg_temp.error_of($$SELECT cal_parse('05', '%m')$$), '22023 format: insufficient format'),
+    (7, pg_temp.error_of($$SELECT cal_valid('05', '%m')$$), '22023 format: insufficient format'),
+    (8, pg_temp.error_of($$SELECT cal_format('2024-02-29', '%d %Q')$$), '22023 invalid format: "%d %Q" / unknown item at character 4'),
+    (9, pg_temp.error_of($$SELECT cal_format('2024-02-29', '%H')$$), '22023 format: unsupported item'),
+    (10, pg_temp.error_of($$SELECT cal_adjust('2024-02-29', 'next')$$), '22023 unknown convention "next"; expected unadjusted, following, modified following, preceding or modified preceding'),
+    (11, pg_temp.error_of($$SELECT cal_next_weekday('2024-02-29', 0)$$), '22023 next weekday: invalid weekday'),
+    (12, pg_temp.error_of($$SELECT cal_nth_weekday(2024, 13, 1, 1)$$), '22008 nth weekday: month out of range'),
+    (13, cal_nth_weekday(2024, 2, 5, 5)::text, NULL),
+    (14, pg_temp.error_of($$SELECT cal_instant('2024-03-31 02:30', 'Europe/Berlin', 'reject')$$), '22008 local time: skipped time'),
+    (15, pg_temp.error_of($$SELECT cal_instant('2024-10-27 02:30', 'Europe/Berlin', 'reject')$$), '22008 local time: repeated time'),
+    (16, pg_temp.error_of($$SELECT cal_days('FREQ=DAILY;BYDAY=XX', '2024-01-01')$$), '22023 invalid recurrence: "FREQ=DAILY;BYDAY=XX" / invalid value at character 12'),
+    (17, pg_temp.error_of($$SELECT cal_times_local('FREQ=DAILY', '2024-01-01')$$), '22023 the recurrence has no end'),
+    (18, pg_temp.error_of($$SELECT cal_series('2024-01-01', '2024-02-01', '0 days')$$), '22023 series: invalid period'),
+    (19, pg_temp.error_of($$SELECT cal_series('2024-01-01', '2024-02-01', '1 hour')$$), '22023 series: period has a duration'),
+    (20, pg_temp.error_of($$SELECT cal_add_period('2024-01-01', '1 month -1 day')$$), '22023 add period: invalid period'),
+    (21, pg_temp.error_of($$SELECT cal_duration_text('1 day')$$), '22023 expected an interval of hours, minutes and seconds'),
+    (22, pg_temp.error_of($$SELECT cal_parse_duration('P1D')$$), '22007 invalid duration: "P1D" / unexpected byte at character 2'),
+    (23, pg_temp.error_of($$SELECT cal_parse_period('P999999999Y')$$), '22015 interval out of range'),
+    (24, pg_temp.error_of($$SELECT cal_round_local('2024-01-01', '7 hours')$$), '22023 round: invalid rounding unit'),
+    (25, cal_add_months(NULL, 1)::text, NULL), (26, cal_workdays('2024-01-01', '2024-02-01', NULL)::text, NULL)
+) AS row(id, result, expected) WHERE result IS DISTINCT FROM expected;
+
+-- zones: no name leaves the folder
+SELECT left(name, 32) AS name, regexp_replace(pg_temp.error_of(format('SELECT cal_local(now(), %L)', name)), 'time zone ".*"', '..') AS error
+FROM unnest(ARRAY['../etc/passwd', '/etc/passwd', 'Europe/../../../../etc/passwd', 'Europe//Berlin', 'Europe', 'Europe/', 'tzdata.zi', './UTC', '',
+    'europe/berlin', 'No/Such', repeat('A', 300)]) WITH ORDINALITY AS names(name, at) ORDER BY at;
+
+-- holidays in any order, twice, in a matrix, none, NULL, infinity, too many, compressed, out of line, and in PL/pgSQL
+SELECT * FROM (VALUES
+    (1, cal_workdays('2024-12-20', '2025-01-03', '{2025-01-01,2024-12-25,2024-12-26,2024-12-25}')::text, '7'),
+    (2, cal_workdays('2024-12-20', '2025-01-03', '{{2025-01-01,2024-12-25},{2024-12-26,2024-12-25}}')::text, '7'),
+    (3, cal_workdays('2024-12-20', '2025-01-03', '{}')::text, '10'), (4, cal_workdays('2024-12-20', '2025-01-03', weekmask => 127)::text, '14'),
+    (5, pg_temp.error_of($$SELECT cal_workdays('2024-12-20', '2025-01-03', '{2025-01-01,NULL}')$$), '22004 holidays must not be null'),
+    (6, pg_temp.error_of($$SELECT cal_workdays('2024-12-20', '2025-01-03', '{infinity}')$$), '22008 date must be finite'),
+    (7, pg_temp.error_of($$SELECT cal_workdays('2024-12-20', '2025-01-03', weekmask => 128)$$), '22023 working days: invalid weekmask'),
+    (8, pg_temp.error_of($$SELECT cal_workdays('2024-12-20', '2025-01-03', array_agg('2000-01-01'::date + n)) FROM generate_series(1, 1025) AS n$$),
+        '22023 working days: too many holidays'),
+    (9, cal_add_workdays('2024-12-24', 1, '{2024-12-25,2024-12-26}')::text, '2024-12-27')
+) AS row(id, result, expected) WHERE result IS DISTINCT FROM expected;
+
+CREATE TEMP TABLE calendar (name text, holidays date[]);
+INSERT INTO calendar SELECT 'compressed', array_agg('2000-01-01'::date + 7 * (n / 10)) FROM generate_series(1, 1000) AS n;
+INSERT INTO calendar SELECT 'random', array_agg(DISTINCT '2000-01-01'::date + hashint4(n) % 20000) FROM generate_series(1, 1000) AS n;
+ALTER TABLE calendar ALTER holidays SET STORAGE EXTERNAL;
+INSERT INTO calendar SELECT 'external', array_agg('2000-01-01'::date + 7 * n) FROM generate_series(1, 1000) AS n;
+SELECT name, pg_column_size(holidays) < 4 * cardinality(holidays) AS compressed,
+    count(*) FILTER (WHERE cal_workdays('2001-05-05', '2001-05-05'::date + n, holidays, 127) <> n - (SELECT count(DISTINCT h) FROM unnest(holidays) AS h WHERE h >= '2001-05-05' AND h < '2001-05-05'::date + n)) AS differences
+FROM calendar, generate_series(0, 300, 7) AS n GROUP BY name, holidays ORDER BY name;
+-- calendars in turn, more than a call keeps
+SELECT count(*) AS differences FROM generate_series(0, 199) AS n,
+    LATERAL (SELECT array_agg('2024-01-01'::date + (n % 12) + d) AS holidays FROM generate_series(0, n % 12) AS d) AS made
+    WHERE cal_workdays('2024-01-01', '2024-03-01', holidays, 127) <> 60 - cardinality(holidays);
+DO $$
+DECLARE one date[] := '{2024-01-01}'; other date[]; total int := 0;
+BEGIN
+    FOR n IN 1..50 LOOP
+        other := one || ('2024-01-01'::date + n);
+        total := total + cal_workdays('2024-01-01', '2024-04-01', other, 127) - 91 + 2;
+        one[1] := '2024-02-01'::date + n;
+        total := total + cal_workdays('2024-01-01', '2024-04-01', one, 127) - 91 + 1;
+    END LOOP;
+    ASSERT total = 0;
+END $$;
+
+-- what the page says about the built-in functions
+SELECT '2024-01-03'::date + age('2024-03-01', '2024-01-03') AS age, to_date('2024-02-29x', 'YYYY-MM-DD') AS to_date,
+    (SELECT max(d)::date FROM generate_series('2024-01-31', '2024-03-31', interval '1 month') AS d) AS series,
+    timestamp '2024-03-31 02:30' AT TIME ZONE 'Europe/Berlin' AS gap, timestamp '2024-10-27 02:30' AT TIME ZONE 'Europe/Berlin' AS fold,
+    timestamp '2024-07-01 00:00' AT TIME ZONE 'CET' AS cet, cal_instant('2024-07-01 00:00', 'CET') AS summer;
+SET timezone = 'Europe/Berlin';
+SELECT max(t) AS late FROM generate_series('2024-03-30 02:30+01'::timestamptz, '2024-04-02', interval '1 day') AS t;
+SELECT max(t) AS in_time FROM cal_series_zoned('2024-03-30 02:30+01', '2024-04-02', interval '1 day', 'Europe/Berlin') AS t;

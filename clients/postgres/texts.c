@@ -1,0 +1,162 @@
+/* Functions of texts: strict parsing, and formats both ways. */
+#include "values.h"
+
+#include "utils/builtins.h"
+#include "utils/memutils.h"
+
+/* The format of a call site, made again only for another text. */
+typedef struct kept_format {
+    fots_format format;
+    size_t length;
+    char *text; /* or NULL */
+} kept_format;
+
+static const fots_format *format_of(FunctionCallInfo fcinfo, int argument)
+{
+    const text *const value = PG_GETARG_TEXT_PP(argument);
+    const size_t length = VARSIZE_ANY_EXHDR(value);
+    kept_format *const kept = kept_for(fcinfo, sizeof(kept_format));
+    if (kept->text == NULL || kept->length != length || memcmp(kept->text, VARDATA_ANY(value), length) != 0) {
+        const fots_format_result made = fots_format_new(VARDATA_ANY(value), length);
+        char *copy;
+        if (made.status != FOTS_OK) {
+            fail_text("format", value, made.status, made.position);
+        }
+        copy = MemoryContextAlloc(fcinfo->flinfo->fn_mcxt, length + 1);
+        memcpy(copy, VARDATA_ANY(value), length);
+        if (kept->text != NULL) {
+            pfree(kept->text);
+        }
+        kept->text = copy;
+        kept->length = length;
+        kept->format = made.format;
+    }
+    return &kept->format;
+}
+
+/* What a text is parsed to. */
+enum form { DATE, LOCAL, INSTANT };
+
+/* Parses argument 0, by the format in argument 1 if there is one. */
+static fots_parse_moment_result parse(FunctionCallInfo fcinfo, enum form form)
+{
+    const text *const value = PG_GETARG_TEXT_PP(0);
+    const char *const bytes = VARDATA_ANY(value);
+    const size_t length = VARSIZE_ANY_EXHDR(value);
+    const fots_format *format;
+    if (PG_NARGS() == 1) {
+        return form == LOCAL ? fots_pair_parse(bytes, length) : fots_moment_parse(bytes, length);
+    }
+    format = format_of(fcinfo, 1);
+    if (form == DATE) {
+        const fots_parse_date_result parsed = fots_date_parse_format(bytes, length, format);
+        const fots_parse_moment_result found = {parsed.status, parsed.date, 0, {0}, parsed.position};
+        return found;
+    }
+    return form == LOCAL ? fots_pair_parse_format(bytes, length, format) : fots_moment_parse_format(bytes, length, format);
+}
+
+static fots_parse_moment_result parse_or_fail(FunctionCallInfo fcinfo, enum form form)
+{
+    static const char *const names[] = {"date", "local time", "instant"};
+    const fots_parse_moment_result parsed = parse(fcinfo, form);
+    if (parsed.status == FOTS_INSUFFICIENT_FORMAT) {
+        fail("format", parsed.status);
+    }
+    if (parsed.status != FOTS_OK) {
+        fail_text(names[form], PG_GETARG_TEXT_PP(0), parsed.status, parsed.position);
+    }
+    return parsed;
+}
+
+static Datum is_valid(FunctionCallInfo fcinfo, enum form form)
+{
+    const int32 status = parse(fcinfo, form).status;
+    if (status == FOTS_INSUFFICIENT_FORMAT) {
+        fail("format", status);
+    }
+    return BoolGetDatum(status == FOTS_OK);
+}
+
+PG_FUNCTION_INFO_V1(cal_valid);
+Datum cal_valid(PG_FUNCTION_ARGS)
+{
+    return is_valid(fcinfo, DATE);
+}
+
+PG_FUNCTION_INFO_V1(cal_valid_local);
+Datum cal_valid_local(PG_FUNCTION_ARGS)
+{
+    return is_valid(fcinfo, LOCAL);
+}
+
+PG_FUNCTION_INFO_V1(cal_valid_instant);
+Datum cal_valid_instant(PG_FUNCTION_ARGS)
+{
+    return is_valid(fcinfo, INSTANT);
+}
+
+PG_FUNCTION_INFO_V1(cal_parse);
+Datum cal_parse(PG_FUNCTION_ARGS)
+{
+    const fots_parse_moment_result parsed = parse_or_fail(fcinfo, DATE);
+    const fots_date_result found = {parsed.status, parsed.date};
+    PG_RETURN_DATEADT(from_date("date", found));
+}
+
+PG_FUNCTION_INFO_V1(cal_parse_local);
+Datum cal_parse_local(PG_FUNCTION_ARGS)
+{
+    const fots_parse_moment_result parsed = parse_or_fail(fcinfo, LOCAL);
+    PG_RETURN_TIMESTAMP(from_local("local time", FOTS_OK, parsed.date, parsed.time));
+}
+
+PG_FUNCTION_INFO_V1(cal_parse_instant);
+Datum cal_parse_instant(PG_FUNCTION_ARGS)
+{
+    const fots_parse_moment_result parsed = parse_or_fail(fcinfo, INSTANT);
+    PG_RETURN_TIMESTAMPTZ(from_moment("instant", fots_moment_new(parsed.date, parsed.time, parsed.offset)));
+}
+
+#define FORMAT_BYTES (FOTS_MAX_ITEMS * FOTS_MAX_ITEM_LENGTH)
+
+static Datum printed(const char *bytes, fots_length_result found)
+{
+    succeed("format", found.status);
+    return PointerGetDatum(text_of(bytes, found.length));
+}
+
+PG_FUNCTION_INFO_V1(cal_format);
+Datum cal_format(PG_FUNCTION_ARGS)
+{
+    char bytes[FORMAT_BYTES];
+    return printed(bytes, fots_date_format(GET_DATE(0), format_of(fcinfo, 1), bytes, sizeof bytes));
+}
+
+PG_FUNCTION_INFO_V1(cal_format_local);
+Datum cal_format_local(PG_FUNCTION_ARGS)
+{
+    char bytes[FORMAT_BYTES];
+    const fots_moment moment = moment_of(PG_GETARG_TIMESTAMP(0));
+    return printed(bytes, fots_pair_format(moment.date, moment.time, format_of(fcinfo, 1), bytes, sizeof bytes));
+}
+
+PG_FUNCTION_INFO_V1(cal_format_zoned);
+Datum cal_format_zoned(PG_FUNCTION_ARGS)
+{
+    char bytes[FORMAT_BYTES];
+    const fots_moment moment = moment_of(PG_GETARG_TIMESTAMPTZ(0));
+    const fots_zone *const zone = zone_named(PG_GETARG_TEXT_PP(1));
+    return printed(bytes, fots_moment_format_in_zone(moment, zone, format_of(fcinfo, 2), bytes, sizeof bytes));
+}
+
+PG_FUNCTION_INFO_V1(cal_recurrence_text);
+Datum cal_recurrence_text(PG_FUNCTION_ARGS)
+{
+    const text *const value = PG_GETARG_TEXT_PP(0);
+    const fots_recurrence_text_result found = fots_recurrence_text(VARDATA_ANY(value), VARSIZE_ANY_EXHDR(value));
+    if (found.status != FOTS_OK) {
+        fail_text("recurrence", value, found.status, found.position);
+    }
+    PG_RETURN_TEXT_P(text_of(found.bytes, found.length));
+}

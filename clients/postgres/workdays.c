@@ -1,0 +1,117 @@
+/* Functions of working days. */
+#include "values.h"
+
+#include "utils/array.h"
+#include "utils/memutils.h"
+
+#include "../sql/holidays.h"
+
+/* The calendars of a call site. A row finds its own by the bytes of its array, which needs no
+ * decompression, so that a few calendars in turn are as fast as one. */
+#define CALENDARS 8
+
+typedef struct calendar {
+    int32 weekmask;
+    Size size;
+    char *array; /* the bytes of the array as they come, or NULL */
+    fots_workdays workdays;
+} calendar;
+
+typedef struct kept_calendars {
+    calendar *calendars[CALENDARS];
+    uint32 next; /* to be replaced */
+} kept_calendars;
+
+/* Makes the working days of an array of dates, in any order and with duplicates. */
+static fots_workdays workdays_of(struct varlena *value, int32 weekmask)
+{
+    ArrayType *const array = DatumGetArrayTypeP(PointerGetDatum(value));
+    const int count = ArrayGetNItems(ARR_NDIM(array), ARR_DIMS(array));
+    const DateADT *const dates = (const DateADT *)ARR_DATA_PTR(array);
+    fots_date *const days = palloc(sizeof(fots_date) * ((Size)count + 1));
+    fots_workdays_result made;
+    /* An array with NULL has no bytes for it. */
+    if (ARR_HASNULL(array) && array_contains_nulls(array)) {
+        ereport(ERROR, (errcode(ERRCODE_NULL_VALUE_NOT_ALLOWED), errmsg("holidays must not be null")));
+    }
+    for (int at = 0; at < count; at++) {
+        days[at] = date_of(dates[at]);
+    }
+    made = fots_workdays_new((uint32)weekmask, days, sql_sort_holidays(days, (size_t)count));
+    succeed("working days", made.status);
+    pfree(days);
+    return made.workdays;
+}
+
+static const fots_workdays *keep(FunctionCallInfo fcinfo, kept_calendars *kept, struct varlena *array, int32 weekmask)
+{
+    const MemoryContext memory = fcinfo->flinfo->fn_mcxt;
+    const Size size = VARSIZE_ANY(array);
+    calendar **const place = &kept->calendars[kept->next];
+    const fots_workdays workdays = workdays_of(array, weekmask);
+    char *const copy = MemoryContextAlloc(memory, size);
+    memcpy(copy, array, size);
+    if (*place == NULL) {
+        *place = MemoryContextAllocZero(memory, sizeof(calendar));
+    } else {
+        pfree((*place)->array);
+    }
+    (*place)->weekmask = weekmask;
+    (*place)->size = size;
+    (*place)->array = copy;
+    (*place)->workdays = workdays;
+    kept->next = (kept->next + 1) % CALENDARS;
+    return &(*place)->workdays;
+}
+
+/* Returns the working days of an array and the weekmask after it. */
+static const fots_workdays *workdays(FunctionCallInfo fcinfo, int argument)
+{
+    struct varlena *array = (struct varlena *)PG_GETARG_POINTER(argument);
+    const int32 weekmask = GET_INT32(argument + 1);
+    kept_calendars *const kept = kept_for(fcinfo, sizeof(kept_calendars));
+    Size size;
+    /* A pointer to a TOAST table, or an array of a variable of PL/pgSQL. */
+    if (VARATT_IS_EXTERNAL(array)) {
+        array = PG_DETOAST_DATUM(PointerGetDatum(array));
+    }
+    size = VARSIZE_ANY(array);
+    for (int at = 0; at < CALENDARS && kept->calendars[at] != NULL; at++) {
+        const calendar *const one = kept->calendars[at];
+        if (one->size == size && one->weekmask == weekmask && memcmp(one->array, array, size) == 0) {
+            return &one->workdays;
+        }
+    }
+    return keep(fcinfo, kept, array, weekmask);
+}
+
+PG_FUNCTION_INFO_V1(cal_workdays);
+Datum cal_workdays(PG_FUNCTION_ARGS)
+{
+    const fots_number_result found = fots_workdays_between(workdays(fcinfo, 2), GET_DATE(0), GET_DATE(1));
+    succeed("working days", found.status);
+    PG_RETURN_INT32(found.number);
+}
+
+PG_FUNCTION_INFO_V1(cal_add_workdays);
+Datum cal_add_workdays(PG_FUNCTION_ARGS)
+{
+    RETURN_INFINITE_DATE(0);
+    PG_RETURN_DATEADT(from_date("add working days", fots_workdays_add(workdays(fcinfo, 2), GET_DATE(0), GET_INT32(1))));
+}
+
+PG_FUNCTION_INFO_V1(cal_is_workday);
+Datum cal_is_workday(PG_FUNCTION_ARGS)
+{
+    const fots_component_result found = fots_workdays_contains(workdays(fcinfo, 1), GET_DATE(0));
+    succeed("working days", found.status);
+    PG_RETURN_BOOL(found.number == 1);
+}
+
+PG_FUNCTION_INFO_V1(cal_adjust);
+Datum cal_adjust(PG_FUNCTION_ARGS)
+{
+    const uint32 convention = GET_NUMBER(sql_conventions, 1);
+    RETURN_INFINITE_DATE(0);
+    PG_RETURN_DATEADT(from_date("adjust", fots_workdays_adjust(workdays(fcinfo, 2), GET_DATE(0), convention)));
+}

@@ -1,0 +1,118 @@
+/* The names that the functions of both databases take, and what a status of the library means there. */
+#ifndef FOTSEVINDRE_SQL_NAMES_H
+#define FOTSEVINDRE_SQL_NAMES_H
+
+#include <stdint.h>
+#include <string.h>
+
+#include "fotsevindre.h"
+
+/* Names for the numbers from `first` on, and the words of an error that lists them. */
+typedef struct sql_names {
+    const char *what;
+    const char *expected;
+    uint32_t first;
+    uint32_t length;
+    const char *names[5];
+} sql_names;
+
+static const sql_names sql_policies = {
+    "policy", "compatible, earlier, later or reject", FOTS_COMPATIBLE, 4, {"compatible", "earlier", "later", "reject", 0}};
+static const sql_names sql_units = {"unit", "day, week, month, quarter or year", FOTS_DAY, 5, {"day", "week", "month", "quarter", "year"}};
+static const sql_names sql_modes = {
+    "rounding mode", "floor, ceil, trunc, half ceil or half even", FOTS_FLOOR, 5, {"floor", "ceil", "trunc", "half ceil", "half even"}};
+static const sql_names sql_day_counts = {
+    "day count", "act/360, act/365, 30/360, 30e/360 or act/act", FOTS_ACTUAL_360, 5, {"act/360", "act/365", "30/360", "30e/360", "act/act"}};
+static const sql_names sql_conventions = {"convention", "unadjusted, following, modified following, preceding or modified preceding",
+    FOTS_UNADJUSTED, 5, {"unadjusted", "following", "modified following", "preceding", "modified preceding"}};
+
+/* When someone born on 29 February has a birthday in a common year. */
+enum sql_leap_birthday { SQL_MARCH = 0, SQL_FEBRUARY = 1 };
+static const sql_names sql_leap_birthdays = {"leap birthday", "march or february", SQL_MARCH, 2, {"march", "february", 0, 0, 0}};
+
+#define SQL_NO_NUMBER UINT32_MAX
+
+/* Returns the number of a name in lower case, or SQL_NO_NUMBER. */
+static inline uint32_t sql_number_named(const sql_names *names, const char *text, size_t length)
+{
+    uint32_t index;
+    for (index = 0; index < names->length; index++) {
+        if (strlen(names->names[index]) == length && memcmp(names->names[index], text, length) == 0) {
+            return names->first + index;
+        }
+    }
+    return SQL_NO_NUMBER;
+}
+
+/* Returns 1 if a status names a component that is out of range. */
+static inline int sql_is_component(int32_t status)
+{
+    return (status >= FOTS_YEAR_OUT_OF_RANGE && status <= FOTS_TIMESTAMP_OUT_OF_RANGE) || status == FOTS_MONTH_OUT_OF_RANGE
+        || fots_status_is_conditional(status) || (status >= FOTS_YEARS_OUT_OF_RANGE && status <= FOTS_MINUTES_OUT_OF_RANGE);
+}
+
+/* A kind of error: a string without the form, a value out of range, or another invalid argument. */
+enum sql_error { SQL_INVALID_TEXT, SQL_OUT_OF_RANGE, SQL_INVALID_ARGUMENT };
+
+static inline enum sql_error sql_error_of(int32_t status)
+{
+    switch (status) {
+    case FOTS_UNEXPECTED_BYTE:
+    case FOTS_UNEXPECTED_END:
+    case FOTS_CONTRADICTION:
+        return SQL_INVALID_TEXT;
+    case FOTS_RESULT_OUT_OF_RANGE:
+    case FOTS_INVALID_DATE:
+    case FOTS_INVALID_MOMENT:
+    case FOTS_SKIPPED_TIME:
+    case FOTS_REPEATED_TIME:
+        return SQL_OUT_OF_RANGE;
+    default:
+        return sql_is_component(status) ? SQL_OUT_OF_RANGE : SQL_INVALID_ARGUMENT;
+    }
+}
+
+/* Returns the age at a date, in whole years. A birthday of 29 February is 1 March or 28 February in a
+ * common year. */
+static inline fots_number_result sql_age(fots_date born, fots_date on, uint32_t leap_birthday)
+{
+    fots_number_result years = fots_date_years_until(born, on);
+    if (years.status == FOTS_OK && years.number > 0 && leap_birthday == SQL_MARCH
+        && fots_date_add_years(born, years.number).date.julian_day == on.julian_day
+        && fots_date_day(born).number != fots_date_day(on).number) {
+        years.number -= 1;
+    }
+    return years;
+}
+
+/* Returns the n-th weekday of a month, or the last one for -1. */
+static inline fots_date_result sql_nth_weekday(int32_t year, int32_t month, int32_t weekday, int32_t n)
+{
+    return n == -1 ? fots_date_last_weekday_of_month(year, (uint32_t)month, (uint32_t)weekday)
+                   : fots_date_nth_weekday_of_month(year, (uint32_t)month, (uint32_t)weekday, (uint32_t)n);
+}
+
+/* Return the first and the last day of a unit. */
+static inline fots_date_result sql_start_of(fots_date date, uint32_t unit)
+{
+    switch (unit) {
+    case FOTS_WEEK: return fots_date_first_of_iso_week(date);
+    case FOTS_MONTH: return fots_date_first_of_month(date);
+    case FOTS_QUARTER: return fots_date_first_of_quarter(date);
+    case FOTS_YEAR: return fots_date_first_of_year(date);
+    default: return fots_date_add_days(date, 0);
+    }
+}
+
+static inline fots_date_result sql_end_of(fots_date date, uint32_t unit)
+{
+    switch (unit) {
+    case FOTS_WEEK: return fots_date_last_of_iso_week(date);
+    case FOTS_MONTH: return fots_date_last_of_month(date);
+    case FOTS_QUARTER: return fots_date_last_of_quarter(date);
+    case FOTS_YEAR: return fots_date_last_of_year(date);
+    default: return fots_date_add_days(date, 0);
+    }
+}
+
+#endif

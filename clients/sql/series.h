@@ -1,0 +1,273 @@
+/* Rows of days, local times and instants, for both databases. A step makes at most one page of work,
+ * so that a caller can stop between two steps: SQL_PAUSE means to make the next one. */
+#ifndef FOTSEVINDRE_SQL_SERIES_H
+#define FOTSEVINDRE_SQL_SERIES_H
+
+#include <stdio.h>
+#include <string.h>
+
+#include "fotsevindre.h"
+
+#define SQL_PAGE 64
+/* With BYSETPOS a row can cost a few milliseconds. */
+#define SQL_SMALL_PAGE 8
+
+enum sql_step { SQL_ROW, SQL_PAUSE, SQL_END, SQL_FAILED };
+
+/* An error, and its position in a string, from 0, or SIZE_MAX. */
+typedef struct sql_fault {
+    int32_t status;
+    size_t position;
+} sql_fault;
+
+/* ---- a period again and again, counted from the start, so that no step moves the next ones */
+
+typedef struct sql_series {
+    fots_moment start, last; /* at offset 0 without a zone */
+    fots_period period;
+    const fots_zone *zone; /* or NULL */
+    uint32_t policy;
+    int32_t n, sign, status;
+} sql_series;
+
+static inline int32_t sql_sign_of(fots_period period)
+{
+    const int64_t parts[] = {period.years, period.months, period.weeks, period.days, period.duration.seconds, period.duration.nanoseconds};
+    size_t at;
+    for (at = 0; at < sizeof parts / sizeof parts[0]; at++) {
+        if (parts[at] != 0) {
+            return parts[at] > 0 ? 1 : -1;
+        }
+    }
+    return 0;
+}
+
+/* Sets the series up to `last`, which is in it. Returns FOTS_INVALID_PERIOD for a period of 0. */
+static inline int32_t sql_series_begin(sql_series *all, fots_moment start, fots_moment last, fots_period period)
+{
+    memset(all, 0, sizeof *all);
+    all->start = start;
+    all->last = last;
+    all->period = period;
+    all->sign = sql_sign_of(period);
+    return all->sign == 0 ? FOTS_INVALID_PERIOD : FOTS_OK;
+}
+
+static inline enum sql_step sql_series_step(sql_series *all, fots_moment *row)
+{
+    fots_moment_result found;
+    if (all->n < 0) {
+        all->status = FOTS_RESULT_OUT_OF_RANGE;
+        return SQL_FAILED;
+    }
+    if (all->zone) {
+        found = fots_zoned_nth_period(all->zone, all->start, all->period, all->n, all->policy);
+    } else {
+        const fots_pair_result pair = fots_pair_nth_period(all->start.date, all->start.time, all->period, all->n);
+        found.status = pair.status;
+        found.moment.date = pair.date;
+        found.moment.time = pair.time;
+        found.moment.offset.seconds = 0;
+    }
+    if (found.status == FOTS_RESULT_OUT_OF_RANGE) {
+        return SQL_END;
+    }
+    all->status = found.status;
+    if (found.status != FOTS_OK) {
+        return SQL_FAILED;
+    }
+    *row = found.moment;
+    all->n = all->n == INT32_MAX ? -1 : all->n + 1;
+    return fots_moment_compare(found.moment, all->last).number * all->sign > 0 ? SQL_END : SQL_ROW;
+}
+
+/* ---- the days of a recurrence */
+
+typedef struct sql_days {
+    fots_recurrence recurrence;
+    fots_rule rule; /* has pointers into the recurrence */
+    fots_date first, after;
+    uint32_t left; /* of COUNT, which isn't counted again for each page */
+    int32_t status;
+    int is_last;
+    size_t at, length;
+    fots_date page[SQL_PAGE];
+} sql_days;
+
+/* Sets the days from `first` to `last`. */
+static inline sql_fault sql_days_begin(sql_days *all, const char *text, size_t length, fots_date start, fots_date first, fots_date last)
+{
+    const fots_parse_recurrence_result parsed = fots_recurrence_parse(text, length);
+    const sql_fault fault = {parsed.status, parsed.position};
+    memset(all, 0, sizeof *all);
+    all->recurrence = parsed.recurrence;
+    all->rule = fots_recurrence_rule(&all->recurrence, start);
+    if (all->rule.until.julian_day > last.julian_day) {
+        all->rule.until = last;
+    }
+    all->left = parsed.recurrence.count;
+    all->first = first;
+    all->after = all->left > 0 || first.julian_day < start.julian_day ? start : first;
+    if (all->after.julian_day > FOTS_MIN_JULIAN_DAY) {
+        all->after.julian_day -= 1;
+    } else if (parsed.status == FOTS_OK && fots_rule_contains(&all->rule, all->after).number == 1) {
+        all->page[all->length++] = all->after;
+    }
+    return fault;
+}
+
+static inline enum sql_step sql_days_step(sql_days *all, fots_date *day)
+{
+    fots_days_result found;
+    while (all->at < all->length) {
+        *day = all->page[all->at++];
+        if (all->recurrence.count > 0 && all->left-- == 0) {
+            return SQL_END;
+        }
+        if (day->julian_day >= all->first.julian_day) {
+            return SQL_ROW;
+        }
+    }
+    if (all->is_last) {
+        return SQL_END;
+    }
+    found = fots_rule_days_after(&all->rule, all->after, all->page, SQL_PAGE);
+    all->at = 0;
+    all->length = found.length;
+    all->is_last = found.length < SQL_PAGE;
+    all->status = found.status;
+    if (found.length > 0) {
+        all->after = all->page[found.length - 1];
+    }
+    return found.status == FOTS_OK ? SQL_PAUSE : SQL_FAILED;
+}
+
+/* ---- the local times of a recurrence, or its instants in a zone */
+
+typedef struct sql_times {
+    char text[4096]; /* of the recurrence, without COUNT */
+    fots_recurrence_set set; /* has a pointer to the text */
+    const fots_zone *zone; /* or NULL for local times */
+    fots_moment first, last; /* in the rows, at offset 0: local times without a zone, else at UTC */
+    fots_moment from; /* the next local time */
+    fots_moment after; /* the last instant */
+    uint32_t count, left;
+    int32_t status;
+    int is_counting; /* for a zone, until the last time of COUNT is known */
+    int is_last, has_until;
+    size_t at, length, page_length;
+    fots_moment page[SQL_PAGE];
+} sql_times;
+
+/* Copies the text of a recurrence without COUNT. */
+static inline void sql_times_text(sql_times *all, const fots_recurrence_text_result *text)
+{
+    char *count;
+    memcpy(all->text, text->bytes, sizeof text->bytes);
+    count = strstr(all->text, ";COUNT=");
+    if (count) {
+        const char *const rest = strchr(count + 1, ';');
+        memmove(count, rest ? rest : "", rest ? strlen(rest) + 1 : 1);
+    }
+    all->set = fots_recurrence_set_new(all->text, strlen(all->text), all->set.start);
+}
+
+/* Sets the times from `first` to `last`. `zone` is NULL for local times. */
+static inline sql_fault sql_times_begin(sql_times *all, const char *text, size_t length, fots_moment start, const fots_zone *zone,
+    fots_moment first, fots_moment last)
+{
+    const fots_parse_recurrence_result parsed = fots_recurrence_parse(text, length);
+    const fots_recurrence_text_result printed = fots_recurrence_text(text, length);
+    const fots_duration nanosecond = {0, 1};
+    sql_fault fault = {parsed.status, parsed.position};
+    memset(all, 0, sizeof *all);
+    if (parsed.status != FOTS_OK) {
+        return fault;
+    }
+    all->set.start = start;
+    sql_times_text(all, &printed);
+    all->zone = zone;
+    all->first = first;
+    all->last = last;
+    all->count = all->left = parsed.recurrence.count;
+    all->has_until = parsed.recurrence.until.julian_day != FOTS_NO_VALUE;
+    all->page_length = parsed.recurrence.set_positions_length > 0 ? SQL_SMALL_PAGE : SQL_PAGE;
+    all->is_counting = zone && all->count > 0;
+    all->from = all->count > 0 || fots_moment_compare(first, start).number < 0 ? start : first;
+    all->after = fots_moment_saturating_sub(first, nanosecond).moment;
+    return fault;
+}
+
+/* Reads the next page of local times, or of instants. */
+static inline enum sql_step sql_times_page(sql_times *all)
+{
+    const fots_duration nanosecond = {0, 1};
+    const int is_local = !all->zone || all->is_counting;
+    const fots_recurrence_result found = is_local ? fots_recurrence_readings(&all->set, all->from, all->page, all->page_length)
+                                                  : fots_recurrence_moments(&all->set, all->zone, all->after, all->page, all->page_length);
+    all->at = 0;
+    all->length = found.length;
+    all->is_last = found.length < all->page_length;
+    all->status = found.status;
+    if (found.length > 0) {
+        all->after = is_local ? all->after : all->page[found.length - 1];
+        all->from = is_local ? fots_moment_saturating_add(all->page[found.length - 1], nanosecond).moment : all->from;
+    }
+    return found.status == FOTS_OK ? SQL_PAUSE : SQL_FAILED;
+}
+
+/* Ends the recurrence with a local time, the last one of COUNT. */
+static inline enum sql_step sql_times_end_with(sql_times *all, fots_moment reading)
+{
+    const fots_duration up = {0, (int32_t)((1000000000 - reading.time % 1000000000) % 1000000000)};
+    const fots_moment until = fots_moment_saturating_add(reading, up).moment;
+    const fots_calendar_date_result date = fots_date_to_calendar_date(until.date);
+    const fots_hms_nano_result time = fots_time_as_hms_nano(until.time);
+    if (date.year < 0 || date.year > 9999) {
+        all->status = FOTS_RESULT_OUT_OF_RANGE;
+        return SQL_FAILED;
+    }
+    snprintf(all->text + all->set.text_length, sizeof all->text - all->set.text_length, ";UNTIL=%04d%02u%02uT%02u%02u%02u", (int)date.year,
+        (unsigned)date.month, (unsigned)date.day, (unsigned)time.hour, (unsigned)time.minute, (unsigned)time.second);
+    all->set.text_length = strlen(all->text);
+    return SQL_PAUSE;
+}
+
+/* Counts a page of local times, up to COUNT or until no instant up to `last` can follow. */
+static inline enum sql_step sql_times_count(sql_times *all)
+{
+    const fots_duration two_days = {172800, 0};
+    enum sql_step step = sql_times_page(all);
+    if (step != SQL_PAUSE) {
+        return step;
+    }
+    if (all->left <= all->length) {
+        step = sql_times_end_with(all, all->page[all->left - 1]);
+        all->is_counting = 0;
+    } else if (all->is_last || fots_moment_compare(all->from, fots_moment_saturating_add(all->last, two_days).moment).number > 0) {
+        all->is_counting = 0;
+    }
+    all->left -= (uint32_t)all->length;
+    all->is_last = 0;
+    all->length = 0;
+    return step;
+}
+
+static inline enum sql_step sql_times_step(sql_times *all, fots_moment *row)
+{
+    if (all->is_counting) {
+        return sql_times_count(all);
+    }
+    while (all->at < all->length) {
+        *row = all->page[all->at++];
+        if ((!all->zone && all->count > 0 && all->left-- == 0) || fots_moment_compare(*row, all->last).number > 0) {
+            return SQL_END;
+        }
+        if (fots_moment_compare(*row, all->first).number >= 0) {
+            return SQL_ROW;
+        }
+    }
+    return all->is_last ? SQL_END : sql_times_page(all);
+}
+
+#endif

@@ -1,0 +1,142 @@
+/* Functions of texts: strict parsing, and formats both ways. */
+#include "values.h"
+SQLITE_EXTENSION_INIT3
+
+#include <string.h>
+
+/* The format of an argument, or the one of a date without it. SQLite keeps that of a constant. */
+static int get_format(const sql_function *function, sqlite3_context *context, int count, sqlite3_value **values, int index, const fots_format **format)
+{
+    sql_text text;
+    fots_format_result made;
+    fots_format *kept;
+    *format = index < count ? sqlite3_get_auxdata(context, index) : &function->shared->date_format;
+    if (*format) {
+        return 1;
+    }
+    text = sql_text_of(values[index]);
+    made = fots_format_new(text.bytes, text.length);
+    if (!sql_check_text(context, "format", text, made.status, made.position)) {
+        return 0;
+    }
+    kept = sqlite3_malloc(sizeof *kept);
+    if (!kept) {
+        sqlite3_result_error_nomem(context);
+        return 0;
+    }
+    *kept = made.format;
+    sqlite3_set_auxdata(context, index, kept, sqlite3_free);
+    *format = sqlite3_get_auxdata(context, index);
+    if (!*format) {
+        sqlite3_result_error_nomem(context);
+    }
+    return *format != NULL;
+}
+
+/* Parses the first argument, by a format if there is one. */
+static int get_parsed(const sql_function *function, sqlite3_context *context, int count, sqlite3_value **values, fots_parse_moment_result *found)
+{
+    const sql_text text = sql_text_of(values[0]);
+    const int form = function->call->form;
+    const fots_format *format;
+    if (count == 1 && form != SQL_DATE) {
+        *found = form == SQL_LOCAL ? fots_pair_parse(text.bytes, text.length) : fots_moment_parse(text.bytes, text.length);
+        return 1;
+    }
+    if (!get_format(function, context, count, values, 1, &format)) {
+        return 0;
+    }
+    if (form == SQL_DATE) {
+        const fots_parse_date_result parsed = fots_date_parse_format(text.bytes, text.length, format);
+        *found = (fots_parse_moment_result){parsed.status, parsed.date, 0, {0}, parsed.position};
+    } else {
+        *found = form == SQL_LOCAL ? fots_pair_parse_format(text.bytes, text.length, format)
+                                   : fots_moment_parse_format(text.bytes, text.length, format);
+    }
+    return found->status != FOTS_INSUFFICIENT_FORMAT || sql_check(context, "format", found->status);
+}
+
+static void valid(const sql_function *function, sqlite3_context *context, int count, sqlite3_value **values)
+{
+    fots_parse_moment_result parsed;
+    if (get_parsed(function, context, count, values, &parsed)) {
+        sqlite3_result_int(context, parsed.status == FOTS_OK);
+    }
+}
+
+static void parse(const sql_function *function, sqlite3_context *context, int count, sqlite3_value **values)
+{
+    static const char *const names[] = {"date", "local time", "instant"};
+    const int form = function->call->form;
+    fots_parse_moment_result parsed;
+    if (!get_parsed(function, context, count, values, &parsed)
+        || !sql_check_text(context, names[form], sql_text_of(values[0]), parsed.status, parsed.position)) {
+        return;
+    }
+    if (form == SQL_DATE) {
+        set_date(context, names[form], (fots_date_result){FOTS_OK, parsed.date});
+    } else if (form == SQL_LOCAL) {
+        set_local(context, names[form], FOTS_OK, parsed.date, parsed.time);
+    } else {
+        set_instant(context, names[form], fots_moment_new(parsed.date, parsed.time, parsed.offset));
+    }
+}
+
+#define FORMAT_BYTES (FOTS_MAX_ITEMS * FOTS_MAX_ITEM_LENGTH)
+
+static void format(const sql_function *function, sqlite3_context *context, int count, sqlite3_value **values)
+{
+    char bytes[FORMAT_BYTES];
+    const fots_format *made;
+    fots_moment moment = {{0}, {0}, 0};
+    fots_length_result printed;
+    if (function->call->form == SQL_DATE ? !get_date(context, values[0], &moment.date) : !get_local(context, values[0], &moment)) {
+        return;
+    }
+    if (!get_format(function, context, count, values, 1, &made)) {
+        return;
+    }
+    printed = function->call->form == SQL_DATE ? fots_date_format(moment.date, made, bytes, sizeof bytes)
+                                               : fots_pair_format(moment.date, moment.time, made, bytes, sizeof bytes);
+    if (sql_check(context, "format", printed.status)) {
+        set_text(context, bytes, printed.length);
+    }
+}
+
+static void format_zoned(const sql_function *function, sqlite3_context *context, int count, sqlite3_value **values)
+{
+    char bytes[FORMAT_BYTES];
+    const fots_format *made;
+    const fots_zone *zone;
+    fots_moment moment;
+    if (get_instant(context, values[0], &moment) && get_zone(context, values[1], &zone) && get_format(function, context, count, values, 2, &made)) {
+        const fots_length_result printed = fots_moment_format_in_zone(moment, zone, made, bytes, sizeof bytes);
+        if (sql_check(context, "format", printed.status)) {
+            set_text(context, bytes, printed.length);
+        }
+    }
+}
+
+static void recurrence_text(const sql_function *function, sqlite3_context *context, int count, sqlite3_value **values)
+{
+    const sql_text text = sql_text_of(values[0]);
+    const fots_recurrence_text_result found = fots_recurrence_text(text.bytes, text.length);
+    (void)function, (void)count;
+    if (sql_check_text(context, "recurrence", text, found.status, found.position)) {
+        set_text(context, found.bytes, found.length);
+    }
+}
+
+const sql_call sql_text_calls[] = {
+    {"cal_valid", 1, 2, valid, NULL, NULL, NULL, SQL_DATE, 0},
+    {"cal_valid_local", 1, 2, valid, NULL, NULL, NULL, SQL_LOCAL, 0},
+    {"cal_valid_instant", 1, 2, valid, NULL, NULL, NULL, SQL_INSTANT, 0},
+    {"cal_parse", 1, 2, parse, NULL, NULL, NULL, SQL_DATE, 0},
+    {"cal_parse_local", 1, 2, parse, NULL, NULL, NULL, SQL_LOCAL, 0},
+    {"cal_parse_instant", 1, 2, parse, NULL, NULL, NULL, SQL_INSTANT, 0},
+    {"cal_format", 2, 2, format, NULL, NULL, NULL, SQL_DATE, 0},
+    {"cal_format_local", 2, 2, format, NULL, NULL, NULL, SQL_LOCAL, 0},
+    {"cal_format_zoned", 3, 3, format_zoned, NULL, NULL, NULL, SQL_INSTANT, 1},
+    {"cal_recurrence_text", 1, 1, recurrence_text, NULL, NULL, NULL, 0, 0},
+    SQL_NO_CALL,
+};

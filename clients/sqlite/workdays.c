@@ -1,0 +1,163 @@
+/* Functions of working days. cal_calendar(day [, weekmask]) is an aggregate. Its result is a blob: the
+ * weekmask, and the holidays in order. */
+#include "values.h"
+SQLITE_EXTENSION_INIT3
+
+#include <string.h>
+
+#include "../sql/holidays.h"
+
+/* ---- the aggregate */
+
+typedef struct collected {
+    fots_date *days;
+    size_t length, room;
+    int32_t weekmask;
+    int has_weekmask;
+} collected;
+
+static void calendar_step(sqlite3_context *context, int count, sqlite3_value **values)
+{
+    collected *const all = sqlite3_aggregate_context(context, sizeof *all);
+    fots_date day;
+    if (!all) {
+        sqlite3_result_error_nomem(context);
+        return;
+    }
+    if (count == 2 && sqlite3_value_type(values[1]) != SQLITE_NULL) {
+        if (!get_number(context, values[1], &all->weekmask)) {
+            return;
+        }
+        all->has_weekmask = 1;
+    }
+    if (sqlite3_value_type(values[0]) == SQLITE_NULL || !get_date(context, values[0], &day)) {
+        return;
+    }
+    if (all->length == all->room) {
+        const size_t room = all->room == 0 ? 64 : 2 * all->room;
+        fots_date *const days = sqlite3_realloc64(all->days, room * sizeof *days);
+        if (!days) {
+            sqlite3_result_error_nomem(context);
+            return;
+        }
+        all->days = days;
+        all->room = room;
+    }
+    all->days[all->length++] = day;
+}
+
+static void calendar_final(sqlite3_context *context)
+{
+    static const fots_date none = {0};
+    collected *const all = sqlite3_aggregate_context(context, 0);
+    const size_t length = all && all->length > 0 ? sql_sort_holidays(all->days, all->length) : 0;
+    const uint32_t weekmask = all && all->has_weekmask ? (uint32_t)all->weekmask : FOTS_MONDAY_TO_FRIDAY;
+    const fots_date *const days = length > 0 ? all->days : &none;
+    if (sql_check(context, "cal_calendar", fots_workdays_new(weekmask, days, length).status)) {
+        fots_date bytes[1 + FOTS_MAX_HOLIDAYS];
+        bytes[0].julian_day = (int32_t)weekmask;
+        memcpy(bytes + 1, days, length * sizeof *days);
+        sqlite3_result_blob(context, bytes, (int)((1 + length) * sizeof *bytes), SQLITE_TRANSIENT);
+    }
+    if (all) {
+        sqlite3_free(all->days);
+    }
+}
+
+int sql_add_calendar(sqlite3 *database)
+{
+    const int flags = SQLITE_UTF8 | SQLITE_DETERMINISTIC | SQLITE_INNOCUOUS;
+    const int status = sqlite3_create_function_v2(database, "cal_calendar", 1, flags, NULL, NULL, calendar_step, calendar_final, NULL);
+    return status != SQLITE_OK
+        ? status
+        : sqlite3_create_function_v2(database, "cal_calendar", 2, flags, NULL, NULL, calendar_step, calendar_final, NULL);
+}
+
+/* ---- functions of the result */
+
+/* The calendar of an argument, or Monday to Friday without it. */
+static int get_workdays(const sql_function *function, sqlite3_context *context, int count, sqlite3_value **values, int index, const fots_workdays **workdays)
+{
+    sql_shared *const all = function->shared;
+    const void *const blob = index < count ? sqlite3_value_blob(values[index]) : NULL;
+    const int length = index < count ? sqlite3_value_bytes(values[index]) : 0, unit = (int)sizeof(fots_date);
+    const unsigned place = all->next;
+    fots_workdays_result made;
+    unsigned at;
+    *workdays = &all->weekdays;
+    if (index >= count) {
+        return 1;
+    }
+    for (at = 0; at < SQL_CALENDARS; at++) {
+        if (length > 0 && all->calendars[at].length == length && memcmp(all->calendars[at].blob, blob, (size_t)length) == 0) {
+            *workdays = &all->calendars[at].workdays;
+            return 1;
+        }
+    }
+    if (sqlite3_value_type(values[index]) != SQLITE_BLOB || length < unit || length % unit != 0 || length > (int)sizeof all->calendars[0].blob) {
+        sqlite3_result_error(context, "expected a result of cal_calendar", -1);
+        return 0;
+    }
+    all->calendars[place].length = 0;
+    memcpy(all->calendars[place].blob, blob, (size_t)length);
+    made = fots_workdays_new((uint32_t)all->calendars[place].blob[0].julian_day, all->calendars[place].blob + 1, (size_t)(length / unit - 1));
+    if (!sql_check(context, "calendar", made.status)) {
+        return 0;
+    }
+    all->calendars[place].workdays = made.workdays;
+    all->calendars[place].length = length;
+    all->next = (place + 1) % SQL_CALENDARS;
+    *workdays = &all->calendars[place].workdays;
+    return 1;
+}
+
+static void between(const sql_function *function, sqlite3_context *context, int count, sqlite3_value **values)
+{
+    fots_date date, other;
+    const fots_workdays *workdays;
+    if (get_date(context, values[0], &date) && get_date(context, values[1], &other)
+        && get_workdays(function, context, count, values, 2, &workdays)) {
+        const fots_number_result found = fots_workdays_between(workdays, date, other);
+        set_number(context, function->call->name, found.status, found.number);
+    }
+}
+
+static void add(const sql_function *function, sqlite3_context *context, int count, sqlite3_value **values)
+{
+    fots_date date;
+    int32_t days;
+    const fots_workdays *workdays;
+    if (get_date(context, values[0], &date) && get_number(context, values[1], &days)
+        && get_workdays(function, context, count, values, 2, &workdays)) {
+        set_date(context, function->call->name, fots_workdays_add(workdays, date, days));
+    }
+}
+
+static void is_workday(const sql_function *function, sqlite3_context *context, int count, sqlite3_value **values)
+{
+    fots_date date;
+    const fots_workdays *workdays;
+    if (get_date(context, values[0], &date) && get_workdays(function, context, count, values, 1, &workdays)) {
+        const fots_component_result found = fots_workdays_contains(workdays, date);
+        set_number(context, function->call->name, found.status, found.number);
+    }
+}
+
+static void adjust(const sql_function *function, sqlite3_context *context, int count, sqlite3_value **values)
+{
+    fots_date date;
+    uint32_t convention;
+    const fots_workdays *workdays;
+    if (get_date(context, values[0], &date) && get_name(context, &sql_conventions, count, values, 1, FOTS_UNADJUSTED, &convention)
+        && get_workdays(function, context, count, values, 2, &workdays)) {
+        set_date(context, function->call->name, fots_workdays_adjust(workdays, date, convention));
+    }
+}
+
+const sql_call sql_workday_calls[] = {
+    {"cal_workdays", 2, 3, between, NULL, NULL, NULL, 0, 0},
+    {"cal_add_workdays", 2, 3, add, NULL, NULL, NULL, 0, 0},
+    {"cal_is_workday", 1, 2, is_workday, NULL, NULL, NULL, 0, 0},
+    {"cal_adjust", 2, 3, adjust, NULL, NULL, NULL, 0, 0},
+    SQL_NO_CALL,
+};
