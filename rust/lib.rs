@@ -206,6 +206,7 @@ pub mod zone {
 #[cfg(doctest)]
 #[doc = include_str!("../docs/RUST.md")]
 #[doc = include_str!("../docs/COLUMNS.md")]
+#[cfg_attr(feature = "std", doc = include_str!("../docs/COOKBOOK.md"))]
 struct Pages;
 
 #[cfg(test)]
