@@ -204,6 +204,7 @@ pub mod zone {
 
 /// The pages for Rust, whose examples are tested.
 #[cfg(doctest)]
+#[doc = include_str!("../README.md")]
 #[doc = include_str!("../docs/RUST.md")]
 #[doc = include_str!("../docs/COLUMNS.md")]
 #[cfg_attr(feature = "std", doc = include_str!("../docs/COOKBOOK.md"))]

@@ -1,5 +1,7 @@
 """Tests of the columns with series of pandas."""
 
+import pathlib
+import re
 import unittest
 
 import numpy
@@ -11,6 +13,13 @@ from fotsevindre import Date, OffsetDateTime, PlainDateTime, SignedDuration, Tim
 
 class Pandas(unittest.TestCase):
     DAYS = pandas.Series(pandas.to_datetime(["2024-02-29", None, "2024-12-31"]), index=["a", "b", "c"])
+
+    def test_the_first_page(self):
+        page = (pathlib.Path(__file__).resolve().parents[3] / "README.md").read_text(encoding="utf-8")
+        block, days = re.search(r"```python\n(invoices = .*?)  # (.*?)\n```", page, re.DOTALL).groups()
+        names = {"pandas": pandas, "fotsevindre": fotsevindre}
+        exec(block, names)
+        self.assertEqual(", ".join(map(str, names["due"].dt.date)), days)
 
     def test_series_in_and_out(self):
         found = fotsevindre.dates_to_calendar_dates(self.DAYS)
