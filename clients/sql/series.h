@@ -4,6 +4,7 @@
 #define FOTSEVINDRE_SQL_SERIES_H
 
 #include <stdio.h>
+#include <stdlib.h>
 #include <string.h>
 
 #include "fotsevindre.h"
@@ -159,39 +160,35 @@ typedef struct sql_times {
     fots_moment page[SQL_PAGE];
 } sql_times;
 
-/* Copies the text of a recurrence without COUNT. */
+/* Copies the text of a recurrence, and cuts COUNT out of it. */
 static inline void sql_times_text(sql_times *all, const fots_recurrence_text_result *text)
 {
     char *count;
     memcpy(all->text, text->bytes, sizeof text->bytes);
     count = strstr(all->text, ";COUNT=");
     if (count) {
-        const char *const rest = strchr(count + 1, ';');
-        memmove(count, rest ? rest : "", rest ? strlen(rest) + 1 : 1);
+        char *rest;
+        all->count = (uint32_t)strtoul(count + 7, &rest, 10);
+        memmove(count, rest, strlen(rest) + 1);
     }
-    all->set = fots_recurrence_set_new(all->text, strlen(all->text), all->set.start);
+    all->has_until = strstr(all->text, ";UNTIL=") != NULL;
+    all->page_length = strstr(all->text, ";BYSETPOS=") ? SQL_SMALL_PAGE : SQL_PAGE;
 }
 
 /* Sets the times from `first` to `last`. `zone` is NULL for local times. */
 static inline sql_fault sql_times_begin(sql_times *all, const char *text, size_t length, fots_moment start, const fots_zone *zone,
     fots_moment first, fots_moment last)
 {
-    const fots_parse_recurrence_result parsed = fots_recurrence_parse(text, length);
     const fots_recurrence_text_result printed = fots_recurrence_text(text, length);
     const fots_duration nanosecond = {0, 1};
-    sql_fault fault = {parsed.status, parsed.position};
+    const sql_fault fault = {printed.status, printed.position};
     memset(all, 0, sizeof *all);
-    if (parsed.status != FOTS_OK) {
-        return fault;
-    }
-    all->set.start = start;
     sql_times_text(all, &printed);
+    all->set = fots_recurrence_set_new(all->text, strlen(all->text), start);
     all->zone = zone;
     all->first = first;
     all->last = last;
-    all->count = all->left = parsed.recurrence.count;
-    all->has_until = parsed.recurrence.until.julian_day != FOTS_NO_VALUE;
-    all->page_length = parsed.recurrence.set_positions_length > 0 ? SQL_SMALL_PAGE : SQL_PAGE;
+    all->left = all->count;
     all->is_counting = zone && all->count > 0;
     all->from = all->count > 0 || fots_moment_compare(first, start).number < 0 ? start : first;
     all->after = fots_moment_saturating_sub(first, nanosecond).moment;
