@@ -1,4 +1,6 @@
-//! Values from and to the crate `chrono`.
+//! Values from and to the crate `chrono`, and its expressions.
+
+mod from_chrono;
 
 use chrono::{DateTime, FixedOffset, NaiveDate, NaiveDateTime, NaiveTime};
 use fotsevindre::{Date, Month, OffsetDateTime, PlainDateTime, SignedDuration, Time, UtcOffset, Weekday};
