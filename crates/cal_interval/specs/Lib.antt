@@ -1,0 +1,9 @@
+pub mod Form
+pub mod IntervalShape
+pub mod ErrorText
+pub mod Parsing
+pub mod Values
+pub mod Ranges
+pub mod RangeFields
+pub mod DateTimeRanges
+pub mod Repeats
