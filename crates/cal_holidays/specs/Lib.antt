@@ -1,3 +1,5 @@
 pub mod Epacts
 pub mod Easter
 pub mod ClosedForm
+pub mod Holidays
+pub mod HolidaySearch

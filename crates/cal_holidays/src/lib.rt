@@ -1,11 +1,18 @@
-//! Easter, by the Gregorian and by the Julian calendar.
+//! Easter, by the Gregorian and by the Julian calendar, and holidays by rules.
 #![tactic(auto)]
 
+pub mod day_list;
 mod gregorian;
+mod holiday_day;
+mod holiday_rule;
+mod holidays;
 mod julian;
 pub mod laws;
 
 pub use gregorian::easter;
+pub use holiday_day::HolidayDay;
+pub use holiday_rule::HolidayRule;
+pub use holidays::holidays_between;
 pub use julian::julian_easter;
 
 #[cfg(test)]
