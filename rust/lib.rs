@@ -165,9 +165,10 @@ pub mod recurrence {
     pub use crate::schedule::{ByDay, Frequency, Pattern, Rule, RuleDays, Values};
 }
 
-/// Rules of days, working days, periods and day counts. Functions on one date are methods of
-/// [`Date`].
+/// Rules of days, working days, holidays, periods and day counts. Functions on one date are methods
+/// of [`Date`].
 pub mod schedule {
+    pub use crate::cal_holidays::{CALENDARS, HolidayDay, HolidayRule, holidays_between};
     pub use crate::cal_schedule::{
         ByDay, CalendarUnit, Convention, DateRange, DayCount, Frequency, Pattern, Period, PeriodUnit, Rule, RuleDays, Steps,
         Values, Workdays, YearFraction,

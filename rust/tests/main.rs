@@ -1,5 +1,6 @@
 //! The tests of the crate.
 
+mod calendars;
 mod columns;
 mod conditions;
 mod drawn;

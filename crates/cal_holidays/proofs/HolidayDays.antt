@@ -33,8 +33,10 @@ on_or_after-every r y m d w s date has some n range is = found r some
   where
     same : is.start ≡ s
     same = calendar_date-one y m d is.start s is.range date is.start_is has
+
     n-is : n ≡ s + days_to w s
     n-is = omega (arith, same, is.from, is.within, is.weekday, weekday_at-is n, weekday_at-is s)
+
     found : (r : Option ℕ) → SomeIff r (s + days_to w s ≤ last_day) (s + days_to w s) → r ≡ Some n
     found None none = absurd (none (omega (arith, n-is, range)))
     found (Some k) some = ap Some (some.1 ∙ sym n-is)

@@ -1,6 +1,6 @@
 -- Lists of holidays: dates that are added, and lists with the same dates.
-use Rattle.std.proofs.Common.{◌≡◌, ◌⊎◌, ℕ, zero, suc, ◌+◌, ◌-◌, ◌<◌, ◌≤◌, ℤ, pos, ◌+ℤ◌, ◌-ℤ◌, List, length, get_or, take, Option, Some, None, inl, inr, refl, sym, ap, subst, ◌∙◌, arith}
-use Rattle.std.specs.Prelude.{◌↔◌, Contains, IfSome, IfNone, unsigned_abs}
+use Rattle.std.proofs.Common.{Bool, Bor, ◌≡◌, ◌⊎◌, ℕ, zero, suc, ◌+◌, ◌-◌, ◌<◌, ◌≤◌, ℤ, pos, ◌+ℤ◌, ◌-ℤ◌, List, length, get_or, take, Option, Some, None, inl, inr, refl, sym, ap, subst, ◌∙◌, arith}
+use Rattle.std.specs.Prelude.{◌↔◌, Contains, IfSome, IfNone, IsNone, option_map, unsigned_abs}
 use Rattle.std.specs.List.{insert}
 use Rattle.std.proofs.lemmas.Bool.{cases_lt}
 use Rattle.std.proofs.lemmas.Int.{ints}
@@ -9,7 +9,8 @@ use Rattle.std.proofs.lemmas.List.Edits.{get_or-insert_at, get_or-insert_below, 
 use Rattle.cal_time.specs.Counted.{IsRising}
 use Rattle.cal_time.specs.Date.{julian_day_at}
 use Rattle.cal_schedule.proofs.WorkdaysWeeks.{Rises, rises}
-use Rattle.cal_holidays.specs.Holidays.{AreMore, AreHolidays, IsHolidayFor, IsHoliday, IsHolidayOfYear}
+use Rattle.cal_schedule.specs.Workdays.{WorkWeek}
+use Rattle.cal_holidays.specs.Holidays.{AreMore, AreHolidays, AreWorkdays, IsHolidayFor, IsHoliday, IsHolidayOfYear}
 use Rattle.cal_holidays.specs.HolidaySearch.{IsHolidayIn, IsHolidayBy, AreAmongYears, year_of_number}
 use Rattle.cal_holidays.specs.declared.holiday_rule.HolidayRule.{HolidayRule}
 use Rattle.cal_holidays.proofs.DayLists.{IsInserted, rising_inserted, contains_inserted}
@@ -117,8 +118,8 @@ same_days xs ys r s has had =
     let shorter = no_shorter ys xs s r had in
     ext_get_or 0 xs ys (omega arith)
     (λ i h. let low = not_before xs ys r s has i h in
-        let high = not_before ys xs s r had i (omega arith) in
-        omega arith)
+    let high = not_before ys xs s r had i (omega arith) in
+    omega arith)
 
 -- There is one list of the holidays, and there are no more of them.
 pub holidays-one : (rules : List HolidayRule) (first last : ℕ) (xs ys : List ℕ) → AreHolidays rules first last xs → AreHolidays rules first last ys → xs ≡ ys
@@ -270,13 +271,13 @@ all_rules rules first last k most days rising each = record {
     λ h. let among = h.is.among in
         (each n).1
         (record {
-              rule = h.is.rule;
-              index = among.0;
-              below = omega (arith, among.1);
-              within = among.1;
-              rule_is = among.2;
-              by = record { year = h.year; is = record { from = h.from; through = h.through; is = h.is.is } };
-            }),
+          rule = h.is.rule;
+          index = among.0;
+          below = omega (arith, among.1);
+          within = among.1;
+          rule_is = among.2;
+          by = record { year = h.year; is = record { from = h.from; through = h.through; is = h.is.is } };
+        }),
   );
 }
 
@@ -288,3 +289,24 @@ same_or X A B C f g = (
 
 pub none_or : (A C : Type 0) → ¬ A → C ↔ A ⊎ C
 none_or A C none = (λ c. inr c, λ h. elim h [ inl a ↦ absurd (none a) | inr c ↦ c ])
+
+-- The clauses of the lists and of the working days leave one result.
+pub lists-one : (rules : List HolidayRule) (first last most : ℕ) (r s : Option (Bor (List ℕ))) → IfSome r (λ days. AreHolidays rules first last days.now)
+    → (IsNone r ↔ AreMore (IsHoliday rules first last) most) → IfSome s (λ days. AreHolidays rules first last days.now) → (IsNone s ↔ AreMore (IsHoliday rules first last) most)
+    → option_map (λ days. days.now) r ≡ option_map (λ days. days.now) s
+lists-one rules first last most None None f full g also = refl
+lists-one rules first last most (Some xs) (Some ys) f full g also = ap Some (holidays-one rules first last xs.now ys.now f g)
+lists-one rules first last most None (Some ys) f full g also = let none = also.1 (full.0 refl) in cc
+lists-one rules first last most (Some xs) None f full g also = let none = full.1 (also.0 refl) in cc
+
+week-one : (a b : WorkWeek) → a.marks ≡ b.marks → a.holidays ≡ b.holidays → a ≡ b
+week-one a b e f =
+    let week : List Bool → List ℕ → WorkWeek = λ m h. record { marks = m; holidays = h } in
+    ap (λ m. week m a.holidays) e ∙ ap (λ h. week b.marks h) f
+
+pub weeks-one : (marks : List Bool) (rules : List HolidayRule) (first last most : ℕ) (r s : Option WorkWeek) → IfSome r (AreWorkdays marks rules first last)
+    → (IsNone r ↔ AreMore (IsHoliday rules first last) most) → IfSome s (AreWorkdays marks rules first last) → (IsNone s ↔ AreMore (IsHoliday rules first last) most) → r ≡ s
+weeks-one marks rules first last most None None f full g also = refl
+weeks-one marks rules first last most (Some a) (Some b) f full g also = ap Some (week-one a b (f.marks_are ∙ sym g.marks_are) (holidays-one rules first last a.holidays b.holidays f.holidays g.holidays))
+weeks-one marks rules first last most None (Some b) f full g also = let none = also.1 (full.0 refl) in cc
+weeks-one marks rules first last most (Some a) None f full g also = let none = full.1 (also.0 refl) in cc

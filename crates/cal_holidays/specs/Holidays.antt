@@ -1,10 +1,11 @@
 -- Holidays by rules: a day in each year, moved by its weekday.
-use Rattle.std.specs.Prelude.{◌≡◌, ℕ, ◌+◌, ◌<◌, ◌≤◌, ◌↔◌, ℤ, pos, ◌+ℤ◌, ◌≤ℤ◌, List, length, Contains, slice_index_or}
+use Rattle.std.specs.Prelude.{◌≡◌, ℕ, ◌+◌, ◌<◌, ◌≤◌, ◌↔◌, ℤ, pos, ◌+ℤ◌, ◌≤ℤ◌, Bool, List, length, Contains, slice_index_or}
 use Rattle.cal_time.specs.Counted.{IsRising}
 use Rattle.cal_time.specs.Date.{IsDate, IsYear, HasCalendarDate, julian_day_at, weekday_at}
 use Rattle.cal_time.specs.Month.{number}
 use Rattle.cal_time.specs.Weekday.{index}
 use Rattle.cal_schedule.specs.Weekdays.{IsNthWeekday, IsLastWeekday}
+use Rattle.cal_schedule.specs.Workdays.{WorkWeek}
 use Rattle.cal_holidays.specs.Easter.{IsEaster, IsJulianEaster}
 use Rattle.cal_holidays.specs.declared.holiday_day.HolidayDay.{HolidayDay}
 use Rattle.cal_holidays.specs.declared.holiday_day.HolidayDay.TheVariants.{Fixed, Nth, Last, OnOrAfter, Easter, JulianEaster}
@@ -64,6 +65,11 @@ pub record IsHoliday (rules : List HolidayRule) (first last n : ℕ) : Type 0 wh
 pub record AreHolidays (rules : List HolidayRule) (first last : ℕ) (days : List ℕ) : Type 0 where
   pub rising : IsRising julian_day_at days
   pub each : (n : ℕ) → Contains days n ↔ IsHoliday rules first last n
+
+-- The week has these marks, and the holidays of the rules from one day through another.
+pub record AreWorkdays (marks : List Bool) (rules : List HolidayRule) (first last : ℕ) (week : WorkWeek) : Type 0 where
+  pub marks_are : week.marks ≡ marks
+  pub holidays : AreHolidays rules first last week.holidays
 
 -- More than some number of days have a property.
 pub record AreMore (Has : ℕ → Type 0) (most : ℕ) : Type 0 where

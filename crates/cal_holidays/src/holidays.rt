@@ -36,7 +36,7 @@ fn add_holiday(
         ↔ IsHolidayIn rule first last (year_of_number year) n ⊎ Contains (take count days.old) n) }
     ensures full { IfNone result (AreMore
         (λ n. IsHolidayIn rule first last (year_of_number year) n
-            ⊎ Contains (take count days.old) n)
+        ⊎ Contains (take count days.old) n)
         (length days.old)) }
 {
     match rule.holiday_for(year_of_number(year)) {

@@ -1,6 +1,7 @@
 //! Easter, by the Gregorian and by the Julian calendar, and holidays by rules.
 #![tactic(auto)]
 
+mod calendars;
 pub mod day_list;
 mod gregorian;
 mod holiday_day;
@@ -8,12 +9,15 @@ mod holiday_rule;
 mod holidays;
 mod julian;
 pub mod laws;
+mod workdays;
 
+pub use calendars::CALENDARS;
 pub use gregorian::easter;
 pub use holiday_day::HolidayDay;
 pub use holiday_rule::HolidayRule;
 pub use holidays::holidays_between;
 pub use julian::julian_easter;
+pub use workdays::workdays_from_rules;
 
 #[cfg(test)]
 mod tests;

@@ -5,6 +5,7 @@ use cal_time::{Date, Month};
 use std::process::Abort;
 
 mod one_answer;
+mod rules;
 
 fn date(rt: &impl Abort, year: i32, (month, day): (u8, u8)) -> Date {
     let month = Month::try_from(month).expect(rt, "no month");

@@ -32,7 +32,7 @@ returns-in-Some-clause-full c =
     let same = is_holiday-date a.rule (year_of_number a.year) a.first a.last date value every within.0 within.1 in
     if_none-map c.add_date.result _ _
     (are_more-map (λ n. (n ≡ date) ⊎ Contains (take a.count a.days.now) n) (λ n. IsHolidayIn a.rule a.first a.last (year_of_number a.year) n ⊎ Contains (take a.count a.days.now) n)
-      (length a.days.now) (λ n h. elim h [ inl is ↦ inl ((same n).0 is) | inr was ↦ inr was ]))
+    (length a.days.now) (λ n h. elim h [ inl is ↦ inl ((same n).0 is) | inr was ↦ inr was ]))
     c.add_date.ensures.full
 
 pub returns-in_default-clause-days : goal.returns-in_default-clause-days
@@ -43,8 +43,8 @@ returns-in_default-clause-days c n =
     let every = rw year at c.in-Some.ensures.every in
     none_or (IsHolidayIn a.rule a.first a.last (year_of_number a.year) n) (Contains (take a.count a.days.now) n)
     (λ is. let date : c.in-Some.date ≡ n = cc (every n is.is) in
-        let within = rw date at c.is_within.ensures in
-        cc (within.1 (is.from, is.through), c.if-is_within.false))
+    let within = rw date at c.is_within.ensures in
+    cc (within.1 (is.from, is.through), c.if-is_within.false))
 
 pub returns-in_default-2-clause-days : goal.returns-in_default-2-clause-days
 returns-in_default-2-clause-days c n =
