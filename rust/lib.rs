@@ -143,7 +143,8 @@ pub mod error {
 /// Formats for printing and parsing, in the syntax of `strftime` or of the crate `time`.
 pub mod format {
     pub use crate::cal_format::{
-        DateFormat, DateTimeFormat, Format, FormatError, OffsetDateTimeFormat, OffsetFormat, ParseError, TimeFormat,
+        DateFormat, DateTimeFormat, Format, FormatError, LenientDateFormat, LenientDateTimeFormat, LenientFormat,
+        LenientOffsetDateTimeFormat, LenientTimeFormat, OffsetDateTimeFormat, OffsetFormat, ParseError, TimeFormat,
     };
     pub use crate::formats::{FormatText, UnsupportedItem};
 }

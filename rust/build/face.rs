@@ -116,7 +116,7 @@ const DERIVES: &[(&str, &[&str], &[&str])] = &[
     ("cal_units", &["ShortText"], &["Copy"]),
     (
         "cal_format",
-        &["Format", "Shown", "DateFormat", "TimeFormat", "OffsetFormat", "DateTimeFormat", "OffsetDateTimeFormat"],
+        &["Format", "Shown", "DateFormat", "TimeFormat", "OffsetFormat", "DateTimeFormat", "OffsetDateTimeFormat", "LenientFormat", "LenientDateFormat", "LenientTimeFormat", "LenientDateTimeFormat", "LenientOffsetDateTimeFormat"],
         &["Debug"],
     ),
     ("cal_recurrence", &["ZonedSet", "Occurrences", "CountedZonedSet"], &["Debug"]),

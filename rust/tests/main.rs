@@ -9,6 +9,7 @@ mod errors;
 mod every_day;
 mod formats;
 mod holidays;
+mod lenient;
 mod moments;
 mod rounding;
 mod rows;

@@ -6,7 +6,7 @@ use Rattle.cal_format.specs.declared.item.Item.TheVariants as item
 use Rattle.cal_format.specs.declared.item.Component.{Component}
 use Rattle.cal_format.specs.declared.item.Component.TheVariants.{Year, Hour, OffsetHour, OffsetSign, TimestampSign}
 use Rattle.cal_format.specs.declared.moment.Moment.{Moment}
-use Rattle.cal_format.specs.Form.{numbered_name}
+use Rattle.cal_format.specs.Form.{numbered_name, component_number, numbers_of}
 use Rattle.cal_format.specs.Moment.{number, timestamp_of, width, moment_of_date, moment_of_time, moment_of_offset}
 use Rattle.cal_time.specs.Digits.{decimals}
 use Rattle.cal_format.specs.Reading.{name_component, item_component, is_within, lies_within, shows_within, show_within, are_date_items, are_time_items, are_date_time_items, are_offset_items}
@@ -75,15 +75,21 @@ within low high _ h = h
 
 -- ---- all items
 abbrev pub AreAlike : List Item → Moment → Moment → Type 0
-AreAlike items v m = (text_of items v ≡ text_of items m) × (AreHeld v items → AreHeld m items)
+AreAlike items v m = (text_of items v ≡ text_of items m) × (AreHeld v items → AreHeld m items) × (numbers_of items v ≡ numbers_of items m)
+
+number-alike : (o : Option Component) (v m : Moment) → AlikeAt o v m → component_number v o ≡ component_number m o
+number-alike None v m a = refl
+number-alike (Some c) v m a = a.number_is
 
 all-alike : (low high : ℕ) (items : List Item) (v m : Moment) → ((c : Component) → IsTrue (is_within low high c) → Alike c v m) → IsTrue (show_within low high items) → AreAlike items v m
-all-alike low high [] v m each h = (refl, λ k. k)
+all-alike low high [] v m each h = (refl, λ k. k, refl)
 all-alike low high (i ∷ items) v m each h =
     let both = both_tests (shows_within low high i) (show_within low high items) h in
-    let first = text-alike i v m (part-alike low high (item_component i) v m each (within low high i both.0)) in
+    let part = part-alike low high (item_component i) v m each (within low high i both.0) in
+    let first = text-alike i v m part in
+    let number = number-alike (item_component i) v m part in
     let rest = all-alike low high items v m each both.1 in
-    ((λ j. first.0 j ++ rest.0 j), λ k. (first.1 k.0, rest.1 k.1))
+    ((λ j. first.0 j ++ rest.0 j), (λ k. (first.1 k.0, rest.1 k.1)), λ j. number j ∷ rest.2 j)
 
 pub dates-alike : (items : List Item) (v m : Moment) → v.date ≡ m.date → IsTrue (are_date_items items) → AreAlike items v m
 dates-alike items v m e h = all-alike 0 14 items v m (λ c w. by-part c v m (moment_of_date v.date) (moment_of_date m.date) (ap moment_of_date e) (of-date c v w) (of-date c m w)) h

@@ -79,7 +79,7 @@ pub first-shown : (a b : Bool) (x m n : ℕ) → (IsTrue a → x ≡ n) → m �
 first-shown true b x m n f e = f refl
 first-shown false b x m n f e = e
 
-own-in : (items : List Item) (c : Component) (v : Moment) → number_in items (numbers_of items v) c ≡ (if any_shows c items then number c v else 0)
+pub own-in : (items : List Item) (c : Component) (v : Moment) → number_in items (numbers_of items v) c ≡ (if any_shows c items then number c v else 0)
 own-in [] c v = refl
 own-in (i ∷ items) c v = first-shown (shows c i) (any_shows c items) (item_number v i) (number_in items (numbers_of items v) c) (number c v) (own-shown (item_component i) c v) (own-in items c v)
 

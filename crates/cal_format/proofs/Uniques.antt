@@ -33,13 +33,13 @@ use Rattle.cal_format.proofs.Fractions.{fraction_number, value-some, fraction-no
 use Rattle.cal_format.proofs.Shapes.{item-each}
 
 -- ---- an item ends at one place, since its shape does
-same-length : (r s : List ℕ) → unmatched_bytes End r ≡ unmatched_bytes End s → length r ≡ length s
+pub same-length : (r s : List ℕ) → unmatched_bytes End r ≡ unmatched_bytes End s → length r ≡ length s
 same-length [] [] e = refl
 same-length [] (y ∷ ys) e = absurd (omega (arith, e, unmatched_bytes-done, unmatched_bytes-more y ys))
 same-length (x ∷ xs) [] e = absurd (omega (arith, e, unmatched_bytes-done, unmatched_bytes-more x xs))
 same-length (x ∷ xs) (y ∷ ys) e = omega (arith, e, unmatched_bytes-more x xs, unmatched_bytes-more y ys)
 
-exact-split : (ds es r s : List ℕ) → length ds ≡ length es → ds ++ r ≡ es ++ s → (ds ≡ es) × (r ≡ s)
+pub exact-split : (ds es r s : List ℕ) → length ds ≡ length es → ds ++ r ≡ es ++ s → (ds ≡ es) × (r ≡ s)
 exact-split [] [] r s long e = (refl, e)
 exact-split [] (y ∷ ys) r s long e = absurd (omega (arith, long))
 exact-split (x ∷ xs) [] r s long e = absurd (omega (arith, long))
@@ -56,7 +56,7 @@ item-split i n m r s h k p q e =
     exact-split (numbered_item i n) (numbered_item i m) r s (omega (arith, same, ap length e, length-append (numbered_item i n) r, length-append (numbered_item i m) s)) e
 
 -- ---- names, by their second and third letters
-abbrev month_by : List ℕ → ℕ
+abbrev pub month_by : List ℕ → ℕ
 month_by l = get_or MONTHS ((get_or l 1 0 + get_or l 2 0) % 32) 0
 
 month-by : (m : Month) → month_by (month.name m) ≡ month.number m
@@ -67,7 +67,7 @@ short_month-by : (m : Month) → month_by (short_month m) ≡ month.number m
 short_month-by January = refl
 short_month-by _ = refl
 
-abbrev weekday_by : List ℕ → ℕ
+abbrev pub weekday_by : List ℕ → ℕ
 weekday_by l = get_or (1 ∷ 0 ∷ 2 ∷ 0 ∷ 3 ∷ 5 ∷ 0 ∷ 0 ∷ 4 ∷ 6 ∷ []) ((get_or l 1 0 * 6 + get_or l 2 0) % 11) 0
 
 weekday-by : (w : Weekday) → weekday_by (weekday.name w) ≡ weekday.index w
@@ -120,7 +120,7 @@ fraction-value n low = elim (cases_lt 0 n) as (λ _. fraction_number (drop 1 (fr
   | inr none ↦ (let z : n ≡ 0 = omega arith in ap (λ l. fraction_number (drop 1 l)) (fraction-none n z) ∙ sym z)
 ]
 
-item-number : (i : Item) (n m : ℕ) → IsNumber i n → IsNumber i m → numbered_item i n ≡ numbered_item i m → n ≡ m
+pub item-number : (i : Item) (n m : ℕ) → IsNumber i n → IsNumber i m → numbered_item i n ≡ numbered_item i m → n ≡ m
 item-number (item.Literal b) n m h k e = h ∙ sym k
 item-number (item.Number c p) n m h k e = sym (value-item c p n h) ∙ ap (fold step 0) e ∙ value-item c p m k
 item-number (item.Signed c p) n m h k e = sym (value-item c p n h) ∙ ap (λ l. fold step 0 (drop 1 l)) e ∙ value-item c p m k

@@ -303,7 +303,7 @@ fn word_length(word: &[u8], text: &[u8]) -> usize
 
 /// Returns the number of bytes of white space at the front of a text.
 #[tactic(auto, unfolding(crate::specs::Description::spaces))]
-fn spaces(text: &[u8]) -> usize
+pub(crate) fn spaces(text: &[u8]) -> usize
     ensures value { result ≡ spaces text.now }
     ensures max { result ≤ length text.now }
 {
@@ -319,7 +319,7 @@ fn spaces(text: &[u8]) -> usize
     }
 }
 
-fn is_space(byte: u8) -> bool
+pub(crate) fn is_space(byte: u8) -> bool
     ensures { result ≡ is_space byte }
 {
     byte == b' ' || byte == b'\t' || byte == b'\n' || byte == 12 || byte == b'\r'

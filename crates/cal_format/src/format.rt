@@ -189,7 +189,7 @@ impl Format {
         Ok(directive.used)
     }
 
-    fn extend(&mut self, items: &[Item])
+    pub(crate) fn extend(&mut self, items: &[Item])
         requires { length self.old + length items.now ≤ 64 }
         ensures appended { self.new ≡ self.old ++ items.now }
         ensures length { length self.new ≡ length self.old + length items.now }
@@ -201,7 +201,7 @@ impl Format {
     }
 
     #[inline(always)]
-    fn push(&mut self, item: Item)
+    pub(crate) fn push(&mut self, item: Item)
         requires { length self.old < 64 }
         ensures appended { self.new ≡ self.old ++ item ∷ [] }
         ensures length { length self.new ≡ length self.old + 1 }

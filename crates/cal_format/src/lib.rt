@@ -19,6 +19,10 @@ mod form_names;
 mod format;
 mod item;
 mod laws;
+mod lenient;
+mod lenient_formats;
+mod lenient_parsing;
+mod letters;
 mod moment;
 mod offset_parts;
 mod one_pass;
@@ -30,11 +34,16 @@ mod time_parts;
 mod timestamp;
 mod value;
 mod value_formats;
+mod variants;
 
 pub use error::ParseError;
 pub use fields::Fields;
 pub use format::{Format, FormatError};
 pub use item::{Component, Item, Name, Padding, Syntax};
+pub use lenient::LenientFormat;
+pub use lenient_formats::{
+    LenientDateFormat, LenientDateTimeFormat, LenientOffsetDateTimeFormat, LenientTimeFormat,
+};
 pub use moment::Moment;
 pub use value_formats::{
     DateFormat, DateTimeFormat, OffsetDateTimeFormat, OffsetFormat, TimeFormat,

@@ -82,7 +82,7 @@ fn parse_in_steps(items: &Format, text: &[u8]) -> Result<Moment, ParseError>
     }
 }
 
-fn unexpected(position: usize, length: usize) -> ParseError
+pub(crate) fn unexpected(position: usize, length: usize) -> ParseError
     requires { position ≤ length }
     ensures byte { position < length → result ≡ UnexpectedByte position }
     ensures end { position ≡ length → result ≡ UnexpectedEnd position }
@@ -95,7 +95,7 @@ fn unexpected(position: usize, length: usize) -> ParseError
 }
 
 /// Returns the moment with these numbers, or why there is none.
-fn moment_of_numbers(format: &Format, numbers: &[u64]) -> Result<Moment, ParseError>
+pub(crate) fn moment_of_numbers(format: &Format, numbers: &[u64]) -> Result<Moment, ParseError>
     requires fit { AreNumbers format.now numbers.now }
     ensures every { (v : Moment) → Holds format.now v → numbers.now ≡ numbers_of format.now v
         → result ≡ Ok v }

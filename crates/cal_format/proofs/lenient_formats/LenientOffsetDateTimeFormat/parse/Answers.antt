@@ -1,0 +1,33 @@
+use Rattle.std.proofs.Common.{◌≡◌, ◌∙◌, ap, sym, subst, Ok, Err}
+use Rattle.cal_datetime.specs.DateTime.{date_time, date_at, time_at}
+use Rattle.cal_datetime.specs.DateTimeLaws.{IsDateTime-date_time, date_at-date_time, time_at-date_time, date_time-parts}
+use Rattle.cal_datetime.specs.OffsetDateTime.{LocalAndOffset}
+use Rattle.cal_format.specs.Lenient.{IsRead}
+use Rattle.cal_format.specs.Moment.{moment_of_offset_date_time}
+use Rattle.cal_format.proofs.Known.{IsParsedLeniently, moment-every}
+use Rattle.cal_format.proofs.Outcomes.{result-or, no-result}
+use Rattle.cal_format.proofs.lenient_formats.LenientOffsetDateTimeFormat.parse.Goals as goal
+
+pub returns-in-Err-clause-every : goal.returns-in-Err-clause-every
+returns-in-Err-clause-every c m local range read =
+    let parsed : IsParsedLeniently c.self.inside.format c.self.inside.known c.args.text.now (Err c.in-Err.error) = record { every = c.in-Err.ensures.every; range = c.in-Err.ensures.range; value = c.in-Err.ensures.value; error = c.in-Err.ensures.error } in
+    absurd (no-result c.in-Err.error (moment_of_offset_date_time m) (moment-every _ _ _ _ c.self.invariant.0 c.self.invariant.1 parsed m local range (subst (λ f. IsRead f (moment_of_offset_date_time m) c.args.text.now) (sym c.self.view_is) read)))
+
+pub returns-in-Ok-clause-every : goal.returns-in-Ok-clause-every
+returns-in-Ok-clause-every c m local range read =
+    let parsed : IsParsedLeniently c.self.inside.format c.self.inside.known c.args.text.now (Ok c.in-Ok.moment) = record { every = c.in-Ok.ensures.every; range = c.in-Ok.ensures.range; value = c.in-Ok.ensures.value; error = c.in-Ok.ensures.error } in
+    let own = ap (result-or c.in-Ok.moment) (moment-every _ _ _ _ c.self.invariant.0 c.self.invariant.1 parsed m local range (subst (λ f. IsRead f (moment_of_offset_date_time m) c.args.text.now) (sym c.self.view_is) read)) in
+    ap Ok (c.new_in_offset.ensures.value ∙ (λ i. record { local = date_time (own i).date (own i).time; offset = (own i).offset }) ∙ (λ i. record { local = date_time-parts m.local local i; offset = m.offset }))
+
+pub returns-in-Ok-clause-value : goal.returns-in-Ok-clause-value
+returns-in-Ok-clause-value c =
+    let v = c.in-Ok.moment in
+    let range = c.in-Ok.ensures.range in
+    let z = date_time v.date v.time in
+    let below = range.time.below_day in
+    let d : date_at z ≡ v.date = date_at-date_time v.date v.time below in
+    let t : time_at z ≡ v.time = time_at-date_time v.date v.time below in
+    let m : LocalAndOffset = record { local = z; offset = v.offset } in
+    let same : v ≡ moment_of_offset_date_time m = λ i. record { date = sym d i; time = sym t i; offset = v.offset } in
+    rw c.new_in_offset.ensures.value
+    (IsDateTime-date_time v.date v.time range.date below, range.offset, subst (λ f. IsRead f (moment_of_offset_date_time m) c.args.text.now) c.self.view_is (subst (λ w. IsRead c.self.inside.format w c.args.text.now) same c.in-Ok.ensures.value))
