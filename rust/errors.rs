@@ -1,8 +1,8 @@
 //! Errors as the standard library has them.
 
 use crate::error::{
-    ComponentRange, ConversionRange, FormatError, InvalidVariant, ParseDurationError, ParseError, ParseRuleError, ParseSetError,
-    UnsupportedItem, ZoneError,
+    ComponentRange, ConversionRange, FormatError, IntervalError, InvalidVariant, ParseDurationError, ParseError, ParseIntervalError,
+    ParseRuleError, ParseSetError, UnsupportedItem, ZoneError,
 };
 use crate::format;
 use core::error::Error;
@@ -11,9 +11,11 @@ use core::fmt;
 impl Error for ComponentRange {}
 impl Error for ConversionRange {}
 impl Error for FormatError {}
+impl Error for IntervalError {}
 impl Error for InvalidVariant {}
 impl Error for ParseDurationError {}
 impl Error for ParseError {}
+impl Error for ParseIntervalError {}
 impl Error for ParseRuleError {}
 impl Error for ParseSetError {}
 impl Error for UnsupportedItem {}

@@ -1,5 +1,6 @@
 //! `FromStr` by the proved parsers, and periods and durations as ISO 8601 has them.
-use crate::error::{ParseDurationError, ParseError};
+use crate::error::{ParseDurationError, ParseError, ParseIntervalError};
+use crate::interval::{DateInterval, DateTimeInterval};
 use crate::text::{ShortText, date, duration, offset, offset_date_time, period, plain, time};
 use crate::{Date, OffsetDateTime, Period, PlainDateTime, SignedDuration, Time, UtcOffset};
 use core::fmt;
@@ -49,6 +50,34 @@ impl fmt::Display for Period {
     /// Prints the period as ISO 8601 has it, such as `P1M3DT4H`, like [`period::Text`].
     fn fmt(&self, f: &mut fmt::Formatter<'_>) -> fmt::Result {
         fmt::Display::fmt(&period::Text::new(*self), f)
+    }
+}
+
+impl FromStr for DateInterval {
+    type Err = ParseIntervalError;
+
+    /// Parses an interval of dates, such as `2024-01-01/P1M`, like
+    /// [`parse`](crate::interval::date::parse).
+    ///
+    /// # Errors
+    ///
+    /// `UnexpectedByte` or `UnexpectedEnd`, else `OutOfRange` for the first part out of range.
+    fn from_str(text: &str) -> Result<Self, ParseIntervalError> {
+        crate::interval::date::parse(text.as_bytes())
+    }
+}
+
+impl FromStr for DateTimeInterval {
+    type Err = ParseIntervalError;
+
+    /// Parses an interval of local date-times, such as `2024-01-01T08:00/PT90M`, like
+    /// [`parse`](crate::interval::plain::parse).
+    ///
+    /// # Errors
+    ///
+    /// `UnexpectedByte` or `UnexpectedEnd`, else `OutOfRange` for the first part out of range.
+    fn from_str(text: &str) -> Result<Self, ParseIntervalError> {
+        crate::interval::plain::parse(text.as_bytes())
     }
 }
 

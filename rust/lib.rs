@@ -128,6 +128,7 @@ const fn number(digits: &str) -> u32 {
 pub mod error {
     pub use crate::cal_duration::{DurationComponent, ParseDurationError};
     pub use crate::cal_format::FormatError;
+    pub use crate::cal_interval::{IntervalComponent, IntervalError, ParseIntervalError};
     pub use crate::cal_recurrence::{ParseRuleError, ParseRuleErrorKind, ParseSetError, ParseSetErrorKind};
     pub use crate::cal_schedule::PeriodError;
     pub use crate::cal_text::ParseError;
@@ -147,6 +148,13 @@ pub mod format {
         LenientOffsetDateTimeFormat, LenientTimeFormat, OffsetDateTimeFormat, OffsetFormat, ParseError, TimeFormat,
     };
     pub use crate::formats::{FormatText, UnsupportedItem};
+}
+
+/// Intervals and repeated intervals of ISO 8601, of dates and of local date-times.
+pub mod interval {
+    pub use crate::cal_interval::date::{DateInterval, RepeatedDates};
+    pub use crate::cal_interval::plain::{DateTimeInterval, DateTimeRange};
+    pub use crate::cal_interval::{IntervalComponent, IntervalError, ParseIntervalError, date, plain};
 }
 
 /// Iterators.

@@ -23,6 +23,7 @@ fn main() -> ExitCode {
             "cal_format",
             "cal_zone",
             "cal_zoned",
+            "cal_interval",
             "cal_rounding",
             "cal_holidays",
             "cal_tzif",

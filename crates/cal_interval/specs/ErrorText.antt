@@ -4,6 +4,8 @@ use Rattle.cal_time.specs.ComponentError as component
 use Rattle.cal_duration.specs.ErrorText as part
 use Rattle.cal_interval.specs.declared.error.IntervalComponent.{IntervalComponent}
 use Rattle.cal_interval.specs.declared.error.IntervalComponent.TheVariants.{End, Period}
+use Rattle.cal_interval.specs.declared.error.IntervalError.{IntervalError}
+use Rattle.cal_interval.specs.declared.error.IntervalError.TheVariants as reason
 use Rattle.cal_interval.specs.declared.error.ParseIntervalError.{ParseIntervalError}
 use Rattle.cal_interval.specs.declared.error.ParseIntervalError.TheVariants.{UnexpectedByte, UnexpectedEnd, OutOfRange}
 
@@ -17,3 +19,12 @@ abbrev pub error_text : ParseIntervalError → List ℕ
 error_text (UnexpectedByte position) = codes "unexpected byte at " ++ decimal position
 error_text (UnexpectedEnd position) = codes "unexpected end at " ++ decimal position
 error_text (OutOfRange c) = name_of c ++ codes " was not in range"
+
+-- The text of the reason why an interval has no range or can't be repeated.
+abbrev pub interval_error_text : IntervalError → List ℕ
+interval_error_text reason.EndBeforeStart = codes "the end is before the start"
+interval_error_text reason.HasDuration = codes "the period has hours, minutes or seconds"
+interval_error_text reason.OutOfRange = codes "the start or the end is out of range"
+interval_error_text reason.MissingStart = codes "the interval has no start"
+interval_error_text reason.NotPositive = codes "the period is not positive"
+interval_error_text reason.CountOutOfRange = codes "the number of occurrences is out of range"

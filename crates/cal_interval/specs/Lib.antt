@@ -7,3 +7,4 @@ pub mod Ranges
 pub mod RangeFields
 pub mod DateTimeRanges
 pub mod Repeats
+pub mod IntervalText

@@ -13,6 +13,7 @@ use crate::date::from_numbers::interval_from_numbers;
 use crate::error::ParseIntervalError;
 use cal_text::Scanner;
 
+mod display;
 mod form;
 mod from_numbers;
 mod interval;

@@ -1,6 +1,6 @@
 //! The errors of an interval.
 ghost use Rattle.std.specs.Prelude.{◌≡◌, ◌<◌, ◌≤◌, None, Some};
-ghost use Rattle.cal_interval.specs.ErrorText.{error_text};
+ghost use Rattle.cal_interval.specs.ErrorText.{error_text, interval_error_text};
 ghost use Rattle.cal_interval.specs.Parsing.{component_of};
 ghost use Rattle.cal_interval.specs.declared.error.ParseIntervalError.TheVariants.{UnexpectedByte, UnexpectedEnd};
 
@@ -17,7 +17,8 @@ pub enum IntervalComponent {
     Period(DurationComponent),
 }
 
-/// Why an interval has no range, or can't be repeated.
+/// Why an interval has no range, or can't be repeated. It prints, for example, `the end is before
+/// the start`.
 #[derive(Clone, Copy, Debug, PartialEq, Eq, Hash)]
 pub enum IntervalError {
     /// The end is before the start.
@@ -80,5 +81,21 @@ impl fmt::Display for ParseIntervalError {
                 write!(f, "{} was not in range", component.name())
             }
         }
+    }
+}
+
+impl fmt::Display for IntervalError {
+    ghost output = { λ e. Some (interval_error_text e) };
+
+    fn fmt<W: fmt::Write>(&self, f: &mut fmt::Formatter<W>) -> fmt::Result {
+        let words = match self {
+            IntervalError::EndBeforeStart => "the end is before the start",
+            IntervalError::HasDuration => "the period has hours, minutes or seconds",
+            IntervalError::OutOfRange => "the start or the end is out of range",
+            IntervalError::MissingStart => "the interval has no start",
+            IntervalError::NotPositive => "the period is not positive",
+            IntervalError::CountOutOfRange => "the number of occurrences is out of range",
+        };
+        f.write_str(words)
     }
 }

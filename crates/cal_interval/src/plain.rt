@@ -13,6 +13,7 @@ use crate::plain::form::{scan_interval, scan_repeated};
 use crate::plain::from_numbers::interval_from_numbers;
 use cal_text::Scanner;
 
+mod display;
 mod form;
 mod from_numbers;
 mod interval;
