@@ -5,6 +5,6 @@ mod FormReads
 mod Parsed
 pub mod OneAnswer
 pub mod Shapes
-mod Ranges
+pub mod Ranges
 mod Lengths
 mod Printed
