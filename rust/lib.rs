@@ -177,7 +177,7 @@ pub mod recurrence {
 /// Rules of days, working days, holidays, periods and day counts. Functions on one date are methods
 /// of [`Date`].
 pub mod schedule {
-    pub use crate::cal_holidays::{CALENDARS, HolidayDay, HolidayRule, holidays_between};
+    pub use crate::cal_holidays::{CALENDARS, HolidayDay, HolidayRule, calendar_rules, holidays_between};
     pub use crate::cal_schedule::{
         ByDay, CalendarUnit, Convention, DateRange, DayCount, Frequency, Pattern, Period, PeriodUnit, Rule, RuleDays, Steps,
         Values, Workdays, YearFraction,

@@ -1,4 +1,6 @@
 //! The holidays of known calendars, each as a list of rules.
+ghost use Rattle.std.specs.Prelude.{◌≡◌, map, option_map, slice_get};
+
 use crate::holiday_rule::HolidayRule;
 
 mod england_and_wales;
@@ -37,3 +39,27 @@ pub const CALENDARS: [(&str, &[HolidayRule]); 20] = [
     ("de-sh", germany::SCHLESWIG_HOLSTEIN),
     ("de-th", germany::THURINGIA),
 ];
+
+/// Returns the rules of the calendar at an index of [`CALENDARS`], or `None` if there is none. The
+/// first one is `target`.
+pub fn calendar_rules(index: usize) -> Option<&'static [HolidayRule]>
+    ensures { option_map (λ rules. rules.now) result
+        ≡ slice_get (map (λ row. row.1.now) CALENDARS) index }
+{
+    rules_at(&CALENDARS, index)
+}
+
+/// Returns the rules of the row at an index, or `None` if there is none.
+fn rules_at(
+    table: &'static [(&'static str, &'static [HolidayRule])],
+    index: usize,
+) -> Option<&'static [HolidayRule]>
+    ensures { option_map (λ rules. rules.now) result
+        ≡ slice_get (map (λ row. row.1.now) table.now) index }
+{
+    if index < table.len() {
+        Some(table[index].1)
+    } else {
+        None
+    }
+}

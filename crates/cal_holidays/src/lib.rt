@@ -11,7 +11,7 @@ mod julian;
 pub mod laws;
 mod workdays;
 
-pub use calendars::CALENDARS;
+pub use calendars::{CALENDARS, calendar_rules};
 pub use gregorian::easter;
 pub use holiday_day::HolidayDay;
 pub use holiday_rule::HolidayRule;
