@@ -3,3 +3,4 @@ pub mod Easter
 pub mod ClosedForm
 pub mod Holidays
 pub mod HolidaySearch
+pub mod Calendars

@@ -1,5 +1,6 @@
 //! The holidays of known calendars, each as a list of rules.
 ghost use Rattle.std.specs.Prelude.{◌≡◌, map, option_map, slice_get};
+ghost use Rattle.cal_holidays.specs.Calendars.{calendars};
 
 use crate::holiday_rule::HolidayRule;
 
@@ -42,9 +43,9 @@ pub const CALENDARS: [(&str, &[HolidayRule]); 20] = [
 
 /// Returns the rules of the calendar at an index of [`CALENDARS`], or `None` if there is none. The
 /// first one is `target`.
+#[tactic(auto, unfolding(crate::specs::Calendars::calendars))]
 pub fn calendar_rules(index: usize) -> Option<&'static [HolidayRule]>
-    ensures { option_map (λ rules. rules.now) result
-        ≡ slice_get (map (λ row. row.1.now) CALENDARS) index }
+    ensures { option_map (λ rules. rules.now) result ≡ slice_get calendars index }
 {
     rules_at(&CALENDARS, index)
 }
