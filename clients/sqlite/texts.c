@@ -5,7 +5,8 @@ SQLITE_EXTENSION_INIT3
 #include <string.h>
 
 /* The format of an argument, or the one of a date without it. SQLite keeps that of a constant. */
-static int get_format(const sql_function *function, sqlite3_context *context, int count, sqlite3_value **values, int index, const fots_format **format)
+static int get_format(const sql_function *function, sqlite3_context *context, int count, sqlite3_value **values, int index,
+    const fots_format **format)
 {
     sql_text text;
     fots_format_result made;

@@ -76,7 +76,8 @@ int sql_add_calendar(sqlite3 *database)
 /* ---- functions of the result */
 
 /* The calendar of an argument, or Monday to Friday without it. */
-static int get_workdays(const sql_function *function, sqlite3_context *context, int count, sqlite3_value **values, int index, const fots_workdays **workdays)
+static int get_workdays(const sql_function *function, sqlite3_context *context, int count, sqlite3_value **values, int index,
+    const fots_workdays **workdays)
 {
     sql_shared *const all = function->shared;
     const void *const blob = index < count ? sqlite3_value_blob(values[index]) : NULL;
