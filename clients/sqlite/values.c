@@ -94,12 +94,17 @@ static int32_t seconds_of(sqlite3_value *value, fots_duration *duration)
     duration->seconds = sqlite3_value_int64(value);
     if (type == SQLITE_FLOAT) {
         const double number = sqlite3_value_double(value);
-        const int is_small = number > -1e15 && number < 1e15;
-        const int64_t whole = is_small ? (int64_t)number : 0;
-        const double rest = (number - (double)whole) * 1e6;
-        const fots_duration_result made = fots_duration_new(whole, (int32_t)(rest < 0 ? rest - 0.5 : rest + 0.5) * 1000);
+        int64_t whole;
+        double rest;
+        fots_duration_result made;
+        if (!(number > -1e15 && number < 1e15)) {
+            return FOTS_RESULT_OUT_OF_RANGE;
+        }
+        whole = (int64_t)number;
+        rest = (number - (double)whole) * 1e6;
+        made = fots_duration_new(whole, (int32_t)(rest < 0 ? rest - 0.5 : rest + 0.5) * 1000);
         *duration = made.duration;
-        return is_small ? made.status : FOTS_RESULT_OUT_OF_RANGE;
+        return made.status;
     }
     return type == SQLITE_INTEGER ? FOTS_OK : FOTS_INVALID_DURATION;
 }
