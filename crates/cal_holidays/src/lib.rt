@@ -9,6 +9,7 @@ mod holiday_rule;
 mod holidays;
 mod julian;
 pub mod laws;
+mod one_answer;
 mod workdays;
 
 pub use calendars::{CALENDARS, calendar_rules};

@@ -4,7 +4,6 @@ use crate::{easter, julian_easter};
 use cal_time::{Date, Month};
 use std::process::Abort;
 
-mod one_answer;
 mod rules;
 
 fn date(rt: &impl Abort, year: i32, (month, day): (u8, u8)) -> Date {

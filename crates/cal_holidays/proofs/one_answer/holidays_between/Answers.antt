@@ -2,7 +2,7 @@ use Rattle.std.proofs.Common.{length, subst, sym}
 use Rattle.std.specs.Prelude.{◌↔◌, IsNone}
 use Rattle.cal_holidays.specs.Holidays.{AreMore, IsHoliday}
 use Rattle.cal_holidays.proofs.HolidayLists.{lists-one}
-use Rattle.cal_holidays.proofs.tests.one_answer.holidays_between.Goals as goal
+use Rattle.cal_holidays.proofs.one_answer.holidays_between.Goals as goal
 
 pub returns : goal.returns
 returns c =

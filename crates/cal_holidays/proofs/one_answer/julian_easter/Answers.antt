@@ -1,8 +1,8 @@
 use Rattle.cal_schedule.proofs.OneAnswer.{refused-one}
-use Rattle.cal_holidays.proofs.tests.one_answer.easter.Goals as goal
+use Rattle.cal_holidays.proofs.one_answer.julian_easter.Goals as goal
 
 pub returns : goal.returns
 returns c =
-    let r = c.easter.ensures in
-    let s = c.easter-2.ensures in
+    let r = c.julian_easter.ensures in
+    let s = c.julian_easter-2.ensures in
     refused-one _ _ _ _ r.every r.value r.error_kind s.every s.value s.error_kind
