@@ -116,11 +116,14 @@ abbrev pub known_items : Option ℕ → List Item → List Item
 known_items None items = items
 known_items (Some pivot) items = century ∷ items
 
--- A pivot is at most 9900, and belongs to a format that shows the last two digits of the year, and
--- neither the year nor the century.
+-- The items show the last two digits of the year, and neither the year nor the century.
+abbrev pub lacks_century : List Item → Bool
+lacks_century items = any_shows YearOfCentury items && not (any_shows Year items || any_shows Century items)
+
+-- A pivot is at most 9900, and belongs to a format that lacks the century.
 abbrev pub PivotFits : Option ℕ → List Item → Type 0
 PivotFits None items = Unit {0}
-PivotFits (Some pivot) items = (pivot ≤ 9_900) × IsTrue (any_shows YearOfCentury items && not (any_shows Year items || any_shows Century items)) × (length items < 64)
+PivotFits (Some pivot) items = (pivot ≤ 9_900) × IsTrue (lacks_century items) × (length items < 64)
 
 -- The year is one of the 100 years from the pivot on.
 abbrev pub InWindow : Option ℕ → Moment → Type 0

@@ -93,6 +93,7 @@ fn scan_number(scanner: &mut Scanner, pad: Padding, component: Component) -> Opt
     match pad {
         Padding::Zero => match component.width() {
             2 => scan_two_digits(scanner),
+            3 => scan_three_digits(scanner),
             4 => scan_four_digits(scanner),
             width => scan_digits(scanner, 0, width),
         },
@@ -108,9 +109,19 @@ fn scan_two_digits(scanner: &mut Scanner) -> Option<u64>
     ensures value { IfSome result (ParsesDigits scanner.old.rest.now scanner.new.rest.now 2) }
     ensures range { IfSome result (λ n. n < 100) }
 {
-    let tens = scanner.digit()?;
-    let ones = scanner.digit()?;
-    Some(u64::from(tens * 10 + ones))
+    let number = scanner.two_digits()?;
+    Some(u64::from(number))
+}
+
+/// Parses three digits.
+#[inline(always)]
+fn scan_three_digits(scanner: &mut Scanner) -> Option<u64>
+    ensures scans { Scans (Digits 3) scanner.old.rest.now scanner.new.rest.now result }
+    ensures value { IfSome result (ParsesDigits scanner.old.rest.now scanner.new.rest.now 3) }
+    ensures range { IfSome result (λ n. n < 1000) }
+{
+    let number = scanner.three_digits()?;
+    Some(u64::from(number))
 }
 
 /// Parses four digits.
@@ -120,9 +131,8 @@ fn scan_four_digits(scanner: &mut Scanner) -> Option<u64>
     ensures value { IfSome result (ParsesDigits scanner.old.rest.now scanner.new.rest.now 4) }
     ensures range { IfSome result (λ n. n < 10000) }
 {
-    let front = scan_two_digits(scanner)?;
-    let back = scan_two_digits(scanner)?;
-    Some(front * 100 + back)
+    let number = scanner.four_digits()?;
+    Some(u64::from(number))
 }
 
 /// Parses this many digits after the digits of `number`, and returns the new number.

@@ -1,6 +1,6 @@
 //! Lenient formats.
 ghost use Rattle.std.specs.Prelude.{◌≡◌, ◌+◌, ◌<◌, ◌↔◌, Some, None, IsSome, IfSome};
-ghost use Rattle.cal_format.specs.Lenient.{CanRead, items_of, is_digit, item_begins, may_be_empty, can_begin, none_begins, ends_leniently, are_leniently_apart};
+ghost use Rattle.cal_format.specs.Lenient.{CanRead, items_of, lacks_century, is_digit, item_begins, may_be_empty, can_begin, none_begins, ends_leniently, are_leniently_apart};
 
 use crate::description::is_space;
 use crate::determines::any_shows;
@@ -24,6 +24,15 @@ pub struct LenientFormat {
 }
 
 impl Format {
+    /// Returns `true` if the format shows the last two digits of the year, and neither the year nor
+    /// the century, such as `%m/%d/%y`. Its texts determine no date without a pivot.
+    pub fn lacks_century(&self) -> bool
+        ensures { result ≡ lacks_century self.now }
+    {
+        let shows_more = any_shows(self, Component::Year) || any_shows(self, Component::Century);
+        any_shows(self, Component::YearOfCentury) && !shows_more
+    }
+
     /// Returns the format as a format that also reads variants of the texts that it prints.
     pub fn lenient(self) -> LenientFormat
         ensures items { result.format ≡ self }
@@ -61,10 +70,8 @@ impl LenientFormat {
         }
         let mut known = Format::empty();
         if let Some(pivot) = self.pivot {
-            let shows_pair = any_shows(&self.format, Component::YearOfCentury);
-            let shows_more = any_shows(&self.format, Component::Year)
-                || any_shows(&self.format, Component::Century);
-            if pivot > 9_900 || !shows_pair || shows_more || self.format.items().len() > 63 {
+            let fits = self.format.lacks_century() && self.format.items().len() < 64;
+            if pivot > 9_900 || !fits {
                 return None;
             }
             known.push(Item::Number(Component::Century, Padding::Zero));

@@ -12,6 +12,13 @@ returns-in-2-clause-value c =
     rw (c.in-Zero.is, ← c.width.ensures.value, c.in-2.is)
     (mapped (ParsesDigits old new 2) (λ n. old ≡ digits_at_least 2 n ++ new) _ (λ n h. (printed old new 2 n (omega arith) (omega arith) h).1) c.scan_two_digits.ensures.value)
 
+pub returns-in-3-clause-value : goal.returns-in-3-clause-value
+returns-in-3-clause-value c =
+    let old = c.args.scanner.now.rest.now in
+    let new = c.scan_three_digits.new.scanner.rest.now in
+    rw (c.in-Zero.is, ← c.width.ensures.value, c.in-3.is)
+    (mapped (ParsesDigits old new 3) (λ n. old ≡ digits_at_least 3 n ++ new) _ (λ n h. (printed old new 3 n (omega arith) (omega arith) h).1) c.scan_three_digits.ensures.value)
+
 pub returns-in-4-clause-value : goal.returns-in-4-clause-value
 returns-in-4-clause-value c =
     let old = c.args.scanner.now.rest.now in

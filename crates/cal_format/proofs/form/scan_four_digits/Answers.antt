@@ -1,5 +1,0 @@
-use Rattle.cal_text.proofs.YearDigits.{two_and_two}
-use Rattle.cal_format.proofs.form.scan_four_digits.Goals as goal
-
-pub returns-clause-value : goal.returns-clause-value
-returns-clause-value c = two_and_two _ _ _ _ _ c.in_ok-front.ensures.value c.in_ok-back.ensures.value

@@ -1,8 +1,0 @@
-use Rattle.cal_text.proofs.ReadDigits.{one_digit, one_more}
-use Rattle.cal_format.proofs.form.scan_two_digits.Goals as goal
-
-pub returns-clause-value : goal.returns-clause-value
-returns-clause-value c =
-    let tens = c.in_ok-tens.ensures.value in
-    let ones = c.in_ok-ones.ensures.value in
-    rw c.from.ensures (one_more c.in_ok-tens.tens c.in_ok-ones.ones 1 _ _ _ (one_digit c.in_ok-tens.tens _ _ tens.0 tens.1) ones.0 ones.1)
