@@ -1,6 +1,7 @@
 -- The numbers of a lenient format, and the century that a pivot gives.
-use Rattle.std.proofs.Common.{◌≡◌, ℕ, ◌+◌, ◌-◌, ◌*◌, ◌<◌, ◌≤◌, ◌^◌, List, [], ◌∷◌, length, take, drop, refl, sym, ap, subst, ◌∙◌, arith, lit<}
+use Rattle.std.proofs.Common.{◌≡◌, ℕ, ◌+◌, ◌-◌, ◌*◌, ◌<◌, ◌≤◌, ◌^◌, List, [], ◌∷◌, length, take, drop, refl, sym, ap, subst, ◌∙◌, arith, lit<, inl, inr}
 use Rattle.std.specs.Prelude.{Bool, true, false, IsTrue, Option, Some, None, Result, Ok, Err, IfOk, IfErr, ◌==◌, ◌&&◌, ◌||◌, not, if◌then◌else◌, ℤ, unsigned_abs}
+use Rattle.std.proofs.lemmas.Bool.{cases_lt}
 use Rattle.std.proofs.lemmas.Int.Digits.{digits_value-lt}
 use Rattle.std.proofs.Math.Nat.{pow-le-pow_right}
 use Rattle.std.proofs.lemmas.List.{take_all}
@@ -9,6 +10,7 @@ use Rattle.cal_time.specs.UtcOffset.{IsOffset}
 use Rattle.cal_datetime.specs.DateTime.{IsDateTime, date_at, time_at}
 use Rattle.cal_datetime.specs.OffsetDateTime.{LocalAndOffset}
 use Rattle.cal_format.specs.declared.error.ParseError.{ParseError}
+use Rattle.cal_format.specs.declared.error.ParseError.TheVariants.{UnexpectedByte, UnexpectedEnd, OutOfRange, Contradiction}
 use Rattle.cal_format.specs.declared.item.Component.{Component}
 use Rattle.cal_format.specs.declared.item.Component.TheVariants.{Year, Century, YearOfCentury}
 use Rattle.cal_format.specs.declared.item.Item.{Item}
@@ -22,6 +24,7 @@ use Rattle.cal_format.specs.Form.{numbers_of, numbered_text, IsNumber, AreNumber
 use Rattle.cal_format.specs.Lenient.{known_items, items_of, PivotFits, InWindow, HasKnown, CanRead, IsRead, IsLenientRejection, ReadsDates, ReadsTimes, ReadsDateTimes, ReadsOffsetDateTimes}
 use Rattle.cal_format.specs.Moment.{IsMoment, number, width, width_of, moment_of_date, moment_of_time, moment_of_date_time, moment_of_offset_date_time}
 use Rattle.cal_format.specs.Reading.{index, shows, any_shows, are_apart, are_time_items, holds_time, holds_offset, DeterminesDate, DeterminesDateTime, DeterminesOffsetDateTime}
+use Rattle.cal_format.specs.Rejection.{IsNumberRejection}
 use Rattle.cal_format.specs.Scanning.{AreHeld}
 use Rattle.cal_format.specs.Values.{Holds, number_in, IsPrinted}
 use Rattle.cal_format.specs.Variants.{is_free, is_white, IsNumberText, IsVariant, HasVariants}
@@ -162,13 +165,31 @@ printed-read f known ns text v e can apart has h =
       variant = read.1;
     }
 
+-- ---- errors
+pub lenient-unexpected : (f : LenientFormat) (text : List ℕ) (p : ℕ) (e : ParseError) → p ≤ length text → (p < length text → e ≡ UnexpectedByte p) → (p ≡ length text → e ≡ UnexpectedEnd p)
+    → ((ns : List ℕ) → HasKnown f.pivot f.format ns text → ⊥) → IsLenientRejection f text e
+lenient-unexpected f text p e most byte end none = elim (cases_lt p (length text)) as (λ _. IsLenientRejection f text e) [
+  | inl low ↦ subst (IsLenientRejection f text) (sym (byte low)) (low, none)
+  | inr high ↦ (let same : p ≡ length text = omega (arith, most, high) in subst (IsLenientRejection f text) (sym (end same)) (same, none))
+]
+
+pub number-rejected : (f : LenientFormat) (known : List Item) (ns text : List ℕ) (e : ParseError) → known ≡ items_of f → HasKnown f.pivot f.format ns text → IsNumberRejection known ns e → IsLenientRejection f text e
+number-rejected f known ns text (OutOfRange why) e has h = (ns, has, subst (λ l. IsNumberRejection l ns (OutOfRange why)) e h)
+number-rejected f known ns text (Contradiction c) e has h = (ns, has, subst (λ l. IsNumberRejection l ns (Contradiction c)) e h)
+number-rejected f known ns text (UnexpectedByte p) e has h = absurd h
+number-rejected f known ns text (UnexpectedEnd p) e has h = absurd h
+
+pub mapped_err : {V E : Type 0} (P Q : E → Type 0) (r : Result V E) → ((e : E) → P e → Q e) → IfErr r P → IfErr r Q
+mapped_err P Q (Ok v) f h = tt
+mapped_err P Q (Err e) f h = f e h
+
 -- ---- values of one type
 -- What parsing a variant gives.
 pub record IsParsedLeniently (f : LenientFormat) (known : List Item) (text : List ℕ) (r : Result Moment ParseError) : Type 0 where
   pub every : (v : Moment) → Holds known v → IsRead f v text → r ≡ Ok v
   pub range : IfOk r IsMoment
   pub value : IfOk r (λ v. IsRead f v text)
-  pub error : IfErr r (IsLenientRejection text)
+  pub error : IfErr r (IsLenientRejection f text)
 
 tail-numbers : (p : Option ℕ) (items : List Item) (v m : Moment) → numbers_of (known_items p items) v ≡ numbers_of (known_items p items) m → numbers_of items v ≡ numbers_of items m
 tail-numbers None items v m e = e

@@ -13,6 +13,7 @@ use Rattle.cal_format.specs.Description.{is_space}
 use Rattle.cal_format.specs.Form.{numbers_of}
 use Rattle.cal_format.specs.Moment.{number}
 use Rattle.cal_format.specs.Reading.{any_shows, holds_time, holds_offset, DeterminesDate, DeterminesTime, DeterminesDateTime, DeterminesOffsetDateTime}
+use Rattle.cal_format.specs.Rejection.{IsNumberRejection}
 use Rattle.cal_format.specs.Scanning.{AreHeld}
 use Rattle.cal_format.specs.Values.{number_in}
 use Rattle.cal_format.specs.Variants.{is_letter, is_white, pads_with_spaces, is_free, HasVariants}
@@ -169,8 +170,8 @@ pub record IsRead (f : LenientFormat) (v : Moment) (text : List ℕ) : Type 0 wh
   pub offset_parts : IsTrue (holds_offset f.format v.offset)
   pub variant : HasVariants false f.format (numbers_of f.format v) text
 
--- An error names a position in the text, or is an error of its numbers.
-abbrev pub IsLenientRejection : List ℕ → ParseError → Type 0
-IsLenientRejection text (UnexpectedByte p) = p < length text
-IsLenientRejection text (UnexpectedEnd p) = p ≡ length text
-IsLenientRejection text _ = Unit {0}
+-- If the text is no variant, the error names a position. Otherwise it is an error of the numbers.
+abbrev pub IsLenientRejection : LenientFormat → List ℕ → ParseError → Type 0
+IsLenientRejection f text (UnexpectedByte p) = (p < length text) × ((numbers : List ℕ) → ¬ HasKnown f.pivot f.format numbers text)
+IsLenientRejection f text (UnexpectedEnd p) = (p ≡ length text) × ((numbers : List ℕ) → ¬ HasKnown f.pivot f.format numbers text)
+IsLenientRejection f text e = (numbers : List ℕ) × HasKnown f.pivot f.format numbers text × IsNumberRejection (items_of f) numbers e

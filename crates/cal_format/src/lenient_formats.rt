@@ -185,7 +185,7 @@ impl LenientDateFormat {
             → IsRead self.now (moment_of_date n) text.now → result ≡ Ok n }
         ensures value { IfOk result (λ n. IsDate n
             × IsRead self.now (moment_of_date n) text.now) }
-        ensures error { IfErr result (IsLenientRejection text.now) }
+        ensures error { IfErr result (IsLenientRejection self.now text.now) }
         ensures reads { ReadsDates self.now }
     {
         match parse_leniently(&self.format, &self.known, text) {
@@ -206,7 +206,7 @@ impl LenientTimeFormat {
             → IsRead self.now (moment_of_time n) text.now → result ≡ Ok n }
         ensures value { IfOk result (λ n. IsTime n
             × IsRead self.now (moment_of_time n) text.now) }
-        ensures error { IfErr result (IsLenientRejection text.now) }
+        ensures error { IfErr result (IsLenientRejection self.now text.now) }
         ensures reads { ReadsTimes self.now }
     {
         match parse_leniently(&self.format, &self.known, text) {
@@ -227,7 +227,7 @@ impl LenientDateTimeFormat {
             → IsRead self.now (moment_of_date_time z) text.now → result ≡ Ok z }
         ensures value { IfOk result (λ z. IsDateTime z
             × IsRead self.now (moment_of_date_time z) text.now) }
-        ensures error { IfErr result (IsLenientRejection text.now) }
+        ensures error { IfErr result (IsLenientRejection self.now text.now) }
         ensures reads { ReadsDateTimes self.now }
     {
         match parse_leniently(&self.format, &self.known, text) {
@@ -248,7 +248,7 @@ impl LenientOffsetDateTimeFormat {
             → IsRead self.now (moment_of_offset_date_time m) text.now → result ≡ Ok m }
         ensures value { IfOk result (λ m. IsDateTime m.local × IsOffset m.offset
             × IsRead self.now (moment_of_offset_date_time m) text.now) }
-        ensures error { IfErr result (IsLenientRejection text.now) }
+        ensures error { IfErr result (IsLenientRejection self.now text.now) }
         ensures reads { ReadsOffsetDateTimes self.now }
     {
         match parse_leniently(&self.format, &self.known, text) {

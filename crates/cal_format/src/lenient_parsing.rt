@@ -30,7 +30,7 @@ pub(crate) fn parse_leniently(
         → result ≡ Ok v }
     ensures range { IfOk result IsMoment }
     ensures value { IfOk result (λ v. IsRead format.now v text.now) }
-    ensures error { IfErr result (IsLenientRejection text.now) }
+    ensures error { IfErr result (IsLenientRejection format.now text.now) }
 {
     let mut buffer = [0u64; 64];
     let numbers = &mut buffer[..known.items().len()];

@@ -1,5 +1,5 @@
 use Rattle.std.proofs.Common.{ap, sym, subst, Ok, Err}
-use Rattle.cal_format.specs.Lenient.{IsRead}
+use Rattle.cal_format.specs.Lenient.{IsRead, IsLenientRejection}
 use Rattle.cal_format.specs.Moment.{moment_of_date}
 use Rattle.cal_format.proofs.Known.{IsParsedLeniently, date-every, date-read}
 use Rattle.cal_format.proofs.Outcomes.{result-or, no-result}
@@ -19,3 +19,6 @@ pub returns-in-Ok-clause-value : goal.returns-in-Ok-clause-value
 returns-in-Ok-clause-value c =
     let v = c.in-Ok.moment in
     (c.in-Ok.ensures.range.date, subst (λ f. IsRead f (moment_of_date v.date) c.args.text.now) c.self.view_is (date-read c.self.inside.format c.args.text.now v c.self.invariant.1 c.in-Ok.ensures.value))
+
+pub returns-in-Err-clause-error : goal.returns-in-Err-clause-error
+returns-in-Err-clause-error c = subst (λ f. IsLenientRejection f c.args.text.now c.in-Err.error) c.self.view_is c.in-Err.ensures.error

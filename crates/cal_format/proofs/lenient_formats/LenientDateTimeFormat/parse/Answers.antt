@@ -1,7 +1,7 @@
 use Rattle.std.proofs.Common.{◌≡◌, ◌∙◌, ap, sym, subst, Ok, Err}
 use Rattle.cal_datetime.specs.DateTime.{date_time, date_at, time_at}
 use Rattle.cal_datetime.specs.DateTimeLaws.{IsDateTime-date_time, date_at-date_time, time_at-date_time, date_time-parts}
-use Rattle.cal_format.specs.Lenient.{IsRead}
+use Rattle.cal_format.specs.Lenient.{IsRead, IsLenientRejection}
 use Rattle.cal_format.specs.Moment.{moment_of_date_time}
 use Rattle.cal_format.proofs.Known.{IsParsedLeniently, date_time-every, date_time-read}
 use Rattle.cal_format.proofs.Outcomes.{result-or, no-result}
@@ -27,3 +27,6 @@ returns-in-Ok-clause-value c =
     let d : date_at z ≡ v.date = date_at-date_time v.date v.time below in
     let t : time_at z ≡ v.time = time_at-date_time v.date v.time below in
     rw c.new.ensures.value (IsDateTime-date_time v.date v.time range.date below, subst (λ f. IsRead f (moment_of_date_time z) c.args.text.now) c.self.view_is (date_time-read c.self.inside.format c.args.text.now v z c.self.invariant.1 d t c.in-Ok.ensures.value))
+
+pub returns-in-Err-clause-error : goal.returns-in-Err-clause-error
+returns-in-Err-clause-error c = subst (λ f. IsLenientRejection f c.args.text.now c.in-Err.error) c.self.view_is c.in-Err.ensures.error

@@ -2,7 +2,7 @@ use Rattle.std.proofs.Common.{◌≡◌, ◌∙◌, ap, sym, subst, Ok, Err}
 use Rattle.cal_datetime.specs.DateTime.{date_time, date_at, time_at}
 use Rattle.cal_datetime.specs.DateTimeLaws.{IsDateTime-date_time, date_at-date_time, time_at-date_time, date_time-parts}
 use Rattle.cal_datetime.specs.OffsetDateTime.{LocalAndOffset}
-use Rattle.cal_format.specs.Lenient.{IsRead}
+use Rattle.cal_format.specs.Lenient.{IsRead, IsLenientRejection}
 use Rattle.cal_format.specs.Moment.{moment_of_offset_date_time}
 use Rattle.cal_format.proofs.Known.{IsParsedLeniently, moment-every}
 use Rattle.cal_format.proofs.Outcomes.{result-or, no-result}
@@ -31,3 +31,6 @@ returns-in-Ok-clause-value c =
     let same : v ≡ moment_of_offset_date_time m = λ i. record { date = sym d i; time = sym t i; offset = v.offset } in
     rw c.new_in_offset.ensures.value
     (IsDateTime-date_time v.date v.time range.date below, range.offset, subst (λ f. IsRead f (moment_of_offset_date_time m) c.args.text.now) c.self.view_is (subst (λ w. IsRead c.self.inside.format w c.args.text.now) same c.in-Ok.ensures.value))
+
+pub returns-in-Err-clause-error : goal.returns-in-Err-clause-error
+returns-in-Err-clause-error c = subst (λ f. IsLenientRejection f c.args.text.now c.in-Err.error) c.self.view_is c.in-Err.ensures.error
