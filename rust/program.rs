@@ -4,8 +4,8 @@ use std::env;
 use std::path::PathBuf;
 use std::process::ExitCode;
 
-/// Writes these crates as Rust into the folder of the build. The tests of crates stay if `tests`
-/// changes them.
+/// Writes these crates as Rust into the folder of the build, with their tests if `tests` changes
+/// them.
 pub fn write(crates: &[&str], tests: Option<&Change>) -> ExitCode {
     let folder = |name| env::var_os(name).map(PathBuf::from).unwrap_or_default();
     println!("cargo::rerun-if-changed=../build");
@@ -17,8 +17,10 @@ pub fn write(crates: &[&str], tests: Option<&Change>) -> ExitCode {
             None => offer_main(source, edits),
         }
     };
-    let options = Options { crates, standard: "std", has_tests: tests.is_some(), more: Some(&change) };
-    match write_crates(&folder("CARGO_MANIFEST_DIR").join("../../crates"), &folder("OUT_DIR"), &options) {
+    let top = folder("CARGO_MANIFEST_DIR").join("../..");
+    let worked = top.join("tests/worked");
+    let options = Options { crates, standard: "std", tests: tests.map(|_| worked.as_path()), more: Some(&change) };
+    match write_crates(&top.join("crates"), &folder("OUT_DIR"), &options) {
         Ok(_) => ExitCode::SUCCESS,
         Err(fault) => {
             println!("cargo::error={fault}");

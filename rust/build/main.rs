@@ -60,7 +60,7 @@ fn write() -> Result<(), Fault> {
     let (crates, out) = (root.join("crates"), folder("OUT_DIR"));
     let definitions = Definitions::read(&crates, &CRATES)?;
     let change = |source: &Source, edits: &mut Edits| face::change(source, &definitions, edits);
-    let options = Options { crates: &CRATES, standard: "core", has_tests: false, more: Some(&change) };
+    let options = Options { crates: &CRATES, standard: "core", tests: None, more: Some(&change) };
     strip::write_crates(&crates, &out, &options)?;
     if env::var_os("CARGO_FEATURE_BUNDLED_ZONES").is_some() {
         Zones::read(&Zones::folder())?.write(&out)?;

@@ -34,7 +34,7 @@ fn main() -> ExitCode {
     let top = folder("CARGO_MANIFEST_DIR").join("../..");
     println!("cargo::rerun-if-changed=.");
     println!("cargo::rerun-if-changed=../build/strip");
-    let options = strip::Options { crates: &CRATES, standard: "core", has_tests: false, more: Some(&parameters::change) };
+    let options = strip::Options { crates: &CRATES, standard: "core", tests: None, more: Some(&parameters::change) };
     match strip::write_crates(&top.join("crates"), &folder("OUT_DIR"), &options) {
         Ok(_) => {
             name_shared_object(&top);

@@ -4,19 +4,19 @@ use crate::strip::{Edits, Fault, Item, Kind, Source, TokenKind};
 
 /// Texts that differ: the end of the path of a file, what it has once, and what takes its place.
 const OTHERS: [(&str, &str, &str); 11] = [
-    ("cal_datetime_tests/src/tests/dates.rt", "Date::MAX.clone()?", "Date::MAX.clone()"),
-    ("cal_datetime_tests/src/tests/dates.rt", "kernel.clone()?", "kernel.clone()"),
+    ("cal_values/datetime/dates.rattle", "Date::MAX.clone()?", "Date::MAX.clone()"),
+    ("cal_values/datetime/dates.rattle", "kernel.clone()?", "kernel.clone()"),
     // The law `clones` is left out.
-    ("cal_datetime_tests/src/tests/plain.rt", "clones, hash_of,", "hash_of,"),
-    ("cal_datetime_tests/src/tests/plain.rt", "clones(noon, utc)?", "(noon.clone(), utc.clone())"),
-    ("cal_time/src/tests/trait_methods.rt", "value.clone().ok()", "Some(value.clone())"),
-    ("cal_time/src/tests/trait_methods.rt", "Clone::clone(&value).ok()", "Some(Clone::clone(&value))"),
-    ("cal_schedule_tests/src/tests/recurrences/written.rt", "recurrence.clone()", "Some(recurrence.clone())"),
+    ("cal_values/datetime/plain.rattle", "clones, hash_of,", "hash_of,"),
+    ("cal_values/datetime/plain.rattle", "clones(noon, utc)?", "(noon.clone(), utc.clone())"),
+    ("cal_values/time/trait_methods.rattle", "value.clone().ok()", "Some(value.clone())"),
+    ("cal_values/time/trait_methods.rattle", "Clone::clone(&value).ok()", "Some(Clone::clone(&value))"),
+    ("cal_values/schedule/recurrences/written.rattle", "recurrence.clone()", "Some(recurrence.clone())"),
     // Rust has these kinds, but stable versions don't let programs use them, and only 1.87 has the first.
-    ("caldate_tests/src/tests/writes.rt", "ErrorKind::InvalidFilename", "ErrorKind::Other"),
-    ("caldate_tests/src/tests/writes.rt", "ErrorKind::FilesystemLoop", "ErrorKind::Other"),
-    ("caldate_tests/src/tests/writes.rt", "ErrorKind::InProgress", "ErrorKind::Other"),
-    ("caldate_tests/src/tests/writes.rt", "ErrorKind::Uncategorized", "ErrorKind::Other"),
+    ("cal_values/caldate/writes.rattle", "ErrorKind::InvalidFilename", "ErrorKind::Other"),
+    ("cal_values/caldate/writes.rattle", "ErrorKind::FilesystemLoop", "ErrorKind::Other"),
+    ("cal_values/caldate/writes.rattle", "ErrorKind::InProgress", "ErrorKind::Other"),
+    ("cal_values/caldate/writes.rattle", "ErrorKind::Uncategorized", "ErrorKind::Other"),
 ];
 
 /// Changes a file.
@@ -42,7 +42,9 @@ pub fn change(source: &Source, edits: &mut Edits) -> Result<(), Fault> {
 
 fn is_test(source: &Source) -> bool {
     let path = source.path.to_string_lossy();
-    source.krate.ends_with("_tests") || path.rsplit("/src/").next().is_some_and(|path| path.starts_with("tests"))
+    source.krate.ends_with("_tests")
+        || path.ends_with(".rattle")
+        || path.rsplit("/src/").next().is_some_and(|path| path.starts_with("tests"))
 }
 
 /// Imports the names of the kit's prelude, before the first item that may come after it.

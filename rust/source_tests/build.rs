@@ -1,4 +1,4 @@
-//! Writes the crates with their tests as Rust into the folder of the build.
+//! Writes the crates and their tests as Rust into the folder of the build.
 
 mod adapt;
 #[path = "../program.rs"]
@@ -32,10 +32,12 @@ fn main() -> ExitCode {
             "caldate_answers",
             "caldate_args",
             "caldate_run",
+            "cal_time_tests",
             "cal_datetime_tests",
             "cal_schedule_tests",
             "caldate_tests",
             "caltool",
+            "cal_values",
         ],
         Some(&adapt::change),
     )

@@ -37,7 +37,7 @@ fn source(text: &str) -> Result<Source, Fault> {
     Source::new(Path::new("cal_date/src/lib.rt").to_path_buf(), "cal_date", text.to_string())
 }
 
-const OPTIONS: Options = Options { crates: &["cal_date", "cal_units"], standard: "core", has_tests: false, more: None };
+const OPTIONS: Options = Options { crates: &["cal_date", "cal_units"], standard: "core", tests: None, more: None };
 
 fn translation(text: &str) -> String {
     translated(&source(text).unwrap(), &OPTIONS).unwrap()
@@ -202,16 +202,17 @@ fn a_condition_becomes_a_panic() {
 
 #[test]
 fn all_source_is_read() {
-    let crates = Path::new(env!("CARGO_MANIFEST_DIR")).join("crates");
+    let top = Path::new(env!("CARGO_MANIFEST_DIR"));
+    let (crates, tests) = (top.join("crates"), top.join("tests/worked"));
     let names: Vec<String> = std::fs::read_dir(&crates)
         .unwrap()
         .map(|entry| entry.unwrap().file_name().into_string().unwrap())
         .filter(|name| name.starts_with("cal"))
         .collect();
-    let names: Vec<&str> = names.iter().map(String::as_str).collect();
+    let names: Vec<&str> = names.iter().map(String::as_str).chain(["cal_values"]).collect();
     let out = Path::new(env!("CARGO_TARGET_TMPDIR")).join("all_source");
-    let count =
-        strip::write_crates(&crates, &out, &Options { crates: &names, standard: "std", has_tests: true, more: None }).unwrap();
+    let options = Options { crates: &names, standard: "std", tests: Some(&tests), more: None };
+    let count = strip::write_crates(&crates, &out, &options).unwrap();
     assert!(count >= 200, "{count} files");
 }
 

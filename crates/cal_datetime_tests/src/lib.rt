@@ -1,7 +1,5 @@
-//! The tests of `cal_date`, `cal_datetime`, `cal_text` and `cal_format`, by their public items only.
-//!
-//! They are a crate of their own, since the gate proves a crate with tests a second time.
+//! What is proved about calls of `cal_date`, `cal_datetime`, `cal_text` and `cal_format` from outside.
+//! `tests/worked` has the values.
 #![tactic(auto)]
 
-#[cfg(test)]
-mod tests;
+pub mod tests;

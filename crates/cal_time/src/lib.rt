@@ -16,6 +16,3 @@ pub use cal_date::{Date, limits};
 pub use cal_span::SignedDuration;
 pub use cal_units::{Counted, Cycle, Month, ShortText, Weekday, extent, is_rising, nth_in};
 pub use pair::{add_to_pair, sub_from_pair};
-
-#[cfg(test)]
-mod tests;

@@ -1,7 +1,5 @@
-//! Tests of the public items of `caldate_run`.
-//!
-//! They are a separate crate, because the gate proves a crate with tests a second time.
+//! What is proved about calls of `caldate_run` and `caldate_args` from outside. `tests/worked` has the
+//! values.
 #![tactic(auto)]
 
-#[cfg(test)]
-mod tests;
+pub mod tests;

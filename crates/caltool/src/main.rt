@@ -9,14 +9,13 @@ mod find;
 mod input;
 mod lines;
 mod number;
+mod one_answer;
 mod outcome;
 mod output;
 mod program;
 mod retries;
 mod run;
 mod streams;
-#[cfg(test)]
-mod tests;
 
 use std::io;
 use std::process::ExitCode;

@@ -4,7 +4,7 @@ use super::items::{Item, Items, Kind};
 use super::lexer::{Token, TokenKind, tokens};
 use super::operand::operand;
 use std::ops::Range;
-use std::path::PathBuf;
+use std::path::{Path, PathBuf};
 
 /// Adds changes to the translation of a file.
 pub type Change<'a> = dyn Fn(&Source, &mut Edits) -> Result<(), Fault> + 'a;
@@ -16,8 +16,8 @@ pub struct Options<'a> {
     pub crates: &'a [&'a str],
     /// The path that replaces the kit's `std`, such as `core`.
     pub standard: &'a str,
-    /// Whether modules of tests are kept.
-    pub has_tests: bool,
+    /// The folder of the tests, which are left out without it.
+    pub tests: Option<&'a Path>,
     /// Other changes of each file.
     pub more: Option<&'a Change<'a>>,
 }
@@ -180,7 +180,7 @@ fn is_left_out(source: &Source, item: &Item, options: &Options) -> bool {
     match item.kind {
         Kind::Impl => item.name.starts_with("Model for "),
         Kind::Use => matches!(source.part(&item.head), "use std::marker::Model" | "use std::alloc::AllocError"),
-        Kind::Module => !options.has_tests && all.contains("#[cfg(test)]"),
+        Kind::Module => options.tests.is_none() && all.contains("#[cfg(test)]"),
         Kind::Function if item.owner.is_empty() => {
             source.path.ends_with("laws.rt") && source.part(&item.head).contains("AllocError>")
                 || options.standard == "core" && all.contains("DefaultHasher")

@@ -7,8 +7,11 @@ use std::path::{Path, PathBuf};
 /// The module of the casts that [`translated`] writes.
 const SIGNS: &str = include_str!("signs.rs");
 
-/// Writes the crates of a folder as Rust: the files of each into a folder of its name, and a file
-/// `library.rs` that declares all of them as modules. Returns the number of files.
+/// The module of the tests of a crate, beside its own modules.
+const MODULE: &str = "worked.rattle";
+
+/// Writes the crates of a folder as Rust: the files of each, and of its tests, into a folder of its
+/// name, and a file `library.rs` that declares all of them as modules. Returns the number of files.
 ///
 /// # Errors
 ///
@@ -17,10 +20,17 @@ pub fn write_crates(folder: &Path, out: &Path, options: &Options) -> Result<usiz
     let mut library = format!("#[allow(unused)]\npub(crate) mod signs {{\n{SIGNS}}}\n");
     let mut count = 0;
     for krate in options.crates {
+        let target = out.join(krate);
         let source = folder.join(krate).join("src");
-        println!("cargo::rerun-if-changed={}", source.display());
-        count += write_folder(krate, &source, &out.join(krate), options)?;
-        let root = out.join(krate).join(if source.join("main.rt").exists() { "main.rs" } else { "lib.rs" });
+        let tests = options.tests.map(|tests| tests.join(krate));
+        for part in [Some(&source), tests.as_ref()].into_iter().flatten().filter(|part| part.exists()) {
+            println!("cargo::rerun-if-changed={}", part.display());
+            count += write_folder(krate, part, &target, options)?;
+        }
+        let root = target.join(if source.join("main.rt").exists() { "main.rs" } else { "lib.rs" });
+        if tests.is_some_and(|tests| tests.join(MODULE).exists()) {
+            append(&root, "#[cfg(test)]\nmod worked;\n")?;
+        }
         library.push_str(&format!(
             "#[path = {root:?}]\n#[allow(unused, unsafe_code, missing_docs, clippy::all)]\n#[warn(clippy::incompatible_msrv)]\npub(crate) mod {krate};\n"
         ));
@@ -36,7 +46,7 @@ fn write_folder(krate: &str, from: &Path, to: &Path, options: &Options) -> Resul
         let target = to.join(path.file_name().unwrap_or_default());
         if path.is_dir() {
             count += write_folder(krate, &path, &target, options)?;
-        } else if path.extension().is_some_and(|extension| extension == "rt") {
+        } else if path.extension().is_some_and(|extension| extension == "rt" || extension == "rattle") {
             let text = fs::read_to_string(&path).map_err(|error| Fault::at_file(&path, &error))?;
             let source = Source::new(path, krate, text)?;
             write(&target.with_extension("rs"), &translated(&source, options)?)?;
@@ -51,6 +61,12 @@ fn entries(folder: &Path) -> io::Result<Vec<PathBuf>> {
     let mut paths = fs::read_dir(folder)?.map(|entry| Ok(entry?.path())).collect::<io::Result<Vec<_>>>()?;
     paths.sort();
     Ok(paths)
+}
+
+/// Appends to a file.
+fn append(path: &Path, text: &str) -> Result<(), Fault> {
+    let whole = fs::read_to_string(path).map_err(|error| Fault::at_file(path, &error))?;
+    write(path, &(whole + text))
 }
 
 fn write(path: &Path, text: &str) -> Result<(), Fault> {

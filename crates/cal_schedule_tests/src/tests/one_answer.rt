@@ -3,7 +3,7 @@
 //! A proof knows only the clauses, so a second result would leave the line of its call open.
 ghost use Rattle.std.specs.Prelude.{◌≡◌};
 
-use cal_schedule::{CalendarUnit, DayCount, Period, Rule, YearFraction};
+use cal_schedule::{CalendarUnit, DayCount, Period, Rule, Workdays, YearFraction};
 use cal_time::error::ComponentRange;
 use cal_time::{Date, Month, Weekday};
 
@@ -137,4 +137,10 @@ fn ranks(rule: &Rule, date: Date) -> Twice<(u32, u32)>
     ensures { result.0 ≡ result.1 }
 {
     twice!(rule.ranks(date))
+}
+
+fn workdays<'a>(marks: [bool; 7], holidays: &'a [Date]) -> Twice<Option<Workdays<'a>>>
+    ensures { result.0 ≡ result.1 }
+{
+    twice!(Workdays::new(marks, holidays))
 }

@@ -1,0 +1,8 @@
+use Rattle.cal_time.proofs.OneAnswer.{of_two_refusals-one}
+use Rattle.cal_time_tests.proofs.tests.one_answer.dates.from_calendar_date.Goals as goal
+
+pub returns : goal.returns
+returns c =
+    let r = c.from_calendar_date.ensures in
+    let s = c.from_calendar_date-2.ensures in
+    of_two_refusals-one _ _ _ _ _ _ _ r.every s.value s.error_kind r.year s.year r.day s.day
