@@ -41,10 +41,7 @@ pub fn change(source: &Source, edits: &mut Edits) -> Result<(), Fault> {
 }
 
 fn is_test(source: &Source) -> bool {
-    let path = source.path.to_string_lossy();
-    source.krate.ends_with("_tests")
-        || path.ends_with(".rattle")
-        || path.rsplit("/src/").next().is_some_and(|path| path.starts_with("tests"))
+    source.krate.ends_with("_tests") || source.path.extension().is_some_and(|extension| extension == "rattle")
 }
 
 /// Imports the names of the kit's prelude, before the first item that may come after it.

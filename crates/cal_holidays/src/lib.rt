@@ -19,6 +19,3 @@ pub use holiday_rule::HolidayRule;
 pub use holidays::holidays_between;
 pub use julian::julian_easter;
 pub use workdays::workdays_from_rules;
-
-#[cfg(test)]
-mod tests;
