@@ -2,7 +2,7 @@
 ghost use Rattle.std.specs.Prelude.{◌≡◌, IsTrue, IfSome};
 ghost use Rattle.cal_format.specs.declared.moment.Moment.{Moment};
 ghost use Rattle.cal_format.specs.Reading.{are_apart};
-ghost use Rattle.cal_format.specs.Scanning.{fields_of, HasFields};
+ghost use Rattle.cal_format.specs.Scanning.{fields_of, HasFields, IsOneDate};
 ghost use Rattle.cal_format.specs.Text.{text_of};
 ghost use Rattle.cal_format.specs.Values.{Holds, IsPrinted, first_contradiction};
 
@@ -12,6 +12,7 @@ use crate::item::Item;
 use crate::moment::Moment;
 use crate::parsing::find_moment;
 use cal_text::Scanner;
+use cal_time::Date;
 use cal_time::error::Component as Named;
 
 /// Parses a text in one pass. Returns the moment that the items hold and print as this text, or
@@ -35,6 +36,23 @@ pub(crate) fn parse_once(items: &Format, text: &[u8]) -> Option<Moment>
         None => Some(moment),
         Some(_) => None,
     }
+}
+
+/// Parses the text of a date in one pass, by its year, its month and its day. Returns `None` for
+/// another text, and if the items show more or less.
+pub(crate) fn parse_calendar_once(items: &Format, text: &[u8]) -> Option<Date>
+    ensures { IfSome result (λ n. IsOneDate items.now n text.now) }
+{
+    let mut fields = Fields::new();
+    let mut scanner = Scanner { rest: text };
+    if !scan_fields(items.items(), &mut scanner, &mut fields) {
+        return None;
+    }
+    if !scanner.rest.is_empty() {
+        return None;
+    }
+    let date = fields.calendar_date()?;
+    Some(date)
 }
 
 /// Parses the items at the front of a text, and sets the numbers of their components. Returns

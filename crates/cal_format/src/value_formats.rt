@@ -14,6 +14,7 @@ ghost use Rattle.cal_format.specs.Text.{text_of};
 use crate::determines::{shows_date, shows_moment, shows_offset, shows_time};
 use crate::error::ParseError;
 use crate::format::Format;
+use crate::one_pass::parse_calendar_once;
 use crate::value::{DATE_END, MOMENT_END, OFFSET_END, TIME_END};
 use cal_datetime::{OffsetDateTime, PlainDateTime};
 use cal_time::{Date, Time, UtcOffset};
@@ -198,6 +199,11 @@ impl DateFormat {
         ensures error { IfErr result (IsRejection self.now text.now) }
         ensures determines { DeterminesDate self.now }
     {
+        if self.format.shown.is_calendar() {
+            if let Some(date) = parse_calendar_once(&self.format, text) {
+                return Ok(date);
+            }
+        }
         match self.format.parse(text) {
             Ok(moment) => Ok(moment.date),
             Err(error) => Err(error),

@@ -1,7 +1,8 @@
-use Rattle.std.proofs.Common.{ap, refl, subst, ◌∙◌, Ok, Err}
+use Rattle.std.proofs.Common.{ap, refl, subst, sym, ◌∙◌, Ok, Err}
 use Rattle.cal_format.specs.Moment.{moment_of_date}
 use Rattle.cal_format.specs.Reading.{DeterminesDate}
 use Rattle.cal_format.specs.Rejection.{IsParsed}
+use Rattle.cal_format.specs.Scanning.{IsOneDate}
 use Rattle.cal_format.proofs.Outcomes.{result-or, no-result}
 use Rattle.cal_format.proofs.Moments.{date-holds}
 use Rattle.cal_format.proofs.Alike.{dates-alike}
@@ -28,4 +29,14 @@ returns-in-Ok c =
       value = (parsed.value.in_range.date, alike.1 parsed.value.numbers, parsed.value.text_is ∙ alike.0);
       error = tt;
       determines = determines;
+    }
+
+pub returns-in-Some : goal.returns-in-Some
+returns-in-Some c =
+    let one = subst (λ l. IsOneDate l c.in-Some.date c.args.text.now) c.self.view_is c.in-Some.ensures in
+    record {
+      every = λ n date held text. ap Ok (sym (one.every n date held text));
+      value = (one.date, one.held, one.text_is);
+      error = tt;
+      determines = subst DeterminesDate c.self.view_is c.self.invariant;
     }
