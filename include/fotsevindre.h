@@ -786,7 +786,10 @@ size_t fots_workdays_between_dates(const fots_workdays *workdays, const int32_t 
 /* ---- recurrences */
 
 /* The unit of the interval of a rule. */
-enum fots_frequency { FOTS_DAILY = 1, FOTS_WEEKLY = 2, FOTS_MONTHLY = 3, FOTS_YEARLY = 4 };
+/* The last three only in a recurrence with times of day: a fots_rule with them is invalid. */
+enum fots_frequency {
+    FOTS_DAILY = 1, FOTS_WEEKLY = 2, FOTS_MONTHLY = 3, FOTS_YEARLY = 4, FOTS_HOURLY = 5, FOTS_MINUTELY = 6, FOTS_SECONDLY = 7
+};
 
 /* A recurrence rule in a subset of RFC 5545. A day matches if it matches all parts; an empty list
  * excludes no day. A list has at most FOTS_MAX_VALUES values. A rule without days of the year, days

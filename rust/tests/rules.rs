@@ -8,7 +8,7 @@ use fotsevindre::Frequency::{Daily, Monthly, Weekly, Yearly};
 use fotsevindre::Month::{December, February, January, July, June, November};
 use fotsevindre::Weekday::{Friday, Monday, Saturday, Sunday, Thursday, Tuesday, Wednesday};
 use fotsevindre::error::TooManyValues;
-use fotsevindre::recurrence::{DateOrTime, ParseRuleError, ParseRuleErrorKind, RecurrenceSet, RuleCount, RuleEnd, RulePart, parse};
+use fotsevindre::recurrence::{DateOrTime, ParseRuleError, ParseRuleErrorKind, RecurrenceSet, RuleCount, RuleEnd, RulePart, parse, parse_days};
 use fotsevindre::schedule::{Pattern, Values};
 use fotsevindre::{ByDay, Date, Duration, Frequency, Month, OffsetDateTime, PlainDateTime, Rule, Time, Zone};
 
@@ -229,7 +229,7 @@ fn texts_at_fault() {
         ("FREQ=MONTHLY;HOUR=9;BYDAY=FR", 13, ParseRuleErrorKind::Unknown, "unknown part at 13"),
         ("FREQ=DAILY;UNTIL=20241231;COUNT=3", 26, ParseRuleErrorKind::Twice(RulePart::Count), "duplicate COUNT at 26"),
         (&many, 11, ParseRuleErrorKind::TooMany(RulePart::MonthDays), "too many values in BYMONTHDAY at 11"),
-        ("FREQ=HOURLY", 0, ParseRuleErrorKind::Value(RulePart::Frequency), "invalid value of FREQ at 0"),
+        ("FREQ=HOURS", 0, ParseRuleErrorKind::Value(RulePart::Frequency), "invalid value of FREQ at 0"),
         ("FREQ=DAILY;INTERVAL=0", 11, ParseRuleErrorKind::Value(RulePart::Interval), "invalid value of INTERVAL at 11"),
         ("FREQ=DAILY;WKST=1MO", 11, ParseRuleErrorKind::Value(RulePart::WeekStart), "invalid value of WKST at 11"),
         ("FREQ=DAILY;BYMONTH=13", 11, ParseRuleErrorKind::Value(RulePart::Months), "invalid value of BYMONTH at 11"),
@@ -337,4 +337,15 @@ fn many_readings() {
     let many = [start; 1025];
     let mut readings = set.counted_set(start, &[], &many).readings();
     assert_eq!(readings.next(), Some(at(2024_01_02, 12, 0)));
+}
+
+#[test]
+fn hours() {
+    let nine = PlainDateTime::new(date(1997_09_02), Time::from_hms(9, 0, 0).unwrap());
+    let by_text = parse(b"FREQ=HOURLY;INTERVAL=3;UNTIL=19970902T170000").unwrap();
+    let hours: Vec<_> = by_text.readings(nine).map(|reading| reading.time().hour()).collect();
+    assert_eq!(hours, [9, 12, 15]);
+    assert_eq!(by_text.text().as_str(), "FREQ=HOURLY;INTERVAL=3;UNTIL=19970902T170000");
+    let fault = parse_days(b"FREQ=HOURLY").unwrap_err();
+    assert_eq!((fault.position, fault.reason), (0, ParseRuleErrorKind::Value(RulePart::Frequency)));
 }

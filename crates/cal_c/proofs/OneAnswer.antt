@@ -3,7 +3,7 @@ use Rattle.std.proofs.Common.{◌≡◌, ℕ, ap, ◌∙◌, sym, arith, filter,
 use Rattle.std.proofs.lemmas.Bool.{cases_lt}
 use Rattle.std.proofs.lemmas.List.{ext_get_or}
 use Rattle.cal_recurrence.specs.Days.{days_of}
-use Rattle.cal_recurrence.specs.Text.{recurrence_of}
+use Rattle.cal_recurrence.specs.Text.{day_recurrence_of}
 use Rattle.cal_recurrence.specs.declared.fault.ParseRuleError.{ParseRuleError}
 use Rattle.cal_recurrence.specs.declared.recurrence.Recurrence.{Recurrence}
 use Rattle.cal_c.proofs.Days.{either}
@@ -40,13 +40,13 @@ answer-one its start from old a b r s lengths (e, v) (f, w) =
 
 -- all of them
 pub record Clauses (text : List ℕ) (start from : ℤ) (old new : List ℤ) (r : RecurrenceResult) : Type 0 where
-  pub unread : (fault : ParseRuleError) → recurrence_of text ≡ Err fault → (r ≡ recurrence_parse_error fault) × (new ≡ old)
-  pub invalid_date : (its : Recurrence) → recurrence_of text ≡ Ok its → ¬ (IsJulianDay start × IsJulianDay from)
+  pub unread : (fault : ParseRuleError) → day_recurrence_of text ≡ Err fault → (r ≡ recurrence_parse_error fault) × (new ≡ old)
+  pub invalid_date : (its : Recurrence) → day_recurrence_of text ≡ Ok its → ¬ (IsJulianDay start × IsJulianDay from)
       → (r ≡ recurrence_error INVALID_DATE) × (new ≡ old)
-  pub days : (its : Recurrence) → recurrence_of text ≡ Ok its → IsJulianDay start → IsJulianDay from → IsAnswer its start from old new r
+  pub days : (its : Recurrence) → day_recurrence_of text ≡ Ok its → IsJulianDay start → IsJulianDay from → IsAnswer its start from old new r
 
 pub recurrence-one : (text : List ℕ) (start from : ℤ) (old a b : List ℤ) (r s : RecurrenceResult) (x : Result Recurrence ParseRuleError)
-    → recurrence_of text ≡ x → IsJulianDay start ⊎ (¬ IsJulianDay start) → IsJulianDay from ⊎ (¬ IsJulianDay from) → length a ≡ length b
+    → day_recurrence_of text ≡ x → IsJulianDay start ⊎ (¬ IsJulianDay start) → IsJulianDay from ⊎ (¬ IsJulianDay from) → length a ≡ length b
     → Clauses text start from old a r → Clauses text start from old b s → (r ≡ s) × (a ≡ b)
 recurrence-one text start from old a b r s (Err fault) e either_start either_from lengths p q =
     let one = p.unread fault e in

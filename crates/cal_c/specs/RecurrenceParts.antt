@@ -1,11 +1,14 @@
 -- The parts of a recurrence as numbers.
-use Rattle.std.specs.Prelude.{ℕ, ◌+◌, ◌-◌, ℤ, pos, List, ◌++◌, length, map, replicate, Result, Ok, Err}
+use Rattle.std.specs.Prelude.{ℕ, ◌+◌, ◌-◌, ℤ, pos, List, ◌++◌, length, map, replicate, Option, Some, None, Result, Ok, Err}
 use Rattle.cal_time.specs.Date.{julian_day_at}
 use Rattle.cal_time.specs.Month.{number}
 use Rattle.cal_time.specs.Weekday.{index}
 use Rattle.cal_schedule.specs.declared.rule.rule.ByDay.{ByDay}
 use Rattle.cal_schedule.specs.declared.rule.rule.ByDay.TheVariants.{Every, Nth}
+use Rattle.cal_schedule.specs.declared.rule.rule.Frequency.{Frequency}
 use Rattle.cal_recurrence.specs.DateOrTime.{date_of}
+use Rattle.cal_recurrence.specs.declared.clock_unit.ClockUnit.{ClockUnit}
+use Rattle.cal_recurrence.specs.declared.clock_unit.ClockUnit.TheVariants as unit
 use Rattle.cal_recurrence.specs.declared.fault.ParseRuleError.{ParseRuleError}
 use Rattle.cal_recurrence.specs.declared.recurrence.Recurrence.{Recurrence}
 use Rattle.cal_recurrence.specs.declared.recurrence.RuleEnd.{RuleEnd}
@@ -31,6 +34,13 @@ count_in Never = 0
 count_in (Until last) = 0
 count_in (Count n) = n
 
+-- The number of a frequency, or of periods within days: 5 for hours, 6 for minutes, 7 for seconds.
+abbrev pub period_number : Option ClockUnit → Frequency → ℕ
+period_number None f = frequency_number f
+period_number (Some unit.Hour) f = 5
+period_number (Some unit.Minute) f = 6
+period_number (Some unit.Second) f = 7
+
 -- A weekday of a rule as numbers.
 abbrev pub parts_of_weekday : ByDay → RuleWeekday
 parts_of_weekday (Every w) = record { number = pos 0; weekday = index w + 1 }
@@ -47,7 +57,7 @@ filled x xs = xs ++ replicate (62 - length xs) x
 -- The parts of a recurrence.
 abbrev pub parts_of : Recurrence → RecurrenceParts
 parts_of r = record {
-  frequency = frequency_number r.pattern.frequency;
+  frequency = period_number r.times.clock r.pattern.frequency;
   interval = r.pattern.interval;
   week_start = index r.pattern.week_start + 1;
   until = until_in r.end;

@@ -19,11 +19,13 @@ use Rattle.cal_time.specs.declared.Weekday.{Weekday}
 use Rattle.cal_datetime.specs.DateTime.{date_time}
 use Rattle.cal_datetime.specs.DateTimeLaws.{IsDateTime-date_time, date_at-date_time, time_at-date_time}
 use Rattle.cal_schedule.specs.declared.rule.rule.ByDay.TheVariants.{Every, Nth}
+use Rattle.cal_schedule.specs.declared.rule.rule.Frequency.{Frequency}
 use Rattle.cal_recurrence.specs.DateWords.{date_or_time_of, day_with, has_digits, time_with, with_time, with_zone}
 use Rattle.cal_recurrence.specs.Days.{excluded, ranks_alone}
-use Rattle.cal_recurrence.specs.Spelled.{HasFourDigits, IsCount, IsDateOrTime, IsIndex, IsMonthDay, IsByDay, IsHour, IsMinute, IsPosition, IsSecond, IsWeek, IsEnd, IsSpelled, IsWhole}
+use Rattle.cal_recurrence.specs.Spelled.{HasFourDigits, IsCount, IsDateOrTime, IsIndex, IsMonthDay, IsByDay, IsHour, IsMinute, IsPosition, IsSecond, IsWeek, IsEnd, IsPeriod, IsSpelled, IsWhole}
 use Rattle.cal_recurrence.specs.Text.{fault, each, list_of, has_few_words, is_given, put, put_value, put_part, and_on, read_on, nothing}
 use Rattle.cal_recurrence.specs.Words.{bytes_after, by_hour_of, by_minute_of, by_second_of, clock_value_of, first_bytes, is_alike, parts_at, up_to, front_at, rest_at, part_of, frequency_of, is_number, number_of, from_one_to, count_of, short_count_of, index_of, weekday_of, month_of, month_day_of, week_of, by_day_of, position_of}
+use Rattle.cal_recurrence.specs.declared.clock_unit.ClockUnit.{ClockUnit}
 use Rattle.cal_recurrence.specs.declared.date_or_time.DateOrTime.TheVariants.{Date, Local, Utc}
 use Rattle.cal_recurrence.specs.declared.draft.Draft.{Draft}
 use Rattle.cal_recurrence.specs.declared.fault.ParseRuleError.{ParseRuleError}
@@ -203,7 +205,23 @@ list-is : {X : Type 0} (P : X → Type 0) (meaning : List ℕ → Option X) → 
 list-is P meaning h value = each-is P meaning h (parts_at 44 value)
 
 -- ---- parts
+period-if : (b : Bool) (x : Frequency × Option ClockUnit) (o : Option (Frequency × Option ClockUnit)) → IsPeriod x.0 x.1 → IfSome o (λ y. IsPeriod y.0 y.1)
+    → IfSome (cond b (Some x) o) (λ y. IsPeriod y.0 y.1)
+period-if true x o h k = h
+period-if false x o h k = k
+
+periods : (word : List ℕ) → IfSome (frequency_of word) (λ x. IsPeriod x.0 x.1)
+periods word =
+    period-if (is_alike word (codes "DAILY")) _ _ tt (
+    period-if (is_alike word (codes "WEEKLY")) _ _ tt (
+    period-if (is_alike word (codes "MONTHLY")) _ _ tt (
+    period-if (is_alike word (codes "YEARLY")) _ _ tt (
+    period-if (is_alike word (codes "HOURLY")) _ _ refl (
+    period-if (is_alike word (codes "MINUTELY")) _ _ refl (
+    period-if (is_alike word (codes "SECONDLY")) _ None refl tt))))))
+
 record IsRead (r : Recurrence) : Type 0 where
+  period : IsPeriod r.pattern.frequency r.times.clock
   interval : IsCount r.pattern.interval
   weeks : All IsWeek r.pattern.weeks
   year_days : All IsPosition r.pattern.year_days
@@ -219,20 +237,20 @@ abbrev IsDraft : Draft → Type 0
 IsDraft d = IsRead d.recurrence
 
 put-is : (d : Draft) (at : RulePart) (value : List ℕ) → IsDraft d → IfSome (put d at value) IsDraft
-put-is d part.Frequency value h = mapped (λ x. ⊤) IsDraft _ (frequency_of value) (λ x p. record { interval = h.interval; weeks = h.weeks; year_days = h.year_days; month_days = h.month_days; weekdays = h.weekdays; hours = h.hours; minutes = h.minutes; seconds = h.seconds; set_positions = h.set_positions; end = h.end }) (any (frequency_of value))
-put-is d part.Interval value h = mapped IsCount IsDraft _ (count_of 4294967295 value) (λ x p. record { interval = p; weeks = h.weeks; year_days = h.year_days; month_days = h.month_days; weekdays = h.weekdays; hours = h.hours; minutes = h.minutes; seconds = h.seconds; set_positions = h.set_positions; end = h.end }) (counts value)
-put-is d part.WeekStart value h = mapped (λ x. ⊤) IsDraft _ (weekday_of value) (λ x p. record { interval = h.interval; weeks = h.weeks; year_days = h.year_days; month_days = h.month_days; weekdays = h.weekdays; hours = h.hours; minutes = h.minutes; seconds = h.seconds; set_positions = h.set_positions; end = h.end }) (any (weekday_of value))
-put-is d part.Months value h = mapped (λ x. ⊤) IsDraft _ (list_of month_of value) (λ x p. record { interval = h.interval; weeks = h.weeks; year_days = h.year_days; month_days = h.month_days; weekdays = h.weekdays; hours = h.hours; minutes = h.minutes; seconds = h.seconds; set_positions = h.set_positions; end = h.end }) (any (list_of month_of value))
-put-is d part.Weeks value h = mapped (All IsWeek) IsDraft _ (list_of week_of value) (λ x p. record { interval = h.interval; weeks = p; year_days = h.year_days; month_days = h.month_days; weekdays = h.weekdays; hours = h.hours; minutes = h.minutes; seconds = h.seconds; set_positions = h.set_positions; end = h.end }) (list-is IsWeek week_of (indexed 2 53) value)
-put-is d part.YearDays value h = mapped (All IsPosition) IsDraft _ (list_of position_of value) (λ x p. record { interval = h.interval; weeks = h.weeks; year_days = p; month_days = h.month_days; weekdays = h.weekdays; hours = h.hours; minutes = h.minutes; seconds = h.seconds; set_positions = h.set_positions; end = h.end }) (list-is IsPosition position_of (indexed 3 366) value)
-put-is d part.MonthDays value h = mapped (All IsMonthDay) IsDraft _ (list_of month_day_of value) (λ x p. record { interval = h.interval; weeks = h.weeks; year_days = h.year_days; month_days = p; weekdays = h.weekdays; hours = h.hours; minutes = h.minutes; seconds = h.seconds; set_positions = h.set_positions; end = h.end }) (list-is IsMonthDay month_day_of (indexed 2 31) value)
-put-is d part.Weekdays value h = mapped (All IsByDay) IsDraft _ (list_of by_day_of value) (λ x p. record { interval = h.interval; weeks = h.weeks; year_days = h.year_days; month_days = h.month_days; weekdays = p; hours = h.hours; minutes = h.minutes; seconds = h.seconds; set_positions = h.set_positions; end = h.end }) (list-is IsByDay by_day_of by_days value)
-put-is d part.Hours value h = mapped (All IsHour) IsDraft _ (list_of by_hour_of value) (λ x p. record { interval = h.interval; weeks = h.weeks; year_days = h.year_days; month_days = h.month_days; weekdays = h.weekdays; hours = p; minutes = h.minutes; seconds = h.seconds; set_positions = h.set_positions; end = h.end }) (list-is IsHour by_hour_of (clock-valued 23) value)
-put-is d part.Minutes value h = mapped (All IsMinute) IsDraft _ (list_of by_minute_of value) (λ x p. record { interval = h.interval; weeks = h.weeks; year_days = h.year_days; month_days = h.month_days; weekdays = h.weekdays; hours = h.hours; minutes = p; seconds = h.seconds; set_positions = h.set_positions; end = h.end }) (list-is IsMinute by_minute_of (clock-valued 59) value)
-put-is d part.Seconds value h = mapped (All IsSecond) IsDraft _ (list_of by_second_of value) (λ x p. record { interval = h.interval; weeks = h.weeks; year_days = h.year_days; month_days = h.month_days; weekdays = h.weekdays; hours = h.hours; minutes = h.minutes; seconds = p; set_positions = h.set_positions; end = h.end }) (list-is IsSecond by_second_of (clock-valued 60) value)
-put-is d part.Positions value h = mapped (All IsPosition) IsDraft _ (list_of position_of value) (λ x p. record { interval = h.interval; weeks = h.weeks; year_days = h.year_days; month_days = h.month_days; weekdays = h.weekdays; hours = h.hours; minutes = h.minutes; seconds = h.seconds; set_positions = p; end = h.end }) (list-is IsPosition position_of (indexed 3 366) value)
-put-is d part.Until value h = mapped IsDateOrTime IsDraft _ (date_or_time_of value) (λ x p. record { interval = h.interval; weeks = h.weeks; year_days = h.year_days; month_days = h.month_days; weekdays = h.weekdays; hours = h.hours; minutes = h.minutes; seconds = h.seconds; set_positions = h.set_positions; end = p }) (dates value)
-put-is d part.Count value h = mapped IsCount IsDraft _ (count_of 4294967295 value) (λ x p. record { interval = h.interval; weeks = h.weeks; year_days = h.year_days; month_days = h.month_days; weekdays = h.weekdays; hours = h.hours; minutes = h.minutes; seconds = h.seconds; set_positions = h.set_positions; end = p }) (counts value)
+put-is d part.Frequency value h = mapped (λ x. IsPeriod x.0 x.1) IsDraft _ (frequency_of value) (λ x p. record { period = p; interval = h.interval; weeks = h.weeks; year_days = h.year_days; month_days = h.month_days; weekdays = h.weekdays; hours = h.hours; minutes = h.minutes; seconds = h.seconds; set_positions = h.set_positions; end = h.end }) (periods value)
+put-is d part.Interval value h = mapped IsCount IsDraft _ (count_of 4294967295 value) (λ x p. record { period = h.period; interval = p; weeks = h.weeks; year_days = h.year_days; month_days = h.month_days; weekdays = h.weekdays; hours = h.hours; minutes = h.minutes; seconds = h.seconds; set_positions = h.set_positions; end = h.end }) (counts value)
+put-is d part.WeekStart value h = mapped (λ x. ⊤) IsDraft _ (weekday_of value) (λ x p. record { period = h.period; interval = h.interval; weeks = h.weeks; year_days = h.year_days; month_days = h.month_days; weekdays = h.weekdays; hours = h.hours; minutes = h.minutes; seconds = h.seconds; set_positions = h.set_positions; end = h.end }) (any (weekday_of value))
+put-is d part.Months value h = mapped (λ x. ⊤) IsDraft _ (list_of month_of value) (λ x p. record { period = h.period; interval = h.interval; weeks = h.weeks; year_days = h.year_days; month_days = h.month_days; weekdays = h.weekdays; hours = h.hours; minutes = h.minutes; seconds = h.seconds; set_positions = h.set_positions; end = h.end }) (any (list_of month_of value))
+put-is d part.Weeks value h = mapped (All IsWeek) IsDraft _ (list_of week_of value) (λ x p. record { period = h.period; interval = h.interval; weeks = p; year_days = h.year_days; month_days = h.month_days; weekdays = h.weekdays; hours = h.hours; minutes = h.minutes; seconds = h.seconds; set_positions = h.set_positions; end = h.end }) (list-is IsWeek week_of (indexed 2 53) value)
+put-is d part.YearDays value h = mapped (All IsPosition) IsDraft _ (list_of position_of value) (λ x p. record { period = h.period; interval = h.interval; weeks = h.weeks; year_days = p; month_days = h.month_days; weekdays = h.weekdays; hours = h.hours; minutes = h.minutes; seconds = h.seconds; set_positions = h.set_positions; end = h.end }) (list-is IsPosition position_of (indexed 3 366) value)
+put-is d part.MonthDays value h = mapped (All IsMonthDay) IsDraft _ (list_of month_day_of value) (λ x p. record { period = h.period; interval = h.interval; weeks = h.weeks; year_days = h.year_days; month_days = p; weekdays = h.weekdays; hours = h.hours; minutes = h.minutes; seconds = h.seconds; set_positions = h.set_positions; end = h.end }) (list-is IsMonthDay month_day_of (indexed 2 31) value)
+put-is d part.Weekdays value h = mapped (All IsByDay) IsDraft _ (list_of by_day_of value) (λ x p. record { period = h.period; interval = h.interval; weeks = h.weeks; year_days = h.year_days; month_days = h.month_days; weekdays = p; hours = h.hours; minutes = h.minutes; seconds = h.seconds; set_positions = h.set_positions; end = h.end }) (list-is IsByDay by_day_of by_days value)
+put-is d part.Hours value h = mapped (All IsHour) IsDraft _ (list_of by_hour_of value) (λ x p. record { period = h.period; interval = h.interval; weeks = h.weeks; year_days = h.year_days; month_days = h.month_days; weekdays = h.weekdays; hours = p; minutes = h.minutes; seconds = h.seconds; set_positions = h.set_positions; end = h.end }) (list-is IsHour by_hour_of (clock-valued 23) value)
+put-is d part.Minutes value h = mapped (All IsMinute) IsDraft _ (list_of by_minute_of value) (λ x p. record { period = h.period; interval = h.interval; weeks = h.weeks; year_days = h.year_days; month_days = h.month_days; weekdays = h.weekdays; hours = h.hours; minutes = p; seconds = h.seconds; set_positions = h.set_positions; end = h.end }) (list-is IsMinute by_minute_of (clock-valued 59) value)
+put-is d part.Seconds value h = mapped (All IsSecond) IsDraft _ (list_of by_second_of value) (λ x p. record { period = h.period; interval = h.interval; weeks = h.weeks; year_days = h.year_days; month_days = h.month_days; weekdays = h.weekdays; hours = h.hours; minutes = h.minutes; seconds = p; set_positions = h.set_positions; end = h.end }) (list-is IsSecond by_second_of (clock-valued 60) value)
+put-is d part.Positions value h = mapped (All IsPosition) IsDraft _ (list_of position_of value) (λ x p. record { period = h.period; interval = h.interval; weeks = h.weeks; year_days = h.year_days; month_days = h.month_days; weekdays = h.weekdays; hours = h.hours; minutes = h.minutes; seconds = h.seconds; set_positions = p; end = h.end }) (list-is IsPosition position_of (indexed 3 366) value)
+put-is d part.Until value h = mapped IsDateOrTime IsDraft _ (date_or_time_of value) (λ x p. record { period = h.period; interval = h.interval; weeks = h.weeks; year_days = h.year_days; month_days = h.month_days; weekdays = h.weekdays; hours = h.hours; minutes = h.minutes; seconds = h.seconds; set_positions = h.set_positions; end = p }) (dates value)
+put-is d part.Count value h = mapped IsCount IsDraft _ (count_of 4294967295 value) (λ x p. record { period = h.period; interval = h.interval; weeks = h.weeks; year_days = h.year_days; month_days = h.month_days; weekdays = h.weekdays; hours = h.hours; minutes = h.minutes; seconds = h.seconds; set_positions = h.set_positions; end = p }) (counts value)
 
 or-err : {E : Type 0} (o : Option Draft) (why : E) → IfSome o IsDraft → IfOk (option_map_or Ok o (Err why)) IsDraft
 or-err None why h = tt
@@ -274,5 +292,5 @@ pub read_is_spelled : (at : ℕ) (draft : Draft) (texts : List (List ℕ)) (r : 
 read_is_spelled at draft texts r e f allowed ranked =
     let is : IfOk {E = ParseRuleError} (Ok r) IsRead =
     subst (λ s. IfOk s IsRead) (sym (f ∙ ap (λ d. read_on at d texts) e))
-    (read-on at nothing texts (record { interval = (omega arith, omega arith); weeks = All-nil IsWeek; year_days = All-nil IsPosition; month_days = All-nil IsMonthDay; weekdays = All-nil IsByDay; hours = All-nil IsHour; minutes = All-nil IsMinute; seconds = All-nil IsSecond; set_positions = All-nil IsPosition; end = tt })) in
-    record { interval = is.interval; each_week = is.weeks; each_year_day = is.year_days; each_month_day = is.month_days; each_weekday = is.weekdays; each_hour = is.hours; each_minute = is.minutes; each_second = is.seconds; each_position = is.set_positions; allowed = allowed; ranked = ranked; end = is.end }
+    (read-on at nothing texts (record { period = tt; interval = (omega arith, omega arith); weeks = All-nil IsWeek; year_days = All-nil IsPosition; month_days = All-nil IsMonthDay; weekdays = All-nil IsByDay; hours = All-nil IsHour; minutes = All-nil IsMinute; seconds = All-nil IsSecond; set_positions = All-nil IsPosition; end = tt })) in
+    record { period = is.period; interval = is.interval; each_week = is.weeks; each_year_day = is.year_days; each_month_day = is.month_days; each_weekday = is.weekdays; each_hour = is.hours; each_minute = is.minutes; each_second = is.seconds; each_position = is.set_positions; allowed = allowed; ranked = ranked; end = is.end }

@@ -62,6 +62,7 @@ recurrence-is text =
 -- the recurrence of a set without one
 once-spelled : IsSpelled once
 once-spelled = record {
+  period = tt;
   interval = (omega arith, omega arith);
   each_week = All-nil IsWeek;
   each_year_day = All-nil IsPosition;

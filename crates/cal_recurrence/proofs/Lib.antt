@@ -33,3 +33,4 @@ pub mod Unfolding
 pub mod Puts
 pub mod FoldedLines
 pub mod FoldedParts
+pub mod ClockSearches

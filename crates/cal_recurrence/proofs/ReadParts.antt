@@ -13,11 +13,11 @@ use Rattle.cal_schedule.specs.declared.rule.rule.ByDay.{ByDay}
 use Rattle.cal_schedule.specs.Pattern.{every}
 use Rattle.cal_schedule.specs.declared.rule.pattern.Pattern.{Pattern}
 use Rattle.cal_recurrence.specs.DateWords.{date_or_time_of}
-use Rattle.cal_recurrence.specs.Spelled.{IsCount, IsMonthDay, IsByDay, IsHour, IsMinute, IsPosition, IsSecond, IsWeek, IsEnd, IsSpelled}
+use Rattle.cal_recurrence.specs.Spelled.{IsCount, IsMonthDay, IsByDay, IsHour, IsMinute, IsPosition, IsSecond, IsWeek, IsEnd, IsPeriod, IsSpelled}
 use Rattle.cal_recurrence.specs.Text.{list_of, is_given, parts_say, put, put_value, put_part, read_on, nothing, recurrence_of, ReadsBack}
-use Rattle.cal_recurrence.specs.TimesOfDay.{no_times}
 use Rattle.cal_recurrence.specs.Words.{bytes_after, first_bytes, has_name, parts_at, frequency_of, weekday_of, count_of, month_of, month_day_of, week_of, by_day_of, by_hour_of, by_minute_of, by_second_of, position_of}
-use Rattle.cal_recurrence.specs.Written.{frequency_text, weekday_text, month_text, by_day_text, position_text, date_or_time_text, interval_text, end_text, list_text, week_start_text, text_of}
+use Rattle.cal_recurrence.specs.Written.{period_text, weekday_text, month_text, by_day_text, position_text, date_or_time_text, interval_text, end_text, list_text, week_start_text, text_of}
+use Rattle.cal_recurrence.specs.declared.clock_unit.ClockUnit.{ClockUnit}
 use Rattle.cal_recurrence.specs.declared.draft.Draft.{Draft}
 use Rattle.cal_recurrence.specs.declared.fault.RulePart.{RulePart}
 use Rattle.cal_recurrence.specs.declared.fault.RulePart.TheVariants as part
@@ -77,47 +77,51 @@ draft_of pattern times end has_interval has_week_start = record {
   has_week_start = has_week_start;
 }
 
-frequency-said : (f : Frequency) (rest : List ℕ) (r : Recurrence) → Says (draft_of (every f) no_times Never false false) rest r
-    → Says nothing (59 ∷ ((codes "FREQ=" ++ frequency_text f) ++ rest)) r
-frequency-said f rest r h =
-    let value = one-word frequency_of f (frequency_text f) (frequency-word f) in
-    one-part nothing (draft_of (every f) no_times Never false false) (codes "FREQ=" ++ frequency_text f) rest r
-    (plain-value frequency_of f (codes "FREQ=") (frequency_text f) refl refl value)
-    (given nothing part.Frequency (frequency_text f) frequency_of f (λ x. draft_of (every x) no_times Never false false) value refl refl) h
+-- the times of day without lists
+abbrev no_lists : Option ClockUnit → TimesOfDay
+no_lists c = record { hours = []; minutes = []; seconds = []; clock = c }
 
-interval-said : (p : Pattern) (n : ℕ) (rest : List ℕ) (r : Recurrence) → IsCount n
-    → ((b : Bool) → Says (draft_of (record p { interval = n }) no_times Never b false) rest r)
-    → Says (draft_of (record p { interval = 1 }) no_times Never false false) (interval_text n ++ rest) r
-interval-said p n rest r is h =
-    let none = draft_of (record p { interval = 1 }) no_times Never false false in
+frequency-said : (f : Frequency) (c : Option ClockUnit) (rest : List ℕ) (r : Recurrence) → IsPeriod f c → Says (draft_of (every f) (no_lists c) Never false false) rest r
+    → Says nothing (59 ∷ ((codes "FREQ=" ++ period_text f c) ++ rest)) r
+frequency-said f c rest r is h =
+    let value = one-word frequency_of (f, c) (period_text f c) (frequency-word f c is) in
+    one-part nothing (draft_of (every f) (no_lists c) Never false false) (codes "FREQ=" ++ period_text f c) rest r
+    (plain-value frequency_of (f, c) (codes "FREQ=") (period_text f c) refl refl value)
+    (given nothing part.Frequency (period_text f c) frequency_of (f, c) (λ x. draft_of (every x.0) (no_lists x.1) Never false false) value refl refl) h
+
+interval-said : (p : Pattern) (c : Option ClockUnit) (n : ℕ) (rest : List ℕ) (r : Recurrence) → IsCount n
+    → ((b : Bool) → Says (draft_of (record p { interval = n }) (no_lists c) Never b false) rest r)
+    → Says (draft_of (record p { interval = 1 }) (no_lists c) Never false false) (interval_text n ++ rest) r
+interval-said p c n rest r is h =
+    let none = draft_of (record p { interval = 1 }) (no_lists c) Never false false in
     let value = one-word (count_of 4294967295) n (decimal n) (count-word n is) in
     let text : Bool → List ℕ = λ b. cond b [] (codes ";INTERVAL=" ++ decimal n) in
     elim (cases_Bool (eqb n 1)) as (λ _. Says none (interval_text n ++ rest) r) [
       | inl one ↦
           subst (λ b. Says none (text b ++ rest) r) (sym one)
-          (subst (λ m. Says (draft_of (record p { interval = m }) no_times Never false false) rest r) (eqb-true n 1 one) (h false))
+          (subst (λ m. Says (draft_of (record p { interval = m }) (no_lists c) Never false false) rest r) (eqb-true n 1 one) (h false))
       | inr more ↦
           subst (λ b. Says none (text b ++ rest) r) (sym more)
-          (one-part none (draft_of (record p { interval = n }) no_times Never true false) (codes "INTERVAL=" ++ decimal n) rest r
+          (one-part none (draft_of (record p { interval = n }) (no_lists c) Never true false) (codes "INTERVAL=" ++ decimal n) rest r
           (plain-value (count_of 4294967295) n (codes "INTERVAL=") (decimal n) refl refl value)
-          (given none part.Interval (decimal n) (count_of 4294967295) n (λ x. draft_of (record p { interval = x }) no_times Never true false) value refl refl) (h true))
+          (given none part.Interval (decimal n) (count_of 4294967295) n (λ x. draft_of (record p { interval = x }) (no_lists c) Never true false) value refl refl) (h true))
     ]
 
-end-said : (p : Pattern) (i : Bool) (end : RuleEnd) (rest : List ℕ) (r : Recurrence) → IsEnd end → Says (draft_of p no_times end i false) rest r
-    → Says (draft_of p no_times Never i false) (end_text end ++ rest) r
-end-said p i Never rest r is h = h
-end-said p i (Until last) rest r is h =
-    let none = draft_of p no_times Never i false in
+end-said : (p : Pattern) (c : Option ClockUnit) (i : Bool) (end : RuleEnd) (rest : List ℕ) (r : Recurrence) → IsEnd end → Says (draft_of p (no_lists c) end i false) rest r
+    → Says (draft_of p (no_lists c) Never i false) (end_text end ++ rest) r
+end-said p c i Never rest r is h = h
+end-said p c i (Until last) rest r is h =
+    let none = draft_of p (no_lists c) Never i false in
     let value = one-word date_or_time_of last (date_or_time_text last) (date-word last is) in
-    one-part none (draft_of p no_times (Until last) i false) (codes "UNTIL=" ++ date_or_time_text last) rest r
+    one-part none (draft_of p (no_lists c) (Until last) i false) (codes "UNTIL=" ++ date_or_time_text last) rest r
     (plain-value date_or_time_of last (codes "UNTIL=") (date_or_time_text last) refl refl value)
-    (given none part.Until (date_or_time_text last) date_or_time_of last (λ x. draft_of p no_times (Until x) i false) value refl refl) h
-end-said p i (Count n) rest r is h =
-    let none = draft_of p no_times Never i false in
+    (given none part.Until (date_or_time_text last) date_or_time_of last (λ x. draft_of p (no_lists c) (Until x) i false) value refl refl) h
+end-said p c i (Count n) rest r is h =
+    let none = draft_of p (no_lists c) Never i false in
     let value = one-word (count_of 4294967295) n (decimal n) (count-word n is) in
-    one-part none (draft_of p no_times (Count n) i false) (codes "COUNT=" ++ decimal n) rest r
+    one-part none (draft_of p (no_lists c) (Count n) i false) (codes "COUNT=" ++ decimal n) rest r
     (plain-value (count_of 4294967295) n (codes "COUNT=") (decimal n) refl refl value)
-    (given none part.Count (decimal n) (count_of 4294967295) n (λ x. draft_of p no_times (Count x) i false) value refl refl) h
+    (given none part.Count (decimal n) (count_of 4294967295) n (λ x. draft_of p (no_lists c) (Count x) i false) value refl refl) h
 
 -- a list, with the draft for each value of its part
 list-said : {X : Type 0} (to : List X → Draft) (at : RulePart) (name : List ℕ) (meaning : List ℕ → Option X) (text : X → List ℕ)
@@ -200,7 +204,7 @@ said r few h =
     let t = r.times in
     let to : List Month → List ℤ → List ℤ → List ℤ → List ByDay → List ℤ → Pattern =
     λ m n y d w k. record { frequency = p.frequency; interval = p.interval; week_start = weekday.Monday; months = m; weeks = n; year_days = y; month_days = d; weekdays = w; set_positions = k } in
-    let at : List ℕ → List ℕ → List ℕ → TimesOfDay = λ h m s. record { hours = h; minutes = m; seconds = s } in
+    let at : List ℕ → List ℕ → List ℕ → TimesOfDay = λ h m s. record { hours = h; minutes = m; seconds = s; clock = t.clock } in
     let days = to p.months p.weeks p.year_days p.month_days p.weekdays [] in
     let starts = week_start_text p.week_start ++ [] in
     let positions = list_text (codes ";BYSETPOS=") position_text p.set_positions ++ starts in
@@ -222,7 +226,7 @@ said r few h =
     let minute_words = words IsMinute by_minute_of decimal (λ n. clock-word 59 n (lit< tt)) t.minutes h.each_minute in
     let second_words = words IsSecond by_second_of decimal (λ n. clock-word 60 n (lit< tt)) t.seconds h.each_second in
     let position_words = words IsPosition position_of position_text position-word p.set_positions h.each_position in
-    subst (λ text. Says nothing (59 ∷ text) r) (sym (grouped (codes "FREQ=" ++ frequency_text p.frequency) (interval_text p.interval) (end_text r.end)
+    subst (λ text. Says nothing (59 ∷ text) r) (sym (grouped (codes "FREQ=" ++ period_text p.frequency t.clock) (interval_text p.interval) (end_text r.end)
     (list_text (codes ";BYMONTH=") month_text p.months)
     (list_text (codes ";BYWEEKNO=") position_text p.weeks)
     (list_text (codes ";BYYEARDAY=") position_text p.year_days)
@@ -233,13 +237,13 @@ said r few h =
     (list_text (codes ";BYSECOND=") decimal t.seconds)
     (list_text (codes ";BYSETPOS=") position_text p.set_positions)
     (week_start_text p.week_start)))
-    (frequency-said p.frequency interval r (interval-said (to [] [] [] [] [] []) p.interval end r h.interval (λ i.
-    end-said (to [] [] [] [] [] []) i r.end months r h.end (
-    list-said (λ xs. draft_of (to xs [] [] [] [] []) no_times r.end i false) part.Months (codes "BYMONTH=") month_of month_text (λ v. refl) refl (λ v. refl) refl refl p.months weeks r (month-words p.months) few.months (
-    list-said (λ xs. draft_of (to p.months xs [] [] [] []) no_times r.end i false) part.Weeks (codes "BYWEEKNO=") week_of position_text (λ v. refl) refl (λ v. refl) refl refl p.weeks year_days r week_words few.weeks (
-    list-said (λ xs. draft_of (to p.months p.weeks xs [] [] []) no_times r.end i false) part.YearDays (codes "BYYEARDAY=") position_of position_text (λ v. refl) refl (λ v. refl) refl refl p.year_days month_days r year_day_words few.year_days (
-    list-said (λ xs. draft_of (to p.months p.weeks p.year_days xs [] []) no_times r.end i false) part.MonthDays (codes "BYMONTHDAY=") month_day_of position_text (λ v. refl) refl (λ v. refl) refl refl p.month_days weekdays r day_words few.month_days (
-    list-said (λ xs. draft_of (to p.months p.weeks p.year_days p.month_days xs []) no_times r.end i false) part.Weekdays (codes "BYDAY=") by_day_of by_day_text (λ v. refl) refl (λ v. refl) refl refl p.weekdays hours r weekday_words few.weekdays (
+    (frequency-said p.frequency t.clock interval r h.period (interval-said (to [] [] [] [] [] []) t.clock p.interval end r h.interval (λ i.
+    end-said (to [] [] [] [] [] []) t.clock i r.end months r h.end (
+    list-said (λ xs. draft_of (to xs [] [] [] [] []) (no_lists t.clock) r.end i false) part.Months (codes "BYMONTH=") month_of month_text (λ v. refl) refl (λ v. refl) refl refl p.months weeks r (month-words p.months) few.months (
+    list-said (λ xs. draft_of (to p.months xs [] [] [] []) (no_lists t.clock) r.end i false) part.Weeks (codes "BYWEEKNO=") week_of position_text (λ v. refl) refl (λ v. refl) refl refl p.weeks year_days r week_words few.weeks (
+    list-said (λ xs. draft_of (to p.months p.weeks xs [] [] []) (no_lists t.clock) r.end i false) part.YearDays (codes "BYYEARDAY=") position_of position_text (λ v. refl) refl (λ v. refl) refl refl p.year_days month_days r year_day_words few.year_days (
+    list-said (λ xs. draft_of (to p.months p.weeks p.year_days xs [] []) (no_lists t.clock) r.end i false) part.MonthDays (codes "BYMONTHDAY=") month_day_of position_text (λ v. refl) refl (λ v. refl) refl refl p.month_days weekdays r day_words few.month_days (
+    list-said (λ xs. draft_of (to p.months p.weeks p.year_days p.month_days xs []) (no_lists t.clock) r.end i false) part.Weekdays (codes "BYDAY=") by_day_of by_day_text (λ v. refl) refl (λ v. refl) refl refl p.weekdays hours r weekday_words few.weekdays (
     list-said (λ xs. draft_of days (at xs [] []) r.end i false) part.Hours (codes "BYHOUR=") by_hour_of decimal (λ v. refl) refl (λ v. refl) refl refl t.hours minutes r hour_words few.hours (
     list-said (λ xs. draft_of days (at t.hours xs []) r.end i false) part.Minutes (codes "BYMINUTE=") by_minute_of decimal (λ v. refl) refl (λ v. refl) refl refl t.minutes seconds r minute_words few.minutes (
     list-said (λ xs. draft_of days (at t.hours t.minutes xs) r.end i false) part.Seconds (codes "BYSECOND=") by_second_of decimal (λ v. refl) refl (λ v. refl) refl refl t.seconds positions r second_words few.seconds (

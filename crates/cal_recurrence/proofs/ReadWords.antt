@@ -1,5 +1,5 @@
 -- The numbers and the names of a text, read back.
-use Rattle.std.proofs.Common.{◌≡◌, ℕ, suc, ◌-◌, ◌<◌, ◌≤◌, ◌^◌, true, false, eqb, List, [], ◌∷◌, ◌++◌, length, take, drop, Some, None, ℤ, pos, negsuc, inl, inr, refl, ap, ◌∙◌, arith, lit<}
+use Rattle.std.proofs.Common.{◌≡◌, ℕ, suc, ◌-◌, ◌<◌, ◌≤◌, ◌^◌, true, false, eqb, List, [], ◌∷◌, ◌++◌, length, take, drop, Some, None, ℤ, pos, negsuc, inl, inr, refl, ap, ◌∙◌, arith, lit<, Option, sym}
 use Rattle.std.specs.Prelude.{◌⊎◌, decimal, min, neg_ℤ, nat_le, slice_index, option_map, option_and_then, ◌&&◌}
 use Rattle.std.specs.Fmt.{signed_decimal}
 use Rattle.std.specs.Str.{all_ascii_digits}
@@ -18,9 +18,11 @@ use Rattle.cal_schedule.specs.declared.rule.rule.Frequency.{Frequency}
 use Rattle.cal_schedule.specs.declared.rule.rule.Frequency.TheVariants as frequency
 use Rattle.cal_schedule.specs.declared.rule.rule.ByDay.{ByDay}
 use Rattle.cal_schedule.specs.declared.rule.rule.ByDay.TheVariants.{Every, Nth}
-use Rattle.cal_recurrence.specs.Spelled.{IsCount, IsIndex, IsByDay}
+use Rattle.cal_recurrence.specs.Spelled.{IsPeriod, IsCount, IsIndex, IsByDay}
 use Rattle.cal_recurrence.specs.Words.{is_number, number_of, from_one_to, clock_value_of, count_of, short_count_of, index_of, frequency_of, weekday_of, month_of, month_day_of, week_of, position_of, by_day_of}
-use Rattle.cal_recurrence.specs.Written.{frequency_text, weekday_text, month_text, position_text, by_day_text}
+use Rattle.cal_recurrence.specs.Written.{period_text, weekday_text, month_text, position_text, by_day_text}
+use Rattle.cal_recurrence.specs.declared.clock_unit.ClockUnit.{ClockUnit}
+use Rattle.cal_recurrence.specs.declared.clock_unit.ClockUnit.TheVariants as unit
 use Rattle.cal_recurrence.proofs.Avoided.{avoids, avoids-append, avoids-cons}
 use Rattle.cal_recurrence.proofs.Numbers.{digits, numeral_is}
 use Rattle.cal_recurrence.proofs.ReadValues.{IsApart, IsWord}
@@ -130,11 +132,14 @@ month-word m = record {
   means = ap (option_map (λ n. month_with_index (n - 1))) (short-back 2 12 (number m) (lit< tt) (omega arith) (number-most m) (lit< tt) (lit< tt)) ∙ ap Some (number-back_to m);
 }
 
-pub frequency-word : (f : Frequency) → IsWord frequency_of f (frequency_text f)
-frequency-word frequency.Daily = record { apart = (refl, refl, refl); means = refl }
-frequency-word frequency.Weekly = record { apart = (refl, refl, refl); means = refl }
-frequency-word frequency.Monthly = record { apart = (refl, refl, refl); means = refl }
-frequency-word frequency.Yearly = record { apart = (refl, refl, refl); means = refl }
+pub frequency-word : (f : Frequency) (c : Option ClockUnit) → IsPeriod f c → IsWord frequency_of (f, c) (period_text f c)
+frequency-word frequency.Daily None h = record { apart = (refl, refl, refl); means = refl }
+frequency-word frequency.Weekly None h = record { apart = (refl, refl, refl); means = refl }
+frequency-word frequency.Monthly None h = record { apart = (refl, refl, refl); means = refl }
+frequency-word frequency.Yearly None h = record { apart = (refl, refl, refl); means = refl }
+frequency-word f (Some unit.Hour) h = record { apart = (refl, refl, refl); means = ap (λ x. Some (x, Some unit.Hour)) (sym h) }
+frequency-word f (Some unit.Minute) h = record { apart = (refl, refl, refl); means = ap (λ x. Some (x, Some unit.Minute)) (sym h) }
+frequency-word f (Some unit.Second) h = record { apart = (refl, refl, refl); means = ap (λ x. Some (x, Some unit.Second)) (sym h) }
 
 pub weekday-word : (w : Weekday) → IsWord weekday_of w (weekday_text w)
 weekday-word weekday.Monday = record { apart = (refl, refl, refl); means = refl }

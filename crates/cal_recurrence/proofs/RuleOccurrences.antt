@@ -11,7 +11,7 @@ use Rattle.cal_time.specs.Occurrences.{days_from}
 use Rattle.cal_datetime.specs.DateTime.{last_date_time, IsDateTime, date_at, time_at}
 use Rattle.cal_time.proofs.DateIters.{length-days_from}
 use Rattle.cal_recurrence.specs.DateTimeRule.{DateTimeParts, is_not_after, is_occurrence, occurrences, occurrences_after, occurrences_from, occurrences_left, readings_from, readings_left}
-use Rattle.cal_recurrence.specs.TimeSearch.{NoneIn, IsFirst, IsNext, selects}
+use Rattle.cal_recurrence.specs.TimeSearch.{NoneIn, IsFirst, IsNext, selects_reading}
 use Rattle.cal_recurrence.proofs.FirstNumbers.{first-of_list, list-first, list-none}
 
 pub le-true : (a b : ℤ) → int_le a b ≡ true → a ≤ℤ b
@@ -26,25 +26,25 @@ later-no (Some last) x k off h = false_from_ne_true _ (λ on.
     let within = le-true (pos k) last on in
     false≢true (sym off ∙ true-le (pos x) last (omega (arith, ints))))
 
--- A reading is an occurrence if it isn't before the start or after the end, and the rule selects
+-- A reading is an occurrence if it isn't before the start or after the end, and the rule selects_reading
 -- it.
-occurrence-is : (rule : DateTimeParts) (k : ℕ) → is_occurrence rule (pos k) ≡ (int_le rule.start (pos k) && (is_not_after rule.until (pos k) && selects rule k))
+occurrence-is : (rule : DateTimeParts) (k : ℕ) → is_occurrence rule (pos k) ≡ (int_le rule.start (pos k) && (is_not_after rule.until (pos k) && selects_reading rule k))
 unfolding is_occurrence date_at time_at
 occurrence-is rule k = refl
 
-occurs : (rule : DateTimeParts) (k : ℕ) → rule.start ≤ℤ pos k → is_not_after rule.until (pos k) ≡ true → selects rule k ≡ true → is_occurrence rule (pos k) ≡ true
+occurs : (rule : DateTimeParts) (k : ℕ) → rule.start ≤ℤ pos k → is_not_after rule.until (pos k) ≡ true → selects_reading rule k ≡ true → is_occurrence rule (pos k) ≡ true
 occurs rule k start by on =
-    occurrence-is rule k ∙ ap (λ b. b && (is_not_after rule.until (pos k) && selects rule k)) (true-le rule.start (pos k) start) ∙ ap (λ b. b && selects rule k) by ∙ on
+    occurrence-is rule k ∙ ap (λ b. b && (is_not_after rule.until (pos k) && selects_reading rule k)) (true-le rule.start (pos k) start) ∙ ap (λ b. b && selects_reading rule k) by ∙ on
 
 record IsSelected (rule : DateTimeParts) (k : ℕ) : Type 0 where
   start : rule.start ≤ℤ pos k
   by : is_not_after rule.until (pos k) ≡ true
-  on : selects rule k ≡ true
+  on : selects_reading rule k ≡ true
 
 off : (rule : DateTimeParts) (k : ℕ) → ¬ IsSelected rule k → is_occurrence rule (pos k) ≡ false
 off rule k none = false_from_ne_true _ (λ e.
-    let first = and_parts (int_le rule.start (pos k)) (is_not_after rule.until (pos k) && selects rule k) (sym (occurrence-is rule k) ∙ e) in
-    let second = and_parts (is_not_after rule.until (pos k)) (selects rule k) first.1 in
+    let first = and_parts (int_le rule.start (pos k)) (is_not_after rule.until (pos k) && selects_reading rule k) (sym (occurrence-is rule k) ∙ e) in
+    let second = and_parts (is_not_after rule.until (pos k)) (selects_reading rule k) first.1 in
     none (record { start = le-true rule.start (pos k) first.0; by = second.0; on = second.1 }))
 
 -- The test of the list of the occurrences.
@@ -58,10 +58,10 @@ first-listed : (rule : DateTimeParts) (m x : ℕ) → IsFirst (test rule) m (las
 first-listed rule m x h = ap (map pos) (list-first (test rule) m (last_date_time + 1) x h)
 
 -- the first occurrence from a reading on, by the first reading that passes
-pub none-pass : (rule : DateTimeParts) (m : ℕ) → m ≤ last_date_time + 1 → NoneIn (selects rule) m (last_date_time + 1) → None ≡ slice_get (occurrences_from rule m) 0
+pub none-pass : (rule : DateTimeParts) (m : ℕ) → m ≤ last_date_time + 1 → NoneIn (selects_reading rule) m (last_date_time + 1) → None ≡ slice_get (occurrences_from rule m) 0
 none-pass rule m h none = ap (λ l. slice_get l 0) (sym (none-listed rule m h (λ k low high. off rule k (λ on. false≢true (sym (none k low high) ∙ on.on)))))
 
-pub first-passes : (rule : DateTimeParts) (m x : ℕ) → rule.start ≤ℤ pos m → IsFirst (selects rule) m (last_date_time + 1) x → is_not_after rule.until (pos x) ≡ true
+pub first-passes : (rule : DateTimeParts) (m x : ℕ) → rule.start ≤ℤ pos m → IsFirst (selects_reading rule) m (last_date_time + 1) x → is_not_after rule.until (pos x) ≡ true
     → Some (pos x) ≡ slice_get (occurrences_from rule m) 0
 first-passes rule m x start h by = ap (λ l. slice_get l 0) (sym (first-listed rule m x (record {
   not_before = h.not_before;
@@ -70,7 +70,7 @@ first-passes rule m x start h by = ap (λ l. slice_get l 0) (sym (first-listed r
   none_before = λ k low high. off rule k (λ on. false≢true (sym (h.none_before k low high) ∙ on.on));
 })))
 
-pub past-end : (rule : DateTimeParts) (m x : ℕ) → m ≤ last_date_time + 1 → IsFirst (selects rule) m (last_date_time + 1) x → is_not_after rule.until (pos x) ≡ false
+pub past-end : (rule : DateTimeParts) (m x : ℕ) → m ≤ last_date_time + 1 → IsFirst (selects_reading rule) m (last_date_time + 1) x → is_not_after rule.until (pos x) ≡ false
     → None ≡ slice_get (occurrences_from rule m) 0
 past-end rule m x h first past = ap (λ l. slice_get l 0) (sym (none-listed rule m h (λ k low high. off rule k (λ on.
     elim (cases_lt k x) as (λ _. ⊥) [

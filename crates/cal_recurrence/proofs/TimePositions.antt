@@ -17,6 +17,7 @@ use Rattle.cal_recurrence.specs.DateTimeRule.{DateTimeParts, day_rule, days_of}
 use Rattle.cal_recurrence.specs.RuleInside.{IsInside, parts_of}
 use Rattle.cal_recurrence.specs.TimesOfDay.{matches_time, times_per_day}
 use Rattle.cal_recurrence.specs.TimeSearch.{day_position, selects, selects_time}
+use Rattle.cal_recurrence.specs.declared.clock_step.ClockStep.{ClockStep}
 use Rattle.cal_recurrence.specs.declared.times_of_day.TimesOfDay.{TimesOfDay}
 use Rattle.cal_recurrence.proofs.TimeCounts.{block-on, blocks}
 use Rattle.cal_recurrence.proofs.TimeSteps.{Splits, parts-of}
@@ -220,9 +221,9 @@ abbrev pub ranked : DateTimeParts → Rule
 ranked rule = with_positions rule (map (day_position (per_day rule)) rule.pattern.set_positions)
 
 -- The fields of a rule: its days are the days of its parts with the positions of days.
-pub days-are : (start : ℤ) (until : Option ℤ) (days : Rule) (times : TimesOfDay) (positions : List ℤ) (size : ℕ) (has : Bool) → IsInside start until days times positions size has
-    → days ≡ ranked (parts_of start until days times positions)
-days-are start until days times positions size has h =
+pub days-are : (start : ℤ) (until : Option ℤ) (days : Rule) (times : TimesOfDay) (positions : List ℤ) (size : ℕ) (has : Bool) (step : ClockStep) → IsInside start until days times positions size has
+    → days ≡ ranked (parts_of start until days times positions step)
+days-are start until days times positions size has step h =
     h.days_are ∙ rw (h.ranks_are, h.count_is) refl
 
 -- A day that isn't one of the rule with the positions of days has no reading.

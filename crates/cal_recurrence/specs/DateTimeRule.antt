@@ -8,20 +8,30 @@ use Rattle.cal_schedule.specs.declared.rule.pattern.Pattern.{Pattern}
 use Rattle.cal_schedule.specs.declared.rule.rule.Rule.{Rule}
 use Rattle.cal_schedule.specs.Pattern.{rule_of}
 use Rattle.cal_schedule.specs.Rule as date
+use Rattle.cal_recurrence.specs.ClockPeriods.{days_in, filled_times, matches_step, step_in}
 use Rattle.cal_recurrence.specs.TimesOfDay.{matches_time}
+use Rattle.cal_recurrence.specs.declared.clock_step.ClockStep.{ClockStep}
 use Rattle.cal_recurrence.specs.declared.times_of_day.TimesOfDay.{TimesOfDay}
 
--- The parts of a date-time rule: its first and last possible readings, the pattern of its days and
--- its times of day.
+-- The parts of a date-time rule: its first and last possible readings, the pattern of its days, its
+-- times of day and its periods within days.
 pub record DateTimeParts : Type 0 where
   pub start : ℤ
   pub until : Option ℤ
   pub pattern : Pattern
   pub times : TimesOfDay
+  pub step : ClockStep
 
--- The date-time rule with these parts.
+-- The date-time rule with these parts. For periods within days, the interval and the positions of
+-- the pattern are the interval and the positions of these periods.
 abbrev pub date_time_rule : ℤ → Option ℤ → Pattern → TimesOfDay → DateTimeParts
-date_time_rule start until pattern times = record { start = start; until = until; pattern = pattern; times = times }
+date_time_rule start until pattern times = record {
+  start = start;
+  until = until;
+  pattern = days_in times.clock pattern;
+  times = filled_times times;
+  step = step_in times.clock pattern;
+}
 
 -- The rule of the days of a pattern, from the day of the start to the day of the end.
 abbrev pub days_of : DateTimeParts → Pattern → Rule
@@ -53,12 +63,12 @@ matches_positions rule z =
     date.allows (λ k. date.is_nth k (count_before (passes_with rule z) (unsigned_abs z + 1)) (count_from (passes_with rule z) (unsigned_abs z))) rule.pattern.set_positions
 
 -- The reading z is an occurrence if it isn't before the start or after the end, its day is a day of
--- the rule, its time of day passes, and it has a position.
+-- the rule, its time of day passes, it has a position, and its period within days is selected.
 unfoldable pub is_occurrence : DateTimeParts → ℤ → Bool
 is_occurrence rule z =
     int_le rule.start z
     && (is_not_after rule.until z
-    && (date.is_occurrence (day_rule rule) (date_at z) && (matches_time rule.times (time_at rule.start) (time_at z) && matches_positions rule z)))
+    && ((date.is_occurrence (day_rule rule) (date_at z) && (matches_time rule.times (time_at rule.start) (time_at z) && matches_positions rule z)) && matches_step rule.step rule.times rule.start z))
 
 -- The readings of the range that pass a test, from the reading with the number n on, in ascending
 -- order.

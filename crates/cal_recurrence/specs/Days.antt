@@ -5,6 +5,7 @@ use Rattle.cal_schedule.specs.declared.rule.rule.ByDay.{ByDay}
 use Rattle.cal_schedule.specs.declared.rule.rule.ByDay.TheVariants.{Every, Nth}
 use Rattle.cal_schedule.specs.declared.rule.rule.Frequency.{Frequency}
 use Rattle.cal_schedule.specs.declared.rule.rule.Frequency.TheVariants.{Daily, Weekly, Monthly, Yearly}
+use Rattle.cal_recurrence.specs.declared.clock_unit.ClockUnit.{ClockUnit}
 use Rattle.cal_recurrence.specs.declared.fault.RulePart.{RulePart}
 use Rattle.cal_recurrence.specs.declared.fault.RulePart.TheVariants as part
 use Rattle.cal_schedule.specs.Pattern.{rule_of}
@@ -52,9 +53,16 @@ excluded_at Weekly r =
 excluded_at Monthly r = excluded_days r
 excluded_at Yearly r = if not (length r.pattern.weeks == 0) && list_any is_numbered r.pattern.weekdays then Some (part.Weekdays, part.Weeks) else None
 
+-- Periods within days have neither weekdays with numbers nor weeks.
+abbrev pub excluded_in : Option ClockUnit → Recurrence → Option (RulePart × RulePart)
+excluded_in None r = excluded_at r.pattern.frequency r
+excluded_in (Some u) r =
+    if list_any is_numbered r.pattern.weekdays then Some (part.Weekdays, part.Frequency) else
+    if not (length r.pattern.weeks == 0) then Some (part.Weeks, part.Frequency) else None
+
 -- Two parts of a recurrence that exclude each other, or `None`.
 abbrev pub excluded : Recurrence → Option (RulePart × RulePart)
-excluded r = excluded_at r.pattern.frequency r
+excluded r = excluded_in r.times.clock r
 
 -- The days or readings up to the end: the first `count` of them if the end is a COUNT. An UNTIL is in
 -- the rule.

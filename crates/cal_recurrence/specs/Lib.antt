@@ -10,6 +10,8 @@ pub mod FaultText
 pub mod Nearest
 pub mod Sets
 pub mod TimesOfDay
+pub mod ClockPeriods
+pub mod ClockSearch
 pub mod DateTimeRule
 pub mod DateTimeSet
 pub mod TimeSearch

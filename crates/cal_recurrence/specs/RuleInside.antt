@@ -5,15 +5,22 @@ use Rattle.cal_datetime.specs.DateTime.{date_at, time_at}
 use Rattle.cal_schedule.specs.declared.rule.rule.Rule.{Rule}
 use Rattle.cal_schedule.specs.Pattern.{rule_of}
 use Rattle.cal_schedule.specs.Rule.{is_occurrence}
-use Rattle.cal_recurrence.specs.DateTimeRule.{DateTimeParts, date_time_rule}
+use Rattle.cal_recurrence.specs.DateTimeRule.{DateTimeParts}
 use Rattle.cal_recurrence.specs.TimesOfDay.{times_per_day}
 use Rattle.cal_recurrence.specs.TimeSearch.{day_position, NoneIn}
+use Rattle.cal_recurrence.specs.declared.clock_step.ClockStep.{ClockStep}
 use Rattle.cal_recurrence.specs.declared.times_of_day.TimesOfDay.{TimesOfDay}
 
 -- The parts of a rule with these fields: the pattern is the pattern of the days, with the positions
 -- of the readings.
-abbrev pub parts_of : ℤ → Option ℤ → Rule → TimesOfDay → List ℤ → DateTimeParts
-parts_of start until days times positions = date_time_rule start until (record days.pattern { set_positions = positions }) times
+abbrev pub parts_of : ℤ → Option ℤ → Rule → TimesOfDay → List ℤ → ClockStep → DateTimeParts
+parts_of start until days times positions step = record {
+  start = start;
+  until = until;
+  pattern = record days.pattern { set_positions = positions };
+  times = times;
+  step = step;
+}
 
 -- The rule of the days goes from the day of the start to the day of the end, and its positions are
 -- the positions of the days of the readings. If it is known to have no day, no day of the

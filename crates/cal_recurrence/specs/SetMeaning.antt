@@ -1,5 +1,5 @@
 -- The days, the readings or the instants that the parts of a recurrence set mean (RFC 5545).
-use Rattle.std.specs.Prelude.{ℕ, ◌==◌, not, Bool, true, false, ℤ, pos, List, length, filter_map, Option, Some, None, Result, Ok, Err, if◌then◌else◌}
+use Rattle.std.specs.Prelude.{ℕ, ◌==◌, not, Bool, true, false, ℤ, pos, List, length, filter_map, Option, Some, None, is_some, Result, Ok, Err, if◌then◌else◌}
 use Rattle.std.specs.List.{last_or, list_any}
 use Rattle.cal_datetime.specs.OffsetDateTime.{LocalAndOffset}
 use Rattle.cal_schedule.specs.Pattern.{rule_of}
@@ -91,9 +91,11 @@ abbrev pub zone_rule : Recurrence → ℤ → DateTimeParts
 zone_rule r start = date_time_rule start (last_local r start r.end) r.pattern r.times
 
 -- ---- sets
--- The days of a set of dates that starts on day `first`, or the first line with a time of day.
+-- The days of a set of dates that starts on day `first`, or the first line with a time of day or with
+-- periods within days.
 abbrev pub days_starting : SetParts → ℕ → Result SetDays SetLine
 days_starting p first =
+    if is_some p.recurrence.times.clock then Err line.Rule else
     if not (all_mean day_of p.dates) then Err line.Dates else
     if not (all_mean day_of p.exceptions) then Err line.Exceptions else
     Ok (record {

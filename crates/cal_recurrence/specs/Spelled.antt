@@ -1,12 +1,15 @@
 -- The recurrences that `parse` can return. Each is parsed again from its own text.
-use Rattle.std.specs.Prelude.{◌≡◌, ⊤, false, None, ℕ, ◌≤◌, ◌<◌, ◌^◌, ℤ, pos, ◌≤ℤ◌, unsigned_abs}
+use Rattle.std.specs.Prelude.{◌≡◌, ⊤, false, Option, Some, None, ℕ, ◌≤◌, ◌<◌, ◌^◌, ℤ, pos, ◌≤ℤ◌, unsigned_abs}
 use Rattle.std.specs.List.{All}
 use Rattle.cal_time.specs.Date.{year_at, IsDate}
 use Rattle.cal_time.specs.Time.{nanosecond_of}
 use Rattle.cal_datetime.specs.DateTime.{IsDateTime, date_at, time_at}
 use Rattle.cal_schedule.specs.declared.rule.rule.ByDay.{ByDay}
 use Rattle.cal_schedule.specs.declared.rule.rule.ByDay.TheVariants.{Every, Nth}
+use Rattle.cal_schedule.specs.declared.rule.rule.Frequency.{Frequency}
+use Rattle.cal_schedule.specs.declared.rule.rule.Frequency.TheVariants.{Daily}
 use Rattle.cal_recurrence.specs.Days.{excluded, ranks_alone}
+use Rattle.cal_recurrence.specs.declared.clock_unit.ClockUnit.{ClockUnit}
 use Rattle.cal_recurrence.specs.declared.date_or_time.DateOrTime.{DateOrTime}
 use Rattle.cal_recurrence.specs.declared.date_or_time.DateOrTime.TheVariants.{Date, Local, Utc}
 use Rattle.cal_recurrence.specs.declared.recurrence.Recurrence.{Recurrence}
@@ -70,9 +73,15 @@ IsEnd Never = ⊤
 IsEnd (Until last) = IsDateOrTime last
 IsEnd (Count n) = IsCount n
 
+-- Periods within days are periods of a daily pattern.
+abbrev pub IsPeriod : Frequency → Option ClockUnit → Type 0
+IsPeriod f None = ⊤
+IsPeriod f (Some u) = f ≡ Daily
+
 -- A recurrence that `parse` can return. Its numbers are in range, no parts exclude each other, and
 -- positions have another list.
 pub record IsSpelled (r : Recurrence) : Type 0 where
+  pub period : IsPeriod r.pattern.frequency r.times.clock
   pub interval : IsCount r.pattern.interval
   pub each_week : All IsWeek r.pattern.weeks
   pub each_year_day : All IsPosition r.pattern.year_days

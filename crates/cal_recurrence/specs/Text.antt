@@ -1,6 +1,6 @@
 -- The text of a recurrence, after the grammar of `recur` in RFC 5545. Its parts are separated by
 -- `;` (59). Each has a name, `=` (61) and a value, or a list of values separated by `,` (44).
-use Rattle.std.specs.Prelude.{◌≡◌, ℕ, ◌+◌, ◌-◌, ◌==◌, nat_le, nat_lt, Bool, true, false, not, List, [], ◌∷◌, ◌++◌, codes, length, Option, Some, option_map, Result, Ok, Err, if◌then◌else◌}
+use Rattle.std.specs.Prelude.{◌≡◌, ℕ, ◌+◌, ◌-◌, ◌==◌, nat_le, nat_lt, Bool, true, false, not, List, [], ◌∷◌, ◌++◌, codes, length, Option, Some, option_map, is_some, Result, Ok, Err, if◌then◌else◌}
 use Rattle.std.specs.List.{All}
 use Rattle.std.specs.Option.{option_map_or, option_zip}
 use Rattle.cal_schedule.specs.Pattern.{every}
@@ -71,7 +71,7 @@ with_end draft end = record draft { recurrence = record draft.recurrence { end =
 -- The draft with one more part, if the value is valid.
 abbrev pub put : Draft → RulePart → List ℕ → Option Draft
 put draft part.Frequency value =
-    option_map (λ x. record (with_pattern draft (record draft.recurrence.pattern { frequency = x })) { has_frequency = true }) (frequency_of value)
+    option_map (λ x. record (with_times (with_pattern draft (record draft.recurrence.pattern { frequency = x.0 })) (record draft.recurrence.times { clock = x.1 })) { has_frequency = true }) (frequency_of value)
 put draft part.Interval value =
     option_map (λ x. record (with_pattern draft (record draft.recurrence.pattern { interval = x })) { has_interval = true }) (count_of 4294967295 value)
 put draft part.WeekStart value =
@@ -154,6 +154,18 @@ parts_say at texts = checked at texts (read_on at nothing texts)
 -- The recurrence of a text, with or without `RRULE:` in front, or its first error.
 abbrev pub recurrence_of : List ℕ → Result Recurrence ParseRuleError
 recurrence_of text = if has_name text then parts_say 6 (parts_at 59 (bytes_after 6 text)) else parts_say 0 (parts_at 59 text)
+
+-- A recurrence of days, or an error at FREQ for periods within days. An earlier error stays.
+abbrev pub days_only : ℕ → List (List ℕ) → Result Recurrence ParseRuleError → Result Recurrence ParseRuleError
+days_only at texts (Ok r) = if is_some r.times.clock then Err (fault (place_of (codes "FREQ") at texts) (Value part.Frequency)) else Ok r
+days_only at texts (Err why) = Err why
+
+abbrev pub days_say : ℕ → List (List ℕ) → Result Recurrence ParseRuleError
+days_say at texts = days_only at texts (parts_say at texts)
+
+-- The recurrence of a text without periods within days, or its first error.
+abbrev pub day_recurrence_of : List ℕ → Result Recurrence ParseRuleError
+day_recurrence_of text = if has_name text then days_say 6 (parts_at 59 (bytes_after 6 text)) else days_say 0 (parts_at 59 text)
 
 -- A text of one line says a recurrence, also with `RRULE:` in front.
 pub record ReadsBack (r : Recurrence) (text : List ℕ) : Type 0 where

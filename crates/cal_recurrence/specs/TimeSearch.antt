@@ -5,6 +5,7 @@ use Rattle.cal_time.specs.Time.{hour_of, minute_of, second_of}
 use Rattle.cal_datetime.specs.DateTime.{last_date_time, time_at}
 use Rattle.cal_schedule.specs.Rule as date
 use Rattle.cal_recurrence.specs.DateTimeRule.{DateTimeParts, day_rule, matches_positions}
+use Rattle.cal_recurrence.specs.ClockPeriods.{matches_step}
 use Rattle.cal_recurrence.specs.TimesOfDay.{allows_or_start, matches_time}
 use Rattle.cal_recurrence.specs.declared.times_of_day.TimesOfDay.{TimesOfDay}
 
@@ -64,3 +65,14 @@ reading_number both = both.0 * day + both.1
 abbrev pub IsNextReading : DateTimeParts → ℕ → Option (ℕ × ℕ) → Type 0
 IsNextReading rule m r =
     MatchOption r (NoneIn (selects rule) m (last_date_time + 1)) (λ both. IsFirst (selects rule) m (last_date_time + 1) (reading_number both))
+
+-- The reading with the number k is selected by its day, its time and its position, and by its period
+-- within days.
+abbrev pub selects_reading : DateTimeParts → ℕ → Bool
+selects_reading rule k = selects rule k && matches_step rule.step rule.times rule.start (pos k)
+
+-- r is the day and the time of day of the first reading from the number m on that the rule selects,
+-- or `None` without one.
+abbrev pub IsNextMatch : DateTimeParts → ℕ → Option (ℕ × ℕ) → Type 0
+IsNextMatch rule m r =
+    MatchOption r (NoneIn (selects_reading rule) m (last_date_time + 1)) (λ both. IsFirst (selects_reading rule) m (last_date_time + 1) (reading_number both))

@@ -1,5 +1,5 @@
 -- The times of day of a recurrence rule (BYHOUR, BYMINUTE and BYSECOND of RFC 5545).
-use Rattle.std.specs.Prelude.{ℕ, Bool, ◌&&◌, ◌==◌, if◌then◌else◌, List, [], length}
+use Rattle.std.specs.Prelude.{ℕ, Bool, ◌&&◌, ◌==◌, if◌then◌else◌, List, [], length, None}
 use Rattle.std.specs.List.{list_any}
 use Rattle.cal_time.specs.IsoWeekDate.{count_before}
 use Rattle.cal_time.specs.SignedDuration.{day}
@@ -21,7 +21,7 @@ matches_time times own t =
 
 -- The lists without values, which give the time of the start.
 abbrev pub no_times : TimesOfDay
-no_times = record { hours = []; minutes = []; seconds = [] }
+no_times = record { hours = []; minutes = []; seconds = []; clock = None }
 
 -- The number of times that pass in a day.
 abbrev pub times_per_day : TimesOfDay → ℕ → ℕ

@@ -13,6 +13,8 @@ use Rattle.cal_schedule.specs.declared.rule.rule.Frequency.{Frequency}
 use Rattle.cal_schedule.specs.declared.rule.rule.Frequency.TheVariants as frequency
 use Rattle.cal_schedule.specs.declared.rule.rule.ByDay.{ByDay}
 use Rattle.cal_schedule.specs.declared.rule.rule.ByDay.TheVariants.{Every, Nth}
+use Rattle.cal_recurrence.specs.declared.clock_unit.ClockUnit.{ClockUnit}
+use Rattle.cal_recurrence.specs.declared.clock_unit.ClockUnit.TheVariants as unit
 use Rattle.cal_recurrence.specs.declared.fault.RulePart.{RulePart}
 use Rattle.cal_recurrence.specs.declared.fault.RulePart.TheVariants as part
 
@@ -103,13 +105,17 @@ part_of word =
     if is_alike word (codes "COUNT") then Some part.Count else
     None
 
--- The frequency that a word spells: DAILY, WEEKLY, MONTHLY or YEARLY.
-abbrev pub frequency_of : List ℕ → Option Frequency
+-- The frequency that a word spells: DAILY, WEEKLY, MONTHLY or YEARLY, or daily with the periods within
+-- days of HOURLY, MINUTELY or SECONDLY.
+abbrev pub frequency_of : List ℕ → Option (Frequency × Option ClockUnit)
 frequency_of word =
-    if is_alike word (codes "DAILY") then Some frequency.Daily else
-    if is_alike word (codes "WEEKLY") then Some frequency.Weekly else
-    if is_alike word (codes "MONTHLY") then Some frequency.Monthly else
-    if is_alike word (codes "YEARLY") then Some frequency.Yearly else
+    if is_alike word (codes "DAILY") then Some (frequency.Daily, None) else
+    if is_alike word (codes "WEEKLY") then Some (frequency.Weekly, None) else
+    if is_alike word (codes "MONTHLY") then Some (frequency.Monthly, None) else
+    if is_alike word (codes "YEARLY") then Some (frequency.Yearly, None) else
+    if is_alike word (codes "HOURLY") then Some (frequency.Daily, Some unit.Hour) else
+    if is_alike word (codes "MINUTELY") then Some (frequency.Daily, Some unit.Minute) else
+    if is_alike word (codes "SECONDLY") then Some (frequency.Daily, Some unit.Second) else
     None
 
 -- The weekday that two letters spell: MO, TU, WE, TH, FR, SA or SU.

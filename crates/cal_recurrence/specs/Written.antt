@@ -1,5 +1,5 @@
 -- The text of a recurrence: its parts in a fixed order, without those that have their default.
-use Rattle.std.specs.Prelude.{ℕ, ◌==◌, ◌++◌, List, [], ◌∷◌, ℤ, codes, decimal, if◌then◌else◌}
+use Rattle.std.specs.Prelude.{ℕ, ◌==◌, ◌++◌, List, [], ◌∷◌, ℤ, Option, Some, None, codes, decimal, if◌then◌else◌}
 use Rattle.std.specs.Fmt.{signed_decimal}
 use Rattle.cal_time.specs.Date.{year_at, month_at, day_of_month_at}
 use Rattle.cal_time.specs.DateText.{digits_at_least, year_text}
@@ -13,6 +13,8 @@ use Rattle.cal_schedule.specs.declared.rule.rule.Frequency.{Frequency}
 use Rattle.cal_schedule.specs.declared.rule.rule.Frequency.TheVariants as frequency
 use Rattle.cal_schedule.specs.declared.rule.rule.ByDay.{ByDay}
 use Rattle.cal_schedule.specs.declared.rule.rule.ByDay.TheVariants.{Every, Nth}
+use Rattle.cal_recurrence.specs.declared.clock_unit.ClockUnit.{ClockUnit}
+use Rattle.cal_recurrence.specs.declared.clock_unit.ClockUnit.TheVariants as unit
 use Rattle.cal_recurrence.specs.declared.date_or_time.DateOrTime.{DateOrTime}
 use Rattle.cal_recurrence.specs.declared.date_or_time.DateOrTime.TheVariants.{Date, Local, Utc}
 use Rattle.cal_recurrence.specs.declared.recurrence.Recurrence.{Recurrence}
@@ -26,6 +28,13 @@ frequency_text frequency.Daily = codes "DAILY"
 frequency_text frequency.Weekly = codes "WEEKLY"
 frequency_text frequency.Monthly = codes "MONTHLY"
 frequency_text frequency.Yearly = codes "YEARLY"
+
+-- The word of a frequency, or of periods within days, such as `HOURLY`.
+abbrev pub period_text : Frequency → Option ClockUnit → List ℕ
+period_text f None = frequency_text f
+period_text f (Some unit.Hour) = codes "HOURLY"
+period_text f (Some unit.Minute) = codes "MINUTELY"
+period_text f (Some unit.Second) = codes "SECONDLY"
 
 -- The two letters of a weekday, such as `FR`.
 abbrev pub weekday_text : Weekday → List ℕ
@@ -90,7 +99,7 @@ week_start_text weekday = codes ";WKST=" ++ weekday_text weekday
 -- The text of a recurrence: its frequency, interval and end, its lists, and the start of its weeks.
 abbrev pub text_of : Recurrence → List ℕ
 text_of r =
-    codes "FREQ=" ++ frequency_text r.pattern.frequency ++ interval_text r.pattern.interval ++ end_text r.end
+    codes "FREQ=" ++ period_text r.pattern.frequency r.times.clock ++ interval_text r.pattern.interval ++ end_text r.end
     ++ list_text (codes ";BYMONTH=") month_text r.pattern.months ++ list_text (codes ";BYWEEKNO=") position_text r.pattern.weeks ++ list_text (codes ";BYYEARDAY=") position_text r.pattern.year_days
     ++ list_text (codes ";BYMONTHDAY=") position_text r.pattern.month_days
     ++ list_text (codes ";BYDAY=") by_day_text r.pattern.weekdays

@@ -4,17 +4,29 @@ ghost use Rattle.cal_time.specs.Date.{IsDate};
 ghost use Rattle.cal_time.specs.SignedDuration.{day};
 ghost use Rattle.cal_datetime.specs.DateTime.{IsDateTime};
 ghost use Rattle.cal_schedule.specs.Rule.{is_occurrence as is_day};
-ghost use Rattle.cal_recurrence.specs.TimeSearch.{IsNext, IsNextReading, selects, selects_time};
+ghost use Rattle.cal_recurrence.specs.ClockPeriods.{days_in, step_in};
+ghost use Rattle.cal_recurrence.specs.ClockSearch.{has_every_day, Closes};
+ghost use Rattle.cal_recurrence.specs.TimeSearch.{IsNext, IsNextMatch, IsNextReading, selects, selects_time};
 ghost use Rattle.cal_recurrence.specs.DateTimeRule.{date_time_rule, day_rule, is_not_after, is_occurrence, occurrences, occurrences_after, occurrences_from};
 
+use crate::clock_step::ClockStep;
+use crate::clock_unit::ClockUnit;
 use crate::positions::{allows_position, day_positions};
 use crate::times_of_day::{TimesOfDay, nanoseconds};
+use cal_date::day_number::day_number;
 use cal_datetime::PlainDateTime;
-use cal_schedule::{Pattern, Rule, Values};
+use cal_schedule::{Frequency, Pattern, Rule, Values};
 use cal_time::{Date, Time};
 use std::marker::Model;
 
 const NANOSECONDS_PER_DAY: u64 = 86_400_000_000_000;
+
+/// The number of the last day of the range.
+const LAST_DAY: u64 = 730_484_633;
+
+/// The number of readings in periods that aren't selected after which a search asks if it has an
+/// end before the end of the range. Most searches end earlier.
+const MANY_MISSES: u32 = 1_000;
 
 /// A recurrence rule of date-times without a zone, as in RFC 5545: the times of day of each day of
 /// a pattern, from a start to an end. An occurrence has the nanoseconds of the start.
@@ -30,6 +42,8 @@ pub struct DateTimeRule {
     positions: Values<i16>,
     /// The number of times that pass in a day.
     per_day: u32,
+    /// The periods within days.
+    step: ClockStep,
     /// `true` if a search found no day of the rule, `false` if it isn't known.
     has_no_day: bool,
 }
@@ -40,16 +54,44 @@ impl Model for DateTimeRule {
 
     ghost Value = { DateTimeParts };
 
-    ghost view = { λ rule. parts_of rule.start rule.until rule.days rule.times rule.positions };
+    ghost view = { λ rule. parts_of rule.start rule.until rule.days rule.times rule.positions
+        rule.step };
 
     ghost invariant = { λ rule. IsInside rule.start rule.until rule.days rule.times rule.positions
         rule.per_day rule.has_no_day };
+}
+
+/// Returns the pattern of the days and the periods within days of a pattern.
+fn split(clock: Option<ClockUnit>, mut pattern: Pattern) -> (Pattern, ClockStep)
+    ensures { result ≡ (days_in clock pattern, step_in clock pattern) }
+{
+    let Some(unit) = clock else {
+        let step = ClockStep {
+            unit: ClockUnit::Second,
+            interval: 1,
+            positions: Values::none(0),
+        };
+        return (pattern, step);
+    };
+    let step = ClockStep {
+        unit,
+        interval: pattern.interval,
+        positions: std::mem::replace(&mut pattern.set_positions, Values::none(0)),
+    };
+    pattern.frequency = Frequency::Daily;
+    pattern.interval = 1;
+    (pattern, step)
 }
 
 impl DateTimeRule {
     /// Creates a rule from the first reading that can match (`DTSTART`), the last one (`UNTIL`),
     /// the pattern of the days and the times of day. The positions of the pattern (`BYSETPOS`)
     /// count the readings of a period.
+    ///
+    /// For periods within days, the interval and the positions of the pattern count these periods
+    /// and the readings of one of them. Every day that the lists of the pattern allow is a day of the
+    /// rule, at any frequency. An empty list of the times of day allows every hour, also every minute
+    /// if the periods are minutes, and every minute and second if they are seconds.
     ///
     /// The pattern of every day with the hours 9 and 17, from 2024-01-01 9:00, gives 9:00 and
     /// 17:00 of each day. With the position -1 it gives 17:00 only.
@@ -65,6 +107,8 @@ impl DateTimeRule {
             Some(last) => Some(last.date()),
             None => None,
         };
+        let (pattern, step) = split(times.clock, pattern);
+        let times = times.filled();
         let per_day = times.count_before(start.time(), NANOSECONDS_PER_DAY);
         let mut days = Rule {
             start: start.date(),
@@ -80,6 +124,7 @@ impl DateTimeRule {
             times,
             positions,
             per_day,
+            step,
             has_no_day: false,
         }
     }
@@ -95,6 +140,7 @@ impl DateTimeRule {
             times: self.times.copy(),
             positions: Values::from_slice(self.positions.as_slice(), 0),
             per_day: self.per_day,
+            step: self.step.copy(),
             has_no_day: self.has_no_day,
         }
     }
@@ -186,7 +232,10 @@ impl DateTimeRule {
         ensures { result ≡ is_occurrence self.now reading }
     {
         let (date, time) = (reading.date(), reading.time());
-        self.start <= reading && self.is_not_after(reading) && self.selects(date, time)
+        self.start <= reading
+            && self.is_not_after(reading)
+            && self.selects(date, time)
+            && self.step.matches(&self.times, self.start, date, time)
     }
 
     /// Returns the day and the time of day of the first reading after a day that the rule selects
@@ -230,13 +279,72 @@ impl DateTimeRule {
         self.next_selected_day(date)
     }
 
+    /// Returns the number of a day after which a search from the nanosecond `first` of a day on finds
+    /// no reading, if it finds none up to the end of this day.
+    fn last_to_search(&self, date: Date, first: u64) -> u64
+        requires first { first ≤ day }
+        requires start { self.now.start ≤ℤ pos (date * day + first) }
+        ensures { Closes self.now (date * day + first) result }
+    {
+        // This states that the start is in its range. It costs nothing.
+        let _ = self.start.date();
+        if !self.step.can_meet(&self.times, self.start) {
+            return 0;
+        }
+        match self.step.repeat_days() {
+            Some(days) if self.has_every_day() => u64::from(day_number(date)) + days,
+            _ => LAST_DAY,
+        }
+    }
+
+    /// Returns `true` if the rule has each day that its lists allow, and no positions.
+    fn has_every_day(&self) -> bool
+        ensures { result ≡ has_every_day self.now }
+    {
+        matches!(self.days.pattern.frequency, Frequency::Daily)
+            && self.days.pattern.interval <= 1
+            && self.positions.is_empty()
+    }
+
+    /// Returns the day and the time of day of the first reading that the rule selects, from the
+    /// nanosecond `first` of a day on.
+    fn next_match(&self, date: Date, first: u64) -> Option<(Date, Time)>
+        requires first { first ≤ day }
+        requires start { self.now.start ≤ℤ pos (date * day + first) }
+        ensures value { IsNextMatch self.now (date * day + first) result }
+        ensures in_range { IsDate date }
+    {
+        // This states that the date is in its range. It costs nothing.
+        let _ = date.year();
+        let (mut day, mut from) = (date, first);
+        let (mut last, mut misses) = (LAST_DAY, 0u32);
+        while let Some(found) = self.next_selected(day, from) {
+            if self.step.matches(&self.times, self.start, found.0, found.1) {
+                return Some(found);
+            }
+            if u64::from(day_number(found.0)) > last {
+                return None;
+            }
+            misses = misses.saturating_add(1);
+            if misses == MANY_MISSES {
+                last = self.last_to_search(date, first);
+            }
+            let Some(place) = self.step.next_place(self.start, found.0, found.1) else {
+                return None;
+            };
+            day = place.0;
+            from = place.1;
+        }
+        None
+    }
+
     /// Returns the first occurrence from the nanosecond `first` of a day on.
     fn next_from(&self, date: Date, first: u64) -> Option<PlainDateTime>
         requires first { first ≤ day }
         requires start { self.now.start ≤ℤ pos (date * day + first) }
         ensures { result ≡ slice_get (occurrences_from self.now (date * day + first)) 0 }
     {
-        let (day, time) = self.next_selected(date, first)?;
+        let (day, time) = self.next_match(date, first)?;
         let reading = PlainDateTime::new(day, time);
         if self.is_not_after(reading) {
             Some(reading)

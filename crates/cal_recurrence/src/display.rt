@@ -7,7 +7,7 @@ ghost use Rattle.cal_recurrence.specs.Written.{text_of};
 
 use crate::recurrence::Recurrence;
 use crate::text::RecurrenceText;
-use crate::writing::{frequency_text, push_end, push_interval, push_list, push_week_start};
+use crate::writing::{period_text, push_end, push_interval, push_list, push_week_start};
 use std::fmt;
 
 impl Recurrence {
@@ -24,7 +24,7 @@ impl Recurrence {
     {
         let mut text = RecurrenceText::new();
         text.push("FREQ=");
-        text.push(frequency_text(self.pattern.frequency));
+        text.push(period_text(self.pattern.frequency, self.times.clock));
         push_interval(&mut text, self.pattern.interval);
         push_end(&mut text, self.end);
         push_list(&mut text, ";BYMONTH=", self.pattern.months.as_slice());

@@ -100,7 +100,9 @@ impl Draft {
     {
         match part {
             RulePart::Frequency => {
-                self.recurrence.pattern.frequency = frequency_of(value)?;
+                let (frequency, clock) = frequency_of(value)?;
+                self.recurrence.pattern.frequency = frequency;
+                self.recurrence.times.clock = clock;
                 self.has_frequency = true;
                 Some(self)
             }

@@ -6,6 +6,8 @@
 #![tactic(auto)]
 
 mod buffers;
+mod clock_step;
+mod clock_unit;
 mod counted_set;
 mod counted_zoned_set;
 mod counting;
@@ -44,6 +46,7 @@ mod zone_name;
 mod zoned_set;
 
 pub use cal_schedule::{Pattern, Values};
+pub use clock_unit::ClockUnit;
 pub use counted_set::CountedSet;
 pub use counted_zoned_set::CountedZonedSet;
 pub use date_or_time::DateOrTime;
@@ -52,7 +55,7 @@ pub use date_time_set::{DateTimeSet, DateTimeSetReadings};
 pub use fault::{ParseRuleError, ParseRuleErrorKind, RulePart};
 pub use folding::{fold, unfold};
 pub use occurrences::Occurrences;
-pub use parsing::parse;
+pub use parsing::{parse, parse_days};
 pub use readings::RuleReadings;
 pub use recurrence::{Recurrence, RuleEnd};
 pub use rule_count::RuleCount;

@@ -1,7 +1,7 @@
 //! Parses the text of a recurrence.
 ghost use Rattle.std.specs.Prelude.{◌≡◌, ◌+◌, ◌<◌, ◌^◌, length, IfOk};
 ghost use Rattle.cal_recurrence.specs.Spelled.{IsSpelled};
-ghost use Rattle.cal_recurrence.specs.Text.{later, parts_say, place_of, read_on, recurrence_of};
+ghost use Rattle.cal_recurrence.specs.Text.{day_recurrence_of, days_say, later, parts_say, place_of, read_on, recurrence_of};
 ghost use Rattle.cal_recurrence.specs.Words.{parts_at};
 
 use crate::draft::Draft;
@@ -13,7 +13,7 @@ use crate::words::{cut, has_name, is_alike, split};
 /// `RRULE:` in front.
 ///
 /// The parts come in any order and any case, with `;` between them. `FREQ` is `DAILY`, `WEEKLY`,
-/// `MONTHLY` or `YEARLY`, and is required. `HOURLY`, `MINUTELY` and `SECONDLY` are invalid.
+/// `MONTHLY` or `YEARLY`, or within days `HOURLY`, `MINUTELY` or `SECONDLY`. It is required.
 /// `INTERVAL` and `COUNT` are from 1 to 4294967295. `UNTIL`, in place of `COUNT`, is a date such as
 /// `20241231`, or a date and time such as `20241231T235959` or, at UTC, `20241231T235959Z`. A leap
 /// second, 60, becomes 59. `WKST` is a weekday such as `MO`.
@@ -37,6 +37,35 @@ pub fn parse(text: &[u8]) -> Result<Recurrence, ParseRuleError>
     } else {
         parse_parts(0, text)
     }
+}
+
+/// Parses a recurrence for a start that is a date, such as `FREQ=MONTHLY;BYDAY=-1FR;COUNT=12`.
+///
+/// Returns the errors of [`parse`], then `Value` at `FREQ` for `HOURLY`, `MINUTELY` and `SECONDLY`,
+/// whose start needs a time of day. `FREQ=HOURLY` is invalid at byte 0.
+pub fn parse_days(text: &[u8]) -> Result<Recurrence, ParseRuleError>
+    ensures { result ≡ day_recurrence_of text.now }
+{
+    if has_name(text) {
+        parse_day_parts(6, split(text, 6).1)
+    } else {
+        parse_day_parts(0, text)
+    }
+}
+
+/// Parses the parts from byte `position` on, without periods within days.
+fn parse_day_parts(position: usize, text: &[u8]) -> Result<Recurrence, ParseRuleError>
+    requires { position + length text.now < 2 ^ 64 }
+    ensures { result ≡ days_say position (parts_at 59 text.now) }
+{
+    let recurrence = parse_parts(position, text)?;
+    if recurrence.times.clock.is_some() {
+        return Err(ParseRuleError {
+            position: place_of(b"FREQ", position, text),
+            reason: ParseRuleErrorKind::Value(RulePart::Frequency),
+        });
+    }
+    Ok(recurrence)
 }
 
 /// Parses the parts from byte `position` on.

@@ -2,7 +2,7 @@
 ghost use Rattle.std.specs.Prelude.{◌≡◌};
 ghost use Rattle.std.specs.List.{list_any};
 ghost use Rattle.cal_schedule.specs.Pattern.{rule_of};
-ghost use Rattle.cal_recurrence.specs.Days.{days_of, excluded, has_end, is_numbered, last_of, ranks_alone};
+ghost use Rattle.cal_recurrence.specs.Days.{days_of, excluded, excluded_at, has_end, is_numbered, last_of, ranks_alone};
 
 use crate::date_or_time::DateOrTime;
 use crate::fault::RulePart;
@@ -76,6 +76,22 @@ impl Recurrence {
     /// Returns two parts that exclude each other, or `None` if no parts do.
     pub(crate) fn excluded(&self) -> Option<(RulePart, RulePart)>
         ensures { result ≡ excluded self.now }
+    {
+        if self.times.clock.is_some() {
+            return if any_numbered(self.pattern.weekdays.as_slice()) {
+                Some((RulePart::Weekdays, RulePart::Frequency))
+            } else if !self.pattern.weeks.is_empty() {
+                Some((RulePart::Weeks, RulePart::Frequency))
+            } else {
+                None
+            };
+        }
+        self.excluded_by_frequency()
+    }
+
+    /// Returns two parts that exclude each other in a rule with periods of days or longer.
+    fn excluded_by_frequency(&self) -> Option<(RulePart, RulePart)>
+        ensures { result ≡ excluded_at self.now.pattern.frequency self.now }
     {
         match self.pattern.frequency {
             Frequency::Daily => {

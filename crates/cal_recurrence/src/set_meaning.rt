@@ -146,15 +146,19 @@ fn any_date(values: &[DateOrTime]) -> bool
 impl SetParts<'_> {
     /// Returns the days of a set of dates. A time of day of the `UNTIL` doesn't count.
     ///
-    /// Returns the first of the lines `Start`, `Dates` and `Exceptions` with a time of day. With a
-    /// `COUNT` it walks over the days of the rule once. For `DTSTART:20240101` and
-    /// `RRULE:FREQ=DAILY;COUNT=3`, the rule ends on 3 January 2024.
+    /// Returns the first of the lines `Start`, `Rule`, `Dates` and `Exceptions` with a time of day or
+    /// with periods within days, such as `FREQ=HOURLY`. With a `COUNT` it walks over the days of the
+    /// rule once. For `DTSTART:20240101` and `RRULE:FREQ=DAILY;COUNT=3`, the rule ends on 3 January
+    /// 2024.
     pub fn days(&self) -> Result<SetDays, SetLine>
         ensures { result ≡ set_days self.now }
     {
         let DateOrTime::Date(first) = self.start else {
             return Err(SetLine::Start);
         };
+        if self.recurrence.times.clock.is_some() {
+            return Err(SetLine::Rule);
+        }
         let dates = kept(&self.dates, false, first);
         if dates.as_slice().len() != self.dates.as_slice().len() {
             return Err(SetLine::Dates);

@@ -3,9 +3,11 @@ ghost use Rattle.std.specs.Prelude.{◌≡◌, ◌+◌, ◌*◌, ◌<◌, ◌≤
 ghost use Rattle.std.specs.List.{list_any};
 ghost use Rattle.cal_time.specs.IsoWeekDate.{count_before};
 ghost use Rattle.cal_time.specs.SignedDuration.{day};
+ghost use Rattle.cal_recurrence.specs.ClockPeriods.{any_hour, any_minute, any_second, filled_times, limits, numbers_below};
 ghost use Rattle.cal_recurrence.specs.TimesOfDay.{allows_or_start, matches_time, no_times};
 ghost use Rattle.cal_recurrence.specs.TimeSearch.{IsNext, matches_minute, matches_second};
 
+use crate::clock_unit::ClockUnit;
 use cal_schedule::Values;
 use cal_time::{Counted, Time};
 
@@ -21,6 +23,8 @@ pub struct TimesOfDay {
     pub minutes: Values<u8>,
     /// The seconds of the minute (`BYSECOND`), from 0 to 59. A leap second, 60, never matches.
     pub seconds: Values<u8>,
+    /// The periods of the rule within days, or `None` for periods of days or longer.
+    pub clock: Option<ClockUnit>,
 }
 
 /// Returns `true` if one of the values is this one.
@@ -87,6 +91,51 @@ fn time_at(second: u32, nanosecond: u32) -> Option<Time>
     }
 }
 
+/// Returns the list of the numbers below `end`, in order.
+fn numbers_below(end: u8) -> Values<u8>
+    requires { end ≤ 60 }
+    ensures { result ≡ numbers_below end }
+{
+    let mut values = Values::none(0);
+    for value in 0..end {
+        values.push(value);
+    }
+    values
+}
+
+/// Returns the values, or all values below `end` if the list is empty and `any` is true.
+fn limits(any: bool, end: u8, values: &Values<u8>) -> Values<u8>
+    requires { end ≤ 60 }
+    ensures { result ≡ limits any end values.now }
+{
+    if any && values.is_empty() {
+        numbers_below(end)
+    } else {
+        Values::from_slice(values.as_slice(), 0)
+    }
+}
+
+/// Returns `true` if an empty list of hours allows every hour.
+fn any_hour(clock: Option<ClockUnit>) -> bool
+    ensures { result ≡ any_hour clock }
+{
+    clock.is_some()
+}
+
+/// Returns `true` if an empty list of minutes allows every minute.
+fn any_minute(clock: Option<ClockUnit>) -> bool
+    ensures { result ≡ any_minute clock }
+{
+    matches!(clock, Some(ClockUnit::Minute | ClockUnit::Second))
+}
+
+/// Returns `true` if an empty list of seconds allows every second.
+fn any_second(clock: Option<ClockUnit>) -> bool
+    ensures { result ≡ any_second clock }
+{
+    matches!(clock, Some(ClockUnit::Second))
+}
+
 impl TimesOfDay {
     /// Creates the times of day of a rule with one time a day, the time of its start. Set other
     /// times by the fields.
@@ -97,6 +146,7 @@ impl TimesOfDay {
             hours: Values::none(0),
             minutes: Values::none(0),
             seconds: Values::none(0),
+            clock: None,
         }
     }
 
@@ -108,6 +158,19 @@ impl TimesOfDay {
             hours: Values::from_slice(self.hours.as_slice(), 0),
             minutes: Values::from_slice(self.minutes.as_slice(), 0),
             seconds: Values::from_slice(self.seconds.as_slice(), 0),
+            clock: self.clock,
+        }
+    }
+
+    /// Returns the times with the empty lists filled that allow every value.
+    pub(crate) fn filled(&self) -> Self
+        ensures { result ≡ filled_times self.now }
+    {
+        TimesOfDay {
+            hours: limits(any_hour(self.clock), 24, &self.hours),
+            minutes: limits(any_minute(self.clock), 60, &self.minutes),
+            seconds: limits(any_second(self.clock), 60, &self.seconds),
+            clock: self.clock,
         }
     }
 

@@ -3,6 +3,7 @@ ghost use Rattle.std.specs.Prelude.{◌≡◌, true, false, ◌+◌, ◌<◌, �
 ghost use Rattle.cal_recurrence.specs.SetText.{unquoted};
 ghost use Rattle.cal_recurrence.specs.Words.{by_day_of, bytes_after, bytes_left, clock_value_of, count_of, first_bytes, frequency_of, from_one_to, front_at, front_outside, has_name, is_alike, month_of, number_of, part_of, parts_at, parts_left, parts_left_outside, parts_outside, place_outside, index_of, position_of, rest_at, rest_outside, short_count_of, small_index_of, weekday_of};
 
+use crate::clock_unit::ClockUnit;
 use crate::fault::RulePart;
 use cal_schedule::{ByDay, Frequency};
 use cal_time::{Month, Weekday};
@@ -141,18 +142,25 @@ pub fn part_of(name: &[u8]) -> Option<RulePart>
     }
 }
 
-/// Parses a frequency, or returns `None` if the word isn't one.
-pub fn frequency_of(word: &[u8]) -> Option<Frequency>
+/// Parses a frequency, or returns `None` if the word isn't one. `HOURLY`, `MINUTELY` and `SECONDLY`
+/// are daily, with the periods within days.
+pub fn frequency_of(word: &[u8]) -> Option<(Frequency, Option<ClockUnit>)>
     ensures { result ≡ frequency_of word.now }
 {
     if is_alike(word, b"DAILY") {
-        Some(Frequency::Daily)
+        Some((Frequency::Daily, None))
     } else if is_alike(word, b"WEEKLY") {
-        Some(Frequency::Weekly)
+        Some((Frequency::Weekly, None))
     } else if is_alike(word, b"MONTHLY") {
-        Some(Frequency::Monthly)
+        Some((Frequency::Monthly, None))
     } else if is_alike(word, b"YEARLY") {
-        Some(Frequency::Yearly)
+        Some((Frequency::Yearly, None))
+    } else if is_alike(word, b"HOURLY") {
+        Some((Frequency::Daily, Some(ClockUnit::Hour)))
+    } else if is_alike(word, b"MINUTELY") {
+        Some((Frequency::Daily, Some(ClockUnit::Minute)))
+    } else if is_alike(word, b"SECONDLY") {
+        Some((Frequency::Daily, Some(ClockUnit::Second)))
     } else {
         None
     }

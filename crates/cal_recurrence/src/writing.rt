@@ -4,8 +4,9 @@ ghost use Rattle.std.specs.Fmt.{signed_decimal};
 ghost use Rattle.cal_recurrence.specs.RecurrenceText.{HasRoom};
 ghost use Rattle.cal_schedule.specs.Values.{most_values};
 ghost use Rattle.cal_recurrence.specs.Words.{by_day_of, clock_value_of, month_of, position_of, small_index_of};
-ghost use Rattle.cal_recurrence.specs.Written.{by_day_text, date_or_time_text, day_text, end_text, frequency_text, interval_text, list_text, month_text, position_text, reading_text, week_start_text, weekday_text};
+ghost use Rattle.cal_recurrence.specs.Written.{by_day_text, date_or_time_text, day_text, end_text, frequency_text, interval_text, list_text, month_text, period_text, position_text, reading_text, week_start_text, weekday_text};
 
+use crate::clock_unit::ClockUnit;
 use crate::date_or_time::DateOrTime;
 use crate::recurrence::RuleEnd;
 use crate::text::RecurrenceText;
@@ -132,8 +133,21 @@ fn index_text(index: i8) -> ShortText
     text
 }
 
+/// Returns the word of the frequency, or of the periods within days, such as `HOURLY`.
+pub fn period_text(frequency: Frequency, clock: Option<ClockUnit>) -> &'static str
+    ensures text { result.now ≡ period_text frequency clock }
+    ensures short { length result.now ≤ 8 }
+{
+    match clock {
+        None => frequency_text(frequency),
+        Some(ClockUnit::Hour) => "HOURLY",
+        Some(ClockUnit::Minute) => "MINUTELY",
+        Some(ClockUnit::Second) => "SECONDLY",
+    }
+}
+
 /// Returns the word of the frequency, such as `MONTHLY`.
-pub fn frequency_text(frequency: Frequency) -> &'static str
+fn frequency_text(frequency: Frequency) -> &'static str
     ensures text { result.now ≡ frequency_text frequency }
     ensures short { length result.now ≤ 7 }
 {

@@ -1,7 +1,7 @@
 //! The days of recurrences in text.
 ghost use Rattle.std.specs.Prelude.{◌≡◌, Err, List, Ok, false, filter, nat_le, ℕ};
 ghost use Rattle.cal_recurrence.specs.Days.{days_of, up_to_end};
-ghost use Rattle.cal_recurrence.specs.Text.{recurrence_of};
+ghost use Rattle.cal_recurrence.specs.Text.{day_recurrence_of};
 ghost use Rattle.cal_recurrence.specs.declared.fault.ParseRuleError.{ParseRuleError};
 ghost use Rattle.cal_recurrence.specs.declared.recurrence.Recurrence.{Recurrence};
 ghost use Rattle.cal_c.specs.RecurrenceTexts.{recurrence_ok, recurrence_error, recurrence_parse_error};
@@ -12,7 +12,7 @@ use super::results::RecurrenceResult;
 use super::write_days;
 use crate::status::INVALID_DATE;
 use crate::values::valid_date;
-use cal_recurrence::{Recurrence, RecurrenceSet, RuleEnd, parse};
+use cal_recurrence::{Recurrence, RecurrenceSet, RuleEnd, parse_days};
 use cal_schedule::RuleDays;
 use cal_time::Date;
 
@@ -28,18 +28,18 @@ pub extern "C" fn fots_recurrence_days(
     from: i32,
     days: &mut [i32],
 ) -> RecurrenceResult
-    ensures error { (fault : ParseRuleError) → recurrence_of text.now ≡ Err fault
+    ensures error { (fault : ParseRuleError) → day_recurrence_of text.now ≡ Err fault
         → (result ≡ recurrence_parse_error fault) × (days.new ≡ days.old) }
-    ensures invalid_date { (its : Recurrence) → recurrence_of text.now ≡ Ok its
+    ensures invalid_date { (its : Recurrence) → day_recurrence_of text.now ≡ Ok its
         → ¬ (IsJulianDay start × IsJulianDay from)
         → (result ≡ recurrence_error INVALID_DATE) × (days.new ≡ days.old) }
-    ensures value { (its : Recurrence) → recurrence_of text.now ≡ Ok its
+    ensures value { (its : Recurrence) → day_recurrence_of text.now ≡ Ok its
         → IsJulianDay start → IsJulianDay from
         → (result ≡ recurrence_ok result.length)
         × AreDatesWritten (filter (nat_le (day_of from)) (days_of its (day_of start)))
         days.old days.new result.length }
 {
-    let recurrence = or_return!(parse(text), fault => RecurrenceResult::parse_error(fault));
+    let recurrence = or_return!(parse_days(text), fault => RecurrenceResult::parse_error(fault));
     let (Some(start), Some(from)) = (valid_date(start), valid_date(from)) else {
         return RecurrenceResult::error(INVALID_DATE);
     };

@@ -1,18 +1,19 @@
 //! The parts of a recurrence, for C.
 ghost use Rattle.std.specs.Prelude.{◌≡◌};
-ghost use Rattle.cal_c.specs.RecurrenceParts.{count_in, no_parts, parts_of, until_in};
+ghost use Rattle.cal_c.specs.RecurrenceParts.{count_in, no_parts, parts_of, period_number, until_in};
 ghost use Rattle.cal_c.specs.Recurrences.{frequency_number};
 
 use super::lists::{MAX, NO_WEEKDAY, filled, month_numbers, parts_of_weekdays};
 use super::rule_parts::RuleWeekday;
-use cal_recurrence::{Recurrence, RuleEnd};
+use cal_recurrence::{ClockUnit, Recurrence, RuleEnd};
 use cal_schedule::Frequency;
 
 /// The parts of a recurrence. A list has as many values as its length says, then zeros.
 #[repr(C)]
 #[derive(Clone, Copy, Debug)]
 pub struct RecurrenceParts {
-    /// 1 for daily, 2 for weekly, 3 for monthly, 4 for yearly.
+    /// 1 for daily, 2 for weekly, 3 for monthly, 4 for yearly, 5 for hourly, 6 for minutely, 7 for
+    /// secondly.
     pub frequency: u32,
     pub interval: u32,
     pub week_start: u32,
@@ -47,6 +48,18 @@ fn frequency_number(frequency: Frequency) -> u32
     }
 }
 
+/// Returns the number of a frequency, or of periods within days.
+fn period_number(clock: Option<ClockUnit>, frequency: Frequency) -> u32
+    ensures { result ≡ period_number clock frequency }
+{
+    match clock {
+        None => frequency_number(frequency),
+        Some(ClockUnit::Hour) => 5,
+        Some(ClockUnit::Minute) => 6,
+        Some(ClockUnit::Second) => 7,
+    }
+}
+
 fn until_in(end: RuleEnd) -> i32
     ensures { result ≡ until_in end }
 {
@@ -77,7 +90,7 @@ impl RecurrenceParts {
         let weekdays = pattern.weekdays.as_slice();
         let set_positions = pattern.set_positions.as_slice();
         RecurrenceParts {
-            frequency: frequency_number(pattern.frequency),
+            frequency: period_number(recurrence.times.clock, pattern.frequency),
             interval: pattern.interval,
             week_start: u32::from(pattern.week_start.number_from_monday()),
             until: until_in(recurrence.end),

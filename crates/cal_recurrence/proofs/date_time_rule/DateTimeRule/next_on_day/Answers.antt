@@ -22,13 +22,13 @@ returns-then-is_empty c =
 pub overflow_sub-ahead : goal.overflow_sub-ahead
 overflow_sub-ahead c =
     let rule = c.args.self.now in
-    let days = days-are _ _ _ _ _ _ _ c.self.invariant ∙ ap ranked c.self.view_is in
+    let days = days-are _ _ _ _ _ _ _ c.self.inside.step c.self.invariant ∙ ap ranked c.self.view_is in
     some-ahead rule c.args.date _ c.requires.on (c.ranks-ahead.ensures.ahead ∙ ap (λ d. count_before (passes_with d c.args.date) (c.args.date + 1)) days ∙ ahead-of rule c.args.date)
 
 pub overflow_sub-back : goal.overflow_sub-back
 overflow_sub-back c =
     let rule = c.args.self.now in
-    let days = days-are _ _ _ _ _ _ _ c.self.invariant ∙ ap ranked c.self.view_is in
+    let days = days-are _ _ _ _ _ _ _ c.self.inside.step c.self.invariant ∙ ap ranked c.self.view_is in
     some-back rule c.args.date _ c.ranks-ahead.ensures.in_range c.requires.on (c.ranks-ahead.ensures.back ∙ ap (λ d. count_from (passes_with d c.args.date) c.args.date) days ∙ back-of rule c.args.date)
 
 -- the next time of day that passes
@@ -48,7 +48,7 @@ has-position c time =
     let at = c.loop-time in
     let size : c.self.inside.per_day ≡ per_day rule = c.self.invariant.count_is ∙ ap (λ r. per_day r) c.self.view_is in
     let n = c.args.date in
-    let days = days-are _ _ _ _ _ _ _ c.self.invariant ∙ ap ranked c.self.view_is in
+    let days = days-are _ _ _ _ _ _ _ c.self.inside.step c.self.invariant ∙ ap ranked c.self.view_is in
     let ranks = c.ranks-ahead in
     tested rule n at.from at.index c.in-Some.time ranks.result.0 ranks.result.1 _ _ c.self.inside.positions c.allows_position.result
     ranks.ensures.in_range c.requires.on

@@ -8,12 +8,12 @@ use Rattle.cal_recurrence.proofs.date_time_rule.DateTimeRule.next_selected.Goals
 
 pub next_on_day-requires-clause-on : goal.next_on_day-requires-clause-on
 next_on_day-requires-clause-on c =
-    let days = days-are _ _ _ _ _ _ _ c.self.invariant ∙ ap ranked c.self.view_is in
+    let days = days-are _ _ _ _ _ _ _ c.self.inside.step c.self.invariant ∙ ap ranked c.self.view_is in
     on-ranked c.args.self.now _ c.args.date days (sym c.contains.ensures.value ∙ c.if-contains.true)
 
 pub returns-in-Some-clause-value : goal.returns-in-Some-clause-value
 returns-in-Some-clause-value c =
-    let days = days-are _ _ _ _ _ _ _ c.self.invariant ∙ ap ranked c.self.view_is in
+    let days = days-are _ _ _ _ _ _ _ c.self.inside.step c.self.invariant ∙ ap ranked c.self.view_is in
     here c.args.self.now c.args.date c.args.first c.in-Some.time _ c.contains.ensures.in_range
     (on-ranked c.args.self.now _ c.args.date days (sym c.contains.ensures.value ∙ c.if-contains.true)) refl c.in-Some.ensures
 
@@ -22,7 +22,7 @@ returns-clause-value c =
     let rule = c.args.self.now in
     let date = c.args.date in
     let first = c.args.first in
-    let days = days-are _ _ _ _ _ _ _ c.self.invariant ∙ ap ranked c.self.view_is in
+    let days = days-are _ _ _ _ _ _ _ c.self.inside.step c.self.invariant ∙ ap ranked c.self.view_is in
     let none : NoneIn (selects rule) (date * day + first) ((date + 1) * day) = elim c.if-contains.branch [
       | then-contains+in_default w ↦ rest-none rule date first w.in_default.ensures
       | else-contains w ↦ day-none rule date first c.contains.ensures.in_range (off-ranked rule _ date days (sym c.contains.ensures.value ∙ w.if-contains.false))

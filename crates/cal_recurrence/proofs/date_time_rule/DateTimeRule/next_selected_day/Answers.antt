@@ -12,14 +12,14 @@ use Rattle.cal_recurrence.proofs.date_time_rule.DateTimeRule.next_selected_day.G
 
 pub next_on_day-requires-clause-on : goal.next_on_day-requires-clause-on
 next_on_day-requires-clause-on c =
-    let days = days-are _ _ _ _ _ _ _ c.self.invariant ∙ ap ranked c.self.view_is in
+    let days = days-are _ _ _ _ _ _ _ c.self.inside.step c.self.invariant ∙ ap ranked c.self.view_is in
     let next : IsFirst (is_occurrence c.self.inside.days) (c.loop-next.last + 1) (last_day + 1) c.in-Some.next =
     next_day (is_occurrence c.self.inside.days) c.loop-next.last (Some c.in-Some.next) c.in-Some.ensures.value in
     on-ranked c.args.self.now _ c.in-Some.next days next.passes
 
 pub returns-in-Some-next_on_day-clause-value : goal.returns-in-Some-next_on_day-clause-value
 returns-in-Some-next_on_day-clause-value c =
-    let days = days-are _ _ _ _ _ _ _ c.self.invariant ∙ ap ranked c.self.view_is in
+    let days = days-are _ _ _ _ _ _ _ c.self.inside.step c.self.invariant ∙ ap ranked c.self.view_is in
     let at = c.loop-next in
     let next : IsFirst (is_occurrence c.self.inside.days) (at.last + 1) (last_day + 1) c.in-Some.next =
     next_day (is_occurrence c.self.inside.days) at.last (Some c.in-Some.next) c.in-Some.ensures.value in
@@ -27,7 +27,7 @@ returns-in-Some-next_on_day-clause-value c =
 
 pub loop-next-preserved : goal.loop-next-preserved
 loop-next-preserved c =
-    let days = days-are _ _ _ _ _ _ _ c.self.invariant ∙ ap ranked c.self.view_is in
+    let days = days-are _ _ _ _ _ _ _ c.self.inside.step c.self.invariant ∙ ap ranked c.self.view_is in
     let at = c.loop-next in
     let next : IsFirst (is_occurrence c.self.inside.days) (at.last + 1) (last_day + 1) c.in-Some.next =
     next_day (is_occurrence c.self.inside.days) at.last (Some c.in-Some.next) c.in-Some.ensures.value in
@@ -40,7 +40,7 @@ loop-next-preserved c =
 pub returns-clause-value : goal.returns-clause-value
 returns-clause-value c =
     let rule = c.args.self.now in
-    let days = days-are _ _ _ _ _ _ _ c.self.invariant ∙ ap ranked c.self.view_is in
+    let days = days-are _ _ _ _ _ _ _ c.self.inside.step c.self.invariant ∙ ap ranked c.self.view_is in
     let none : NoneIn (is_occurrence c.self.inside.days) (c.loop-next.last + 1) (last_day + 1) =
     next_day (is_occurrence c.self.inside.days) c.loop-next.last None c.in_default.ensures.value in
     joined (selects rule) ((c.args.date + 1) * day) ((c.loop-next.last + 1) * day) ((last_day + 1) * day) c.loop-next.invariant.none
@@ -54,7 +54,7 @@ returns-then-self-eq0-clause-value c =
 pub returns-then-self-clause-value : goal.returns-then-self-clause-value
 returns-then-self-clause-value c =
     let rule = c.args.self.now in
-    let days = days-are _ _ _ _ _ _ _ c.self.invariant ∙ ap ranked c.self.view_is in
+    let days = days-are _ _ _ _ _ _ _ c.self.inside.step c.self.invariant ∙ ap ranked c.self.view_is in
     let none : NoneIn (is_occurrence c.self.inside.days) (c.args.date + 1) (last_day + 1) =
     λ k low high. c.self.invariant.none_are c.if-self.true k (omega arith) high in
     days-none rule (c.args.date + 1) (last_day + 1) (omega (arith, c.year.ensures.in_range)) (subst (λ d. NoneIn (is_occurrence d) (c.args.date + 1) (last_day + 1)) days none)

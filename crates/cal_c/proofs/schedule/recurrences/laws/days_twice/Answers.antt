@@ -1,5 +1,5 @@
 use Rattle.std.proofs.Common.{◌≡◌, refl, arith, ap, length, subst, sym, to_z, of_z, w32}
-use Rattle.cal_recurrence.specs.Text.{recurrence_of}
+use Rattle.cal_recurrence.specs.Text.{day_recurrence_of}
 use Rattle.cal_c.proofs.OneAnswer.{decided, recurrence-one, Clauses}
 use Rattle.cal_c.proofs.schedule.recurrences.laws.days_twice.Goals as goal
 
@@ -11,7 +11,7 @@ both c =
     let start = to_z w32 (of_z w32 c.args.start) in
     let from = to_z w32 (of_z w32 c.args.from) in
     let lengths : length one.new.days ≡ length other.new.days = omega (arith, one.auto.days, other.auto.days, ap length c.requires) in
-    recurrence-one c.args.text.now start from c.args.days.now _ _ _ _ (recurrence_of c.args.text.now) refl
+    recurrence-one c.args.text.now start from c.args.days.now _ _ _ _ (day_recurrence_of c.args.text.now) refl
     (decided _ _ c.valid_date.ensures) (decided _ _ c.valid_date-2.ensures) lengths
     (record { unread = one.ensures.error; invalid_date = one.ensures.invalid_date; days = one.ensures.value })
     (subst (λ old. Clauses c.args.text.now start from old other.new.days other.result) (sym c.requires)

@@ -1,0 +1,4 @@
+use Rattle.cal_recurrence.proofs.clock_step.common_divisor.Given as goal
+
+abbrev pub decreases-loop-rest : goal.decreases-loop-rest
+decreases-loop-rest l = l.rest
