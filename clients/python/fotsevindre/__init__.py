@@ -35,6 +35,7 @@ from ._core import IsoCalendarDate
 from .calls import *
 from .formats import Format
 from .schedules import DateRange, Days, Recurrence, Rule, Steps, Workdays
+from .strings import dates_to_strings, instants_to_strings, strings_to_dates, strings_to_instants
 from .zones import Local, Zone, ZonedDateTime
 
 __version__ = "0.1.0"
@@ -42,7 +43,8 @@ __version__ = "0.1.0"
 __all__ = [
     "ComponentRange", "ContradictionError", "DateRange", "Days", "Format", "FormatError", "IsoCalendarDate", "Local",
     "Month", "ParseError", "ParseRuleError", "ParseRuleErrorKind", "Recurrence", "Rule", "Steps", "Weekday",
-    "Workdays", "YearFraction", "Zone", "ZonedDateTime", "ZoneError", "status_error",
+    "Workdays", "YearFraction", "Zone", "ZonedDateTime", "ZoneError", "dates_to_strings",
+    "instants_to_strings", "status_error", "strings_to_dates", "strings_to_instants",
 ]
 # A checker of types reads literals only; a test compares these names with calls.__all__.
 __all__ += [
