@@ -1270,7 +1270,7 @@ class Habits(Cases):
 
 def load_tests(loader, tests, _pattern):
     tests.addTests(doctest.DocTestSuite(fotsevindre))
-    pages = ["../../../README.md", "../../../docs/PYTHON.md", "../../../docs/COLUMNS.md", "../../../docs/FROM_DATETIME.md", "../../../docs/COOKBOOK.md"]
+    pages = ["../../../README.md", "../../../docs/PYTHON.md", "../../../docs/COLUMNS.md", "../../../docs/FROM_DATETIME.md", "../../../docs/COOKBOOK.md", "../../../docs/STRINGS.md"]
     tests.addTests(doctest.DocFileSuite(*pages, encoding="utf-8"))
     return tests
 
