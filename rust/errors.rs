@@ -1,8 +1,8 @@
 //! Errors as the standard library has them.
 
 use crate::error::{
-    ComponentRange, ConversionRange, FormatError, IntervalError, InvalidVariant, ParseDurationError, ParseError, ParseIntervalError,
-    ParseRuleError, ParseSetError, UnsupportedItem, ZoneError,
+    ComponentRange, ConversionRange, FormatError, IntervalError, InvalidVariant, ParseDurationError, ParseError,
+    ParseIntervalError, ParseRuleError, ParseSetError, UnsupportedItem, ZoneError,
 };
 use crate::format;
 use core::error::Error;

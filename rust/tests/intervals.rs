@@ -72,10 +72,7 @@ fn errors_by_name() {
     assert_eq!(error("2024-01-01"), "unexpected end at 10");
     assert_eq!(error("P1M/P1M"), "unexpected byte at 4");
     assert_eq!(error("2024-01-01T00:00/P1M"), "unexpected byte at 10");
-    assert_eq!(
-        plain::parse(b"2024-01-01T25:00/P1M").unwrap_err().to_string(),
-        "hour was not in range"
-    );
+    assert_eq!(plain::parse(b"2024-01-01T25:00/P1M").unwrap_err().to_string(), "hour was not in range");
 }
 
 #[test]
@@ -122,11 +119,7 @@ fn years() -> Grammar {
     // A negative year isn't 0.
     let zeros = |count| times(count, Byte(b"0"));
     let small = Any((0..3).map(|n| All(vec![zeros(1 + n), FROM_1, digits(2 - n)])).collect());
-    Any(vec![
-        All(vec![Byte(b"+"), longer(4, 8)]),
-        All(vec![Byte(b"-"), Any(vec![longer(3, 8), small])]),
-        digits(4),
-    ])
+    Any(vec![All(vec![Byte(b"+"), longer(4, 8)]), All(vec![Byte(b"-"), Any(vec![longer(3, 8), small])]), digits(4)])
 }
 
 fn dates() -> Grammar {
@@ -165,10 +158,7 @@ fn periods() -> Grammar {
 
 fn intervals(ends: Grammar) -> Grammar {
     let slash = || Byte(b"/");
-    Any(vec![
-        All(vec![ends.clone(), slash(), Any(vec![ends.clone(), periods()])]),
-        All(vec![periods(), slash(), ends]),
-    ])
+    Any(vec![All(vec![ends.clone(), slash(), Any(vec![ends.clone(), periods()])]), All(vec![periods(), slash(), ends])])
 }
 
 fn repeats(ends: Grammar) -> Grammar {
@@ -310,8 +300,5 @@ fn each_edit_by_one_byte_of_date_times() {
 
 #[test]
 fn errors_of_parts() {
-    assert_eq!(
-        date::parse(b"2024-01-01/P1Y2147483648M"),
-        Err(OutOfRange(IntervalComponent::Period(DurationComponent::Months)))
-    );
+    assert_eq!(date::parse(b"2024-01-01/P1Y2147483648M"), Err(OutOfRange(IntervalComponent::Period(DurationComponent::Months))));
 }

@@ -8,7 +8,9 @@ use fotsevindre::Frequency::{Daily, Monthly, Weekly, Yearly};
 use fotsevindre::Month::{December, February, January, July, June, November};
 use fotsevindre::Weekday::{Friday, Monday, Saturday, Sunday, Thursday, Tuesday, Wednesday};
 use fotsevindre::error::TooManyValues;
-use fotsevindre::recurrence::{DateOrTime, ParseRuleError, ParseRuleErrorKind, RecurrenceSet, RuleCount, RuleEnd, RulePart, parse, parse_days};
+use fotsevindre::recurrence::{
+    DateOrTime, ParseRuleError, ParseRuleErrorKind, RecurrenceSet, RuleCount, RuleEnd, RulePart, parse, parse_days,
+};
 use fotsevindre::schedule::{Pattern, Values};
 use fotsevindre::{ByDay, Date, Duration, Frequency, Month, OffsetDateTime, PlainDateTime, Rule, Time, Zone};
 
