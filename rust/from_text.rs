@@ -33,6 +33,32 @@ parse_by! {
         "Parses a date-time and an offset, such as `2024-02-29T23:59:59.25+01:00`, like [`offset_date_time::parse`].";
 }
 
+macro_rules! parse_iso_by {
+    ($($kind:ty: $module:ident, $about:literal;)*) => {
+        $(impl $kind {
+            #[doc = $about]
+            ///
+            /// # Errors
+            ///
+            /// `UnexpectedByte` or `UnexpectedEnd`, else `OutOfRange` for the first component out of
+            /// range.
+            pub fn parse_iso(text: &str) -> Result<Self, ParseError> {
+                crate::text::iso::$module::parse(text.as_bytes())
+            }
+        })*
+    };
+}
+
+parse_iso_by! {
+    Date: date, "Parses a date of ISO 8601 in any format, such as `20240229`, like [`parse`](crate::text::iso::date::parse).";
+    Time: time, "Parses a time of day of ISO 8601 in any format, such as `T2259`, like [`parse`](crate::text::iso::time::parse).";
+    PlainDateTime: plain,
+        "Parses a date-time of ISO 8601 in any format, such as `20240229T2259`, like [`parse`](crate::text::iso::plain::parse).";
+    OffsetDateTime: offset_date_time,
+        "Parses a date-time and an offset of ISO 8601 in any format, such as `2024-02-29 22:59:59.25+00`, like \
+         [`parse`](crate::text::iso::offset_date_time::parse).";
+}
+
 impl FromStr for Period {
     type Err = ParseDurationError;
 

@@ -193,6 +193,12 @@ pub mod text {
         time, unix,
     };
     pub use crate::cal_units::ShortText;
+
+    /// Strings of ISO 8601 as people's data has them: basic and extended formats, `T` or a space, a
+    /// comma or a point. The other modules parse one string for each value.
+    pub mod iso {
+        pub use crate::cal_iso::{date, offset_date_time, plain, time};
+    }
 }
 
 /// Lengths of months and years, and functions on slices of values.

@@ -19,7 +19,7 @@ use strip::{Edits, Fault, Options, Source};
 use zones::Zones;
 
 /// The libraries, as modules of the crate.
-const CRATES: [&str; 18] = [
+const CRATES: [&str; 19] = [
     "cal_units",
     "cal_span",
     "cal_clock",
@@ -33,6 +33,7 @@ const CRATES: [&str; 18] = [
     "cal_zone",
     "cal_zoned",
     "cal_interval",
+    "cal_iso",
     "cal_rounding",
     "cal_holidays",
     "cal_tzif",

@@ -24,6 +24,7 @@ fn main() -> ExitCode {
             "cal_zone",
             "cal_zoned",
             "cal_interval",
+            "cal_iso",
             "cal_rounding",
             "cal_holidays",
             "cal_tzif",

@@ -11,6 +11,7 @@ mod formats;
 mod grammar;
 mod holidays;
 mod intervals;
+mod iso;
 mod lenient;
 mod moments;
 mod rounding;

@@ -1,0 +1,6 @@
+pub mod DateShapes
+pub mod DateReads
+pub mod ClockShapes
+pub mod ClockReads
+pub mod MomentShapes
+pub mod MomentReads

@@ -1,0 +1,6 @@
+pub mod DateForm
+pub mod ClockForm
+pub mod TimeForm
+pub mod OffsetForm
+pub mod MomentForm
+pub mod IsoShape

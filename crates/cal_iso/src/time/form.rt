@@ -1,0 +1,48 @@
+//! Parsing the numbers of a time of day.
+ghost use Rattle.std.specs.Prelude.{IfSome};
+ghost use Rattle.cal_text.specs.Shape.{End, GoesPast, Scans, ScansWhole};
+ghost use Rattle.cal_iso.specs.IsoShape.{Clock, Time};
+ghost use Rattle.cal_iso.specs.TimeForm.{HasIsoClock, HasIsoTime};
+
+use crate::clock::scan_after_hour;
+use cal_text::{Scanner, TimeNumbers};
+
+/// Parses the numbers of a time of day, perhaps after the letter T, up to the end of the text.
+pub(super) fn scan_whole_time(scanner: &mut Scanner) -> Option<TimeNumbers>
+    ensures scans { ScansWhole (Time End) scanner.old.rest.now scanner.new.rest.now result }
+    ensures value { IfSome result (HasIsoTime scanner.old.rest.now) }
+{
+    match scanner.byte(b'T') {
+        Some(()) => scan_clock_to_end(scanner),
+        None => match scanner.byte(b't') {
+            Some(()) => scan_clock_to_end(scanner),
+            None => scan_clock_to_end(scanner),
+        },
+    }
+}
+
+/// Parses the numbers of a time of day up to the end of the text.
+pub(crate) fn scan_clock_to_end(scanner: &mut Scanner) -> Option<TimeNumbers>
+    ensures scans { ScansWhole (Clock End) scanner.old.rest.now scanner.new.rest.now result }
+    ensures value { IfSome result (HasIsoClock scanner.old.rest.now) }
+{
+    let time = scan_clock(scanner)?;
+    scanner.end()?;
+    Some(time)
+}
+
+/// Parses two digits of the hour, and perhaps minutes and seconds.
+pub(crate) fn scan_clock(scanner: &mut Scanner) -> Option<TimeNumbers>
+    ensures scans { Scans Clock scanner.old.rest.now scanner.new.rest.now result }
+    ensures value { IfSome result (λ t.
+        GoesPast (λ bytes. HasIsoClock bytes t) scanner.old.rest.now scanner.new.rest.now) }
+{
+    let hour = scanner.two_digits()?;
+    let rest = scan_after_hour(scanner, true)?;
+    Some(TimeNumbers {
+        hour: hour as u8,
+        minute: rest.minute,
+        second: rest.second,
+        nanosecond: rest.nanosecond,
+    })
+}
