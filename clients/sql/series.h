@@ -11,7 +11,7 @@
 
 #define SQL_PAGE 64
 /* With BYSETPOS a row can cost a few milliseconds. */
-#define SQL_SMALL_PAGE 8
+#define SQL_SMALL_PAGE 2
 
 enum sql_step { SQL_ROW, SQL_PAUSE, SQL_END, SQL_FAILED };
 
@@ -99,8 +99,11 @@ typedef struct sql_days {
 static inline sql_fault sql_days_begin(sql_days *all, const char *text, size_t length, fots_date start, fots_date first, fots_date last)
 {
     const fots_parse_recurrence_result parsed = fots_recurrence_parse(text, length);
-    const sql_fault fault = {parsed.status, parsed.position};
+    sql_fault fault = {parsed.status, parsed.position};
     memset(all, 0, sizeof *all);
+    if (parsed.status == FOTS_OK && parsed.recurrence.frequency > FOTS_YEARLY) {
+        fault.status = FOTS_INVALID_FREQUENCY;
+    }
     all->recurrence = parsed.recurrence;
     all->rule = fots_recurrence_rule(&all->recurrence, start);
     if (all->rule.until.julian_day > last.julian_day) {
@@ -143,10 +146,20 @@ static inline enum sql_step sql_days_step(sql_days *all, fots_date *day)
     return found.status == FOTS_OK ? SQL_PAUSE : SQL_FAILED;
 }
 
-/* ---- the local times of a recurrence, or its instants in a zone */
+/* ---- the local times of a recurrence, or its instants in a zone
+ *
+ * Rules of hours, minutes or seconds are read in windows of a hundred years, up to the year 9999: a
+ * rule with an interval can have a day in many thousand years. A window ends with an UNTIL. */
+
+#define SQL_WINDOW_YEARS 100
+#define SQL_LAST_YEAR 9999
 
 typedef struct sql_times {
-    char text[4096]; /* of the recurrence, without COUNT */
+    char text[4128]; /* of the recurrence, without COUNT */
+    char until[24]; /* of a rule with windows, or empty */
+    size_t base_length; /* of the text without UNTIL */
+    int has_windows;
+    int32_t window; /* the year at whose end the window ends, or 0 for the end of the recurrence */
     fots_recurrence_set set; /* has a pointer to the text */
     const fots_zone *zone; /* or NULL for local times */
     fots_moment first, last; /* in the rows, at offset 0: local times without a zone, else at UTC */
@@ -160,19 +173,86 @@ typedef struct sql_times {
     fots_moment page[SQL_PAGE];
 } sql_times;
 
-/* Copies the text of a recurrence, and cuts COUNT out of it. */
+static inline fots_moment sql_midnight(int32_t year, uint32_t month, uint32_t day)
+{
+    const fots_moment moment = {fots_date_from_calendar_date(year, month, day).date, {0}, 0};
+    return moment;
+}
+
+/* Cuts a part out of the text, and copies its value. */
+static inline int sql_times_cut(sql_times *all, const char *part, char *value, size_t size)
+{
+    char *const found = strstr(all->text, part);
+    const size_t name_length = strlen(part);
+    size_t length;
+    if (!found) {
+        return 0;
+    }
+    length = strcspn(found + name_length, ";");
+    if (length < size) {
+        memcpy(value, found + name_length, length);
+        value[length] = 0;
+    }
+    memmove(found, found + name_length + length, strlen(found + name_length + length) + 1);
+    return 1;
+}
+
+/* Ends the text with an UNTIL, in place of another one that was put there. */
+static inline void sql_times_put_until(sql_times *all, const char *until)
+{
+    snprintf(all->text + all->base_length, sizeof all->text - all->base_length, ";UNTIL=%s", until);
+    all->set.text_length = strlen(all->text);
+}
+
+/* Ends the text with the window that has a year, or at last with the end of the recurrence. */
+static inline void sql_times_open_window(sql_times *all, int32_t year)
+{
+    char until[24];
+    char digits[5] = {0};
+    int32_t last_year = SQL_LAST_YEAR;
+    if (all->until[0]) {
+        memcpy(digits, all->until, 4);
+        last_year = (int32_t)strtol(digits, NULL, 10);
+    }
+    all->window = year < -SQL_WINDOW_YEARS ? 1 : year + SQL_WINDOW_YEARS;
+    if (all->window >= last_year) {
+        all->window = 0;
+        sql_times_put_until(all, all->until[0] ? all->until : "99991231T235959");
+        return;
+    }
+    snprintf(until, sizeof until, "%04d1231T235959", (int)all->window);
+    sql_times_put_until(all, until);
+}
+
+/* Copies the text of a recurrence. Cuts COUNT out of it, and UNTIL if it needs windows. */
 static inline void sql_times_text(sql_times *all, const fots_recurrence_text_result *text)
 {
-    char *count;
+    char count[24] = "";
     memcpy(all->text, text->bytes, sizeof text->bytes);
-    count = strstr(all->text, ";COUNT=");
-    if (count) {
-        char *rest;
-        all->count = (uint32_t)strtoul(count + 7, &rest, 10);
-        memmove(count, rest, strlen(rest) + 1);
+    if (sql_times_cut(all, ";COUNT=", count, sizeof count)) {
+        all->count = (uint32_t)strtoul(count, NULL, 10);
     }
     all->has_until = strstr(all->text, ";UNTIL=") != NULL;
     all->page_length = strstr(all->text, ";BYSETPOS=") ? SQL_SMALL_PAGE : SQL_PAGE;
+    all->has_windows = strstr(all->text, "FREQ=HOURLY") || strstr(all->text, "FREQ=MINUTELY") || strstr(all->text, "FREQ=SECONDLY");
+    if (all->has_windows) {
+        sql_times_cut(all, ";UNTIL=", all->until, sizeof all->until);
+    }
+    all->base_length = strlen(all->text);
+}
+
+/* Starts with the first row, or for a COUNT with the start. */
+static inline void sql_times_restart(sql_times *all)
+{
+    const fots_duration nanosecond = {0, 1};
+    const int is_from_start = all->is_counting || (!all->zone && all->count > 0) || fots_moment_compare(all->first, all->set.start).number < 0;
+    all->from = is_from_start ? all->set.start : all->first;
+    all->after = fots_moment_saturating_sub(all->first, nanosecond).moment;
+    all->at = all->length = 0;
+    all->is_last = 0;
+    if (all->has_windows) {
+        sql_times_open_window(all, fots_date_year(all->from.date).number);
+    }
 }
 
 /* Sets the times from `first` to `last`. `zone` is NULL for local times. */
@@ -180,7 +260,6 @@ static inline sql_fault sql_times_begin(sql_times *all, const char *text, size_t
     fots_moment first, fots_moment last)
 {
     const fots_recurrence_text_result printed = fots_recurrence_text(text, length);
-    const fots_duration nanosecond = {0, 1};
     const sql_fault fault = {printed.status, printed.position};
     memset(all, 0, sizeof *all);
     sql_times_text(all, &printed);
@@ -190,9 +269,30 @@ static inline sql_fault sql_times_begin(sql_times *all, const char *text, size_t
     all->last = last;
     all->left = all->count;
     all->is_counting = zone && all->count > 0;
-    all->from = all->count > 0 || fots_moment_compare(first, start).number < 0 ? start : first;
-    all->after = fots_moment_saturating_sub(first, nanosecond).moment;
+    sql_times_restart(all);
     return fault;
+}
+
+/* Goes on with the next window when this one has no more rows. Its last days can lack instants of
+ * local times that its end excludes, so they are read again. */
+static inline void sql_times_next_window(sql_times *all, int is_local)
+{
+    const fots_duration nanosecond = {0, 1}, two_days = {172800, 0};
+    const fots_moment next = sql_midnight(all->window + 1, 1, 1), cutoff = sql_midnight(all->window, 12, 28);
+    if (fots_moment_compare(next, fots_moment_saturating_add(all->last, two_days).moment).number > 0) {
+        return;
+    }
+    while (!is_local && all->length > 0 && fots_moment_compare(all->page[all->length - 1], cutoff).number > 0) {
+        all->length -= 1;
+        all->is_last = 1;
+    }
+    if (!all->is_last) {
+        return;
+    }
+    all->is_last = 0;
+    all->from = next;
+    all->after = fots_moment_compare(all->first, cutoff).number > 0 ? fots_moment_saturating_sub(all->first, nanosecond).moment : cutoff;
+    sql_times_open_window(all, all->window);
 }
 
 /* Reads the next page of local times, or of instants. */
@@ -210,6 +310,9 @@ static inline enum sql_step sql_times_page(sql_times *all)
         all->after = is_local ? all->after : all->page[found.length - 1];
         all->from = is_local ? fots_moment_saturating_add(all->page[found.length - 1], nanosecond).moment : all->from;
     }
+    if (all->window && found.status == FOTS_OK) {
+        sql_times_next_window(all, is_local);
+    }
     return found.status == FOTS_OK ? SQL_PAUSE : SQL_FAILED;
 }
 
@@ -220,13 +323,13 @@ static inline enum sql_step sql_times_end_with(sql_times *all, fots_moment readi
     const fots_moment until = fots_moment_saturating_add(reading, up).moment;
     const fots_calendar_date_result date = fots_date_to_calendar_date(until.date);
     const fots_hms_nano_result time = fots_time_as_hms_nano(until.time);
-    if (date.year < 0 || date.year > 9999) {
+    if (date.year < 0 || date.year > SQL_LAST_YEAR) {
         all->status = FOTS_RESULT_OUT_OF_RANGE;
         return SQL_FAILED;
     }
-    snprintf(all->text + all->set.text_length, sizeof all->text - all->set.text_length, ";UNTIL=%04d%02u%02uT%02u%02u%02u", (int)date.year,
-        (unsigned)date.month, (unsigned)date.day, (unsigned)time.hour, (unsigned)time.minute, (unsigned)time.second);
-    all->set.text_length = strlen(all->text);
+    snprintf(all->until, sizeof all->until, "%04d%02u%02uT%02u%02u%02u", (int)date.year, (unsigned)date.month, (unsigned)date.day,
+        (unsigned)time.hour, (unsigned)time.minute, (unsigned)time.second);
+    sql_times_put_until(all, all->until);
     return SQL_PAUSE;
 }
 
@@ -235,17 +338,21 @@ static inline enum sql_step sql_times_count(sql_times *all)
 {
     const fots_duration two_days = {172800, 0};
     enum sql_step step = sql_times_page(all);
+    int is_done = 0;
     if (step != SQL_PAUSE) {
         return step;
     }
     if (all->left <= all->length) {
         step = sql_times_end_with(all, all->page[all->left - 1]);
-        all->is_counting = 0;
+        is_done = 1;
     } else if (all->is_last || fots_moment_compare(all->from, fots_moment_saturating_add(all->last, two_days).moment).number > 0) {
-        all->is_counting = 0;
+        is_done = 1;
     }
     all->left -= (uint32_t)all->length;
-    all->is_last = 0;
+    if (is_done) {
+        all->is_counting = 0;
+        sql_times_restart(all);
+    }
     all->length = 0;
     return step;
 }

@@ -21,6 +21,8 @@ SELECT count(*) FROM cal_times_zoned('FREQ=DAILY;BYHOUR=1,2,3,4,5,6;COUNT=400000
 INSERT INTO clock VALUES (clock_timestamp());
 SELECT count(*) FROM cal_times_zoned(:'all_times', '0001-01-01', 'Europe/Berlin', tstzrange(NULL, '290000-01-01'));
 INSERT INTO clock VALUES (clock_timestamp());
+SELECT count(*) FROM cal_times_zoned('FREQ=SECONDLY;COUNT=4000000000', '0001-01-01', 'Europe/Berlin', tstzrange('9000-01-01', NULL));
+INSERT INTO clock VALUES (clock_timestamp());
 SELECT count(*) FROM cal_times_zoned(:'all_times' || ';COUNT=4000000', '0001-01-01', 'Europe/Berlin', tstzrange('290000-01-01', NULL));
 INSERT INTO clock VALUES (clock_timestamp());
 SELECT count(*) FROM cal_series('0001-01-01', '999999-01-01', '1 day');
@@ -35,3 +37,4 @@ FROM (SELECT t - lag(t) OVER (ORDER BY t) AS length FROM clock) AS lengths WHERE
 -- Nothing matches, which takes no time.
 SELECT count(*) FROM cal_days('FREQ=DAILY;BYMONTH=2;BYMONTHDAY=30', '2024-01-01', daterange(NULL, '999999-01-01'));
 SELECT count(*) FROM cal_times_zoned('FREQ=DAILY;BYMONTH=2;BYMONTHDAY=30;COUNT=9', '2024-01-01', 'Europe/Berlin');
+SELECT count(*) FROM cal_times_local('FREQ=SECONDLY;INTERVAL=1000003;BYYEARDAY=366;BYHOUR=3;BYMINUTE=4;BYSECOND=5', '2024-01-01', tsrange(NULL, '290000-01-01'));

@@ -1,0 +1,80 @@
+/* Compares the rows of series.h, which come in pages and windows, with those of one call of the
+ * library, for rules of hours, minutes and seconds around the ends of windows, and with COUNT. */
+#include <stdio.h>
+#include <stdlib.h>
+
+#include "series.h"
+#include "zones.h"
+
+#define ROWS 100
+
+static const char *const zones[] = {NULL, "Europe/Berlin", "Pacific/Apia", "America/Jamaica", "Asia/Kolkata", "Australia/Lord_Howe"};
+static const char *const rules[] = {"FREQ=HOURLY;INTERVAL=9", "FREQ=MINUTELY;INTERVAL=13", "FREQ=SECONDLY;INTERVAL=3607",
+    "FREQ=HOURLY;BYMONTH=12,1;BYMONTHDAY=31,1", "FREQ=MINUTELY;INTERVAL=7;BYMONTH=12;BYMONTHDAY=31", "FREQ=SECONDLY;INTERVAL=86399;BYMONTH=2",
+    "FREQ=HOURLY;INTERVAL=50;COUNT=90", "FREQ=MINUTELY;INTERVAL=11;COUNT=100;BYMONTH=12,1", "FREQ=HOURLY;INTERVAL=5;UNTIL=20010102T030000Z",
+    "FREQ=HOURLY;INTERVAL=5;UNTIL=19000101T030000", "FREQ=HOURLY;BYMINUTE=0,30;BYSETPOS=-1", "FREQ=HOURLY;INTERVAL=777;COUNT=500",
+    "FREQ=DAILY;BYHOUR=2,3;COUNT=200", "FREQ=WEEKLY;BYDAY=SU;BYHOUR=2;BYMINUTE=30;UNTIL=20241027"};
+
+static fots_moment drawn(int year, int is_year_end)
+{
+    const uint32_t month = is_year_end ? 12 : 1 + (uint32_t)(rand() % 12), day = is_year_end ? 29 + (uint32_t)(rand() % 3) : 1 + (uint32_t)(rand() % 28);
+    fots_moment moment = sql_midnight(year, month, day);
+    moment.time = (uint64_t)(rand() % 86400) * 1000000000u;
+    return moment;
+}
+
+/* Returns the number of rows, at most ROWS. */
+static size_t rows_of(const char *rule, fots_moment start, const fots_zone *zone, fots_moment first, fots_moment last, fots_moment *rows)
+{
+    static sql_times times;
+    enum sql_step step;
+    size_t length = 0;
+    if (sql_times_begin(&times, rule, strlen(rule), start, zone, first, last).status != FOTS_OK) {
+        return SIZE_MAX;
+    }
+    do {
+        step = sql_times_step(&times, &rows[length]);
+        length += step == SQL_ROW;
+    } while (length < ROWS && (step == SQL_ROW || step == SQL_PAUSE));
+    return step == SQL_FAILED ? SIZE_MAX : length;
+}
+
+static int is_same(const char *rule, fots_moment start, const fots_zone *zone, fots_moment first, fots_moment last)
+{
+    static fots_moment rows[ROWS + 1], others[ROWS];
+    const fots_duration nanosecond = {0, 1};
+    const fots_recurrence_set set = fots_recurrence_set_new(rule, strlen(rule), start);
+    const size_t length = rows_of(rule, start, zone, first, last, rows);
+    const size_t found = zone ? fots_recurrence_moments(&set, zone, fots_moment_checked_sub(first, nanosecond).moment, others, ROWS).length
+                              : fots_recurrence_readings(&set, first, others, ROWS).length;
+    size_t at = 0;
+    while (at < length && at < found && fots_moment_compare(rows[at], others[at]).number == 0) {
+        at++;
+    }
+    return at == length && (at == found || fots_moment_compare(others[at], last).number > 0);
+}
+
+int main(void)
+{
+    size_t rule, zone;
+    int draw, passed = 0, failed = 0;
+    for (rule = 0; rule < sizeof rules / sizeof rules[0]; rule++) {
+        for (zone = 0; zone < sizeof zones / sizeof zones[0]; zone++) {
+            for (draw = 0; draw < 8; draw++) {
+                const int year = draw % 2 == 0 ? 1780 + rand() % 240 : draw % 4 == 1 ? 1799 + rand() % 3 : 1899 + rand() % 2;
+                const fots_moment start = drawn(year, draw % 3 > 0);
+                fots_moment first = start, last = start;
+                first.date.julian_day += draw % 5 == 0 ? rand() % 40000 : rand() % 5 - 2;
+                last.date.julian_day = first.date.julian_day + (draw % 2 ? rand() % 400 : 60000);
+                if (is_same(rules[rule], start, zones[zone] ? sql_zone_named(zones[zone], strlen(zones[zone])).zone : NULL, first, last)) {
+                    passed++;
+                } else {
+                    failed++;
+                    printf("%s in %s from %d differs\n", rules[rule], zones[zone] ? zones[zone] : "no zone", year);
+                }
+            }
+        }
+    }
+    printf("series: %d passed, %d failed\n", passed, failed);
+    return failed != 0;
+}
