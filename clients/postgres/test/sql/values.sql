@@ -40,6 +40,7 @@ SELECT * FROM (VALUES
     (6, cal_week_text('0045-03-15 BC'), '-0044-W11-4'), (7, cal_parse('0000-02-29')::text, '0001-02-29 BC'),
     (8, cal_add_months('4714-12-24 BC', -1)::text, '4714-11-24 BC'),
     (9, pg_temp.error_of($$SELECT cal_add_months('4714-11-24 BC', -1)$$), '22008 add months: result out of range'),
+    (15, cal_local('1969-12-31 23:59:59.5Z', 'Asia/Kolkata')::text, '1970-01-01 05:29:59.5'),
     (10, cal_local('294276-12-31 12:00Z', 'UTC')::text, '294276-12-31 12:00:00'),
     (11, pg_temp.error_of($$SELECT cal_instant('294276-12-31 23:30', 'Etc/GMT+5')$$), '22008 local time: result out of range'),
     (12, cal_instant('4714-11-24 00:00:00 BC', 'UTC')::text, '4714-11-24 00:00:00+00 BC'),
@@ -111,6 +112,10 @@ FROM calendar, generate_series(0, 300, 7) AS n GROUP BY name, holidays ORDER BY 
 SELECT count(*) AS differences FROM generate_series(0, 199) AS n,
     LATERAL (SELECT array_agg('2024-01-01'::date + (n % 12) + d) AS holidays FROM generate_series(0, n % 12) AS d) AS made
     WHERE cal_workdays('2024-01-01', '2024-03-01', holidays, 127) <> 60 - cardinality(holidays);
+-- calendars of one size, and weekmasks, in turn
+SELECT count(*) AS differences FROM generate_series(0, 99) AS n
+    WHERE cal_workdays('2024-01-01', '2024-03-01', CASE n % 2 WHEN 0 THEN '{2024-01-02}'::date[] ELSE '{2024-06-01}' END, 127) <> 59 + n % 2
+       OR cal_workdays('2024-01-01', '2024-01-08', '{}', CASE n % 2 WHEN 0 THEN 31 ELSE 127 END) <> 5 + 2 * (n % 2);
 DO $$
 DECLARE one date[] := '{2024-01-01}'; other date[]; total int := 0;
 BEGIN
