@@ -65,7 +65,12 @@ def _column(values: Any, code: str, unit: str) -> Any:
     if getattr(getattr(values, "dtype", None), "tz", None) is not None:
         raise ValueError("expected a column without a time zone; .dt.tz_localize(None) removes it")
     if hasattr(values, "to_numpy"):
-        values = values.to_numpy()
+        # Columns such as Int64 of pandas can have missing numbers.
+        bits = getattr(values.dtype, "numpy_dtype", None)
+        if bits is not None and values.isna().any():
+            raise ValueError("expected a column without missing numbers; "
+                ".fillna(..) replaces them, and .dropna() removes their rows")
+        values = values.to_numpy() if bits is None else values.to_numpy(bits)
     if isinstance(values, (list, tuple)):
         return array.array(code, map(_number, values) if unit == "D" else values)
     is_array = hasattr(values, "dtype")

@@ -45,6 +45,16 @@ class Pandas(unittest.TestCase):
         times = Zone.from_posix("CET-1CEST,M3.5.0,M10.5.0/3").instants(self.DAYS).seconds
         self.assertEqual(([str(time) for time in times], list(times.index)), (["2024-02-28 23:00:00", "NaT", "2024-12-30 23:00:00"], ["a", "b", "c"]))
 
+    def test_nullable_integers(self):
+        numbers = pandas.Series([2460370, 2460371], index=["a", "b"], dtype="Int64")
+        self.assertEqual(fotsevindre.dates_weekdays(numbers).weekdays.to_dict(), {"a": 3, "b": 4})
+        self.assertEqual(list(fotsevindre.dates_add_days(self.DAYS[["a", "c"]], pandas.Series([1, 2], dtype="Int32")).dates.dt.day), [1, 2])
+        with self.assertRaisesRegex(ValueError, "without missing numbers; .fillna"):
+            fotsevindre.dates_weekdays(pandas.Series([2460370, None], dtype="Int64"))
+        for kind in ("Float64", "boolean"):
+            with self.assertRaisesRegex(TypeError, "expected a column of integers"):
+                fotsevindre.dates_weekdays(pandas.Series([1, 0], dtype=kind))
+
     def test_indexes(self):
         days = pandas.DatetimeIndex(self.DAYS)
         weekdays, moved = fotsevindre.dates_weekdays(days), fotsevindre.dates_add_months(days, 1)
