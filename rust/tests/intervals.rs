@@ -188,11 +188,11 @@ fn edits(text: &str) -> Vec<Vec<u8>> {
     all
 }
 
+/// The part of an interval, if it is there.
+type Part<V> = Option<Result<V, IntervalComponent>>;
+
 /// The answer of the parts of an interval, by the slash between them.
-fn by_parts<V>(
-    text: &[u8],
-    end: fn(&[u8]) -> Result<V, fotsevindre::error::ParseError>,
-) -> (Option<Result<V, IntervalComponent>>, Option<Result<Period, IntervalComponent>>, Option<Result<V, IntervalComponent>>) {
+fn by_parts<V>(text: &[u8], end: fn(&[u8]) -> Result<V, fotsevindre::error::ParseError>) -> (Part<V>, Part<Period>, Part<V>) {
     let at = text.iter().position(|byte| *byte == b'/').unwrap();
     let end = |text: &[u8]| match end(text) {
         Err(fotsevindre::error::ParseError::OutOfRange(error)) => Err(IntervalComponent::End(error)),

@@ -98,17 +98,11 @@ fn date_grammar() -> Grammar {
     };
     let extended = rest(&|part| All(vec![Byte(b"-"), part]));
     let expanded = All(vec![Byte(b"+-"), Times(4, Some(6), Box::new(DIGIT))]);
-    Any(vec![
-        All(vec![Any(vec![expanded, digits(4)]), Byte(b"-"), extended]),
-        All(vec![digits(4), rest(&|part| part)]),
-    ])
+    Any(vec![All(vec![Any(vec![expanded, digits(4)]), Byte(b"-"), extended]), All(vec![digits(4), rest(&|part| part)])])
 }
 
 fn clock_grammar(has_fraction: bool) -> Grammar {
-    let decimals = Any(vec![
-        Times(1, Some(9), Box::new(DIGIT)),
-        All(vec![digits(9), Times(1, Some(9), Box::new(Byte(b"0")))]),
-    ]);
+    let decimals = Any(vec![Times(1, Some(9), Box::new(DIGIT)), All(vec![digits(9), Times(1, Some(9), Box::new(Byte(b"0")))])]);
     let fraction = All(vec![Byte(b".,"), decimals]);
     let seconds = || if has_fraction { All(vec![digits(2), maybe(fraction.clone())]) } else { digits(2) };
     let extended = All(vec![Byte(b":"), digits(2), maybe(All(vec![Byte(b":"), seconds()]))]);
@@ -156,7 +150,8 @@ fn read_date(text: &[u8]) -> Result<Date, ParseError> {
     } else if found.len() == 3 {
         Date::from_ordinal_date(year, number(&found) as u16)
     } else {
-        Month::try_from(number(&found[..2]) as u8).and_then(|month| Date::from_calendar_date(year, month, number(&found[2..]) as u8))
+        Month::try_from(number(&found[..2]) as u8)
+            .and_then(|month| Date::from_calendar_date(year, month, number(&found[2..]) as u8))
     };
     date.map_err(OutOfRange)
 }
@@ -306,7 +301,13 @@ fn agree<V: PartialEq + std::fmt::Debug>(
 #[test]
 fn drawn_texts_agree_with_a_reader_of_the_grammar() {
     agree(300_000, &date_grammar(), Draw::date, read_date, iso::date::parse);
-    agree(200_000, &time_grammar(), |draw| format!("{}{}", draw.one(&["", "T", "t"]), draw.clock(25, true)), read_time, iso::time::parse);
+    agree(
+        200_000,
+        &time_grammar(),
+        |draw| format!("{}{}", draw.one(&["", "T", "t"]), draw.clock(25, true)),
+        read_time,
+        iso::time::parse,
+    );
     let local = |draw: &mut Draw| format!("{}{}{}", draw.date(), draw.one(&["T", "t", " "]), draw.clock(25, true));
     agree(300_000, &plain_grammar(), local, read_plain, iso::plain::parse);
     let moment = |draw: &mut Draw| format!("{}{}", local(draw), draw.offset());
