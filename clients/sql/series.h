@@ -220,7 +220,8 @@ static inline void sql_times_open_window(sql_times *all, int32_t year)
         sql_times_put_until(all, all->until[0] ? all->until : "99991231T235959");
         return;
     }
-    snprintf(until, sizeof until, "%04d1231T235959", (int)all->window);
+    /* The first second of the next year, since a second of the start can have a fraction. */
+    snprintf(until, sizeof until, "%04d0101T000000", (int)all->window + 1);
     sql_times_put_until(all, until);
 }
 
@@ -290,7 +291,7 @@ static inline void sql_times_next_window(sql_times *all, int is_local)
         return;
     }
     all->is_last = 0;
-    all->from = next;
+    all->from = fots_moment_saturating_add(next, nanosecond).moment;
     all->after = fots_moment_compare(all->first, cutoff).number > 0 ? fots_moment_saturating_sub(all->first, nanosecond).moment : cutoff;
     sql_times_open_window(all, all->window);
 }

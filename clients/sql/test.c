@@ -6,20 +6,21 @@
 #include "series.h"
 #include "zones.h"
 
-#define ROWS 100
+#define ROWS 120
 
 static const char *const zones[] = {NULL, "Europe/Berlin", "Pacific/Apia", "America/Jamaica", "Asia/Kolkata", "Australia/Lord_Howe"};
 static const char *const rules[] = {"FREQ=HOURLY;INTERVAL=9", "FREQ=MINUTELY;INTERVAL=13", "FREQ=SECONDLY;INTERVAL=3607",
     "FREQ=HOURLY;BYMONTH=12,1;BYMONTHDAY=31,1", "FREQ=MINUTELY;INTERVAL=7;BYMONTH=12;BYMONTHDAY=31", "FREQ=SECONDLY;INTERVAL=86399;BYMONTH=2",
     "FREQ=HOURLY;INTERVAL=50;COUNT=90", "FREQ=MINUTELY;INTERVAL=11;COUNT=100;BYMONTH=12,1", "FREQ=HOURLY;INTERVAL=5;UNTIL=20010102T030000Z",
     "FREQ=HOURLY;INTERVAL=5;UNTIL=19000101T030000", "FREQ=HOURLY;BYMINUTE=0,30;BYSETPOS=-1", "FREQ=HOURLY;INTERVAL=777;COUNT=500",
-    "FREQ=DAILY;BYHOUR=2,3;COUNT=200", "FREQ=WEEKLY;BYDAY=SU;BYHOUR=2;BYMINUTE=30;UNTIL=20241027"};
+    "FREQ=SECONDLY;BYMONTH=12;BYMONTHDAY=31;BYHOUR=23;BYMINUTE=59;BYSECOND=59", "FREQ=MINUTELY;BYMONTH=1;BYMONTHDAY=1;BYHOUR=0;BYMINUTE=0;BYSECOND=0,1",
+    "FREQ=HOURLY;BYMONTH=1;BYMONTHDAY=1;BYHOUR=0;BYMINUTE=0,30;BYSETPOS=-1", "FREQ=DAILY;BYHOUR=2,3;COUNT=200", "FREQ=WEEKLY;BYDAY=SU;BYHOUR=2;BYMINUTE=30;UNTIL=20241027"};
 
 static fots_moment drawn(int year, int is_year_end)
 {
     const uint32_t month = is_year_end ? 12 : 1 + (uint32_t)(rand() % 12), day = is_year_end ? 29 + (uint32_t)(rand() % 3) : 1 + (uint32_t)(rand() % 28);
     fots_moment moment = sql_midnight(year, month, day);
-    moment.time = (uint64_t)(rand() % 86400) * 1000000000u;
+    moment.time = (uint64_t)(rand() % 86400) * 1000000000u + (uint64_t)(rand() % 2) * 500000000u;
     return moment;
 }
 
