@@ -720,6 +720,12 @@ fots_date_result fots_date_last_weekday_of_month(int32_t year, uint32_t month, u
 fots_date_result fots_date_on_or_after(fots_date date, uint32_t weekday);
 fots_date_result fots_date_on_or_before(fots_date date, uint32_t weekday);
 
+/* Return Easter Sunday of a year, by the Gregorian calendar as in western churches and by the Julian
+ * one as in orthodox churches. FOTS_YEAR_OUT_OF_RANGE, also if the orthodox day is out of range. For
+ * 2024: 2024-03-31 and 2024-05-05. */
+fots_date_result fots_easter(int32_t year);
+fots_date_result fots_julian_easter(int32_t year);
+
 /* ---- ranges of days */
 
 /* Return 1 if the date is in the range, or if a day is in both ranges, else 0. FOTS_INVALID_RANGE.
@@ -1429,6 +1435,14 @@ size_t fots_dates_add_days(const int32_t *dates, size_t dates_length, const int6
 size_t fots_dates_add_months(const int32_t *dates, size_t dates_length, const int32_t *months, size_t months_length, int32_t *moved,
     size_t moved_length, uint8_t *statuses, size_t length);
 
+/* Round times of day to multiples of a unit like fots_time_round, and dates and times like
+ * fots_pair_round. A moment is rounded as its date and time, and keeps its offset. */
+size_t fots_times_round(const uint64_t *times, size_t times_length, fots_duration unit, uint32_t mode, uint64_t *rounded_times,
+    size_t rounded_times_length, uint8_t *statuses, size_t length);
+size_t fots_pairs_round(const int32_t *dates, size_t dates_length, const uint64_t *times, size_t times_length, fots_duration unit,
+    uint32_t mode, int32_t *rounded_dates, size_t rounded_dates_length, uint64_t *rounded_times, size_t rounded_times_length,
+    uint8_t *statuses, size_t length);
+
 /* ---- columns of texts
  *
  * One array has the bytes of all texts, and another their bounds, one more than rows, as in Arrow:
@@ -1443,9 +1457,14 @@ size_t fots_dates_parse(const char *bytes, size_t bytes_length, const int32_t *b
 size_t fots_moments_parse(const char *bytes, size_t bytes_length, const int32_t *bounds, size_t bounds_length, int32_t *dates,
     size_t dates_length, uint64_t *times, size_t times_length, int32_t *offsets, size_t offsets_length, uint8_t *statuses, size_t length);
 
+/* Parses like fots_duration_parse, in the same way: the seconds and the nanoseconds of durations. */
+size_t fots_durations_parse(const char *bytes, size_t bytes_length, const int32_t *bounds, size_t bounds_length, int64_t *seconds,
+    size_t seconds_length, int32_t *nanoseconds, size_t nanoseconds_length, uint8_t *statuses, size_t length);
+
 /* The bytes of room for each text of the next calls. */
 #define FOTS_MAX_DATE_LENGTH 13
 #define FOTS_MAX_MOMENT_LENGTH 38
+#define FOTS_MAX_DURATION_LENGTH 36
 
 /* Prints like fots_date_calendar_text, one text after another. A row without a result has no bytes.
  * Bytes after the last bound stay as they are. FOTS_LENGTH_MISMATCH also if there are fewer than
@@ -1456,6 +1475,10 @@ size_t fots_dates_calendar_texts(const int32_t *dates, size_t dates_length, char
 /* Prints like fots_moment_text, in the same way, with FOTS_MAX_MOMENT_LENGTH bytes for each row. */
 size_t fots_moments_texts(const int32_t *dates, size_t dates_length, const uint64_t *times, size_t times_length, const int32_t *offsets,
     size_t offsets_length, char *bytes, size_t bytes_length, int32_t *bounds, size_t bounds_length, uint8_t *statuses, size_t length);
+
+/* Prints like fots_duration_text, in the same way, with FOTS_MAX_DURATION_LENGTH bytes for each row. */
+size_t fots_durations_texts(const int64_t *seconds, size_t seconds_length, const int32_t *nanoseconds, size_t nanoseconds_length, char *bytes,
+    size_t bytes_length, int32_t *bounds, size_t bounds_length, uint8_t *statuses, size_t length);
 
 /* Parses like fots_date_parse_format, without positions, and prints like fots_date_format, in the
  * same way. Each row of the bytes has room for FOTS_MAX_ITEM_LENGTH bytes for each item of the
@@ -1682,6 +1705,12 @@ fots_moment_result fots_zoned_moved_to(const fots_zone *zone, fots_moment moment
  * at 2024-03-31 23:59:59.999999999 +02:00. */
 fots_moment_result fots_zoned_start_of(const fots_zone *zone, fots_moment moment, uint32_t unit);
 fots_moment_result fots_zoned_end_of(const fots_zone *zone, fots_moment moment, uint32_t unit);
+
+/* Returns the moment rounded to a multiple of a unit since the midnight of its date, by what the
+ * clocks show, as by fots_pair_round. It keeps its offset if the clocks show the result at it, and
+ * otherwise goes by FOTS_COMPATIBLE. To 24 hours it is rounded to the start of its day or of the
+ * next one. 2024-03-31 1:50 +01:00 to an hour by FOTS_HALF_CEIL is 3:00 +02:00. */
+fots_moment_result fots_zoned_round(const fots_zone *zone, fots_moment moment, fots_duration unit, uint32_t mode);
 
 /* Return the first instant at which the clocks have reached a date, and the length of the day from
  * there to the start of the next. 2024-03-31 has 23 h. In Toronto 1919-03-31 starts at 0:30. */

@@ -520,6 +520,9 @@ public:
     {
         return from(fots_date_from_iso_week_date(year, week, static_cast<std::uint32_t>(weekday)));
     }
+    // Return Easter Sunday of a year in western churches, and in orthodox ones.
+    static Date easter(std::int32_t year) { return from(fots_easter(year)); }
+    static Date julian_easter(std::int32_t year) { return from(fots_julian_easter(year)); }
     // Returns the date that the clocks of a zone show now.
     static Date today(const Zone &zone);
     // Parses a calendar date, an ordinal date or an ISO week date, such as "2024-W09-4".
@@ -1089,6 +1092,97 @@ inline std::optional<std::pair<Date, Time>> unix_pair(Duration duration, UtcOffs
     return detail::is_in_range(pair) ? std::optional(std::pair(Date(pair.date, {}), Time(pair.time, {}))) : std::nullopt;
 }
 
+// Columns, with a status for each row and the number of rows without a result. A column of times has
+// nanoseconds since midnight, and text k is the bytes from bounds[k] to bounds[k + 1].
+struct TimeColumn {
+    std::vector<std::uint64_t> times;
+    std::vector<std::uint8_t> statuses;
+    std::size_t errors;
+};
+
+struct PairColumn {
+    std::vector<std::int32_t> dates;
+    std::vector<std::uint64_t> times;
+    std::vector<std::uint8_t> statuses;
+    std::size_t errors;
+};
+
+struct DurationColumn {
+    std::vector<std::int64_t> seconds;
+    std::vector<std::int32_t> nanoseconds;
+    std::vector<std::uint8_t> statuses;
+    std::size_t errors;
+};
+
+struct TextColumn {
+    std::string bytes;
+    std::vector<std::int32_t> bounds;
+    std::vector<std::uint8_t> statuses;
+    std::size_t errors;
+};
+
+namespace detail {
+
+// Throws a std::invalid_argument if the columns of a call differ in length.
+inline std::size_t errors_or_throw(std::size_t errors)
+{
+    if (errors == FOTS_LENGTH_MISMATCH) {
+        throw std::invalid_argument("columns of different lengths, or too many rows");
+    }
+    return errors;
+}
+
+} // namespace detail
+
+// Rounds times of day to multiples of a unit that divides 24 hours.
+inline TimeColumn round_times(const std::vector<std::uint64_t> &times, Duration unit, RoundingMode mode)
+{
+    TimeColumn found{std::vector<std::uint64_t>(times.size()), std::vector<std::uint8_t>(times.size()), 0};
+    if (!times.empty()) {
+        found.errors = fots_times_round(times.data(), times.size(), unit.c(), static_cast<std::uint32_t>(mode), found.times.data(),
+            found.times.size(), found.statuses.data(), found.statuses.size());
+    }
+    return found;
+}
+
+// Rounds Julian days and times of day in the same way.
+inline PairColumn round_pairs(const std::vector<std::int32_t> &dates, const std::vector<std::uint64_t> &times, Duration unit, RoundingMode mode)
+{
+    PairColumn found{std::vector<std::int32_t>(dates.size()), std::vector<std::uint64_t>(dates.size()),
+        std::vector<std::uint8_t>(dates.size()), 0};
+    if (!dates.empty() || !times.empty()) {
+        found.errors = detail::errors_or_throw(fots_pairs_round(dates.data(), dates.size(), times.data(), times.size(), unit.c(),
+            static_cast<std::uint32_t>(mode), found.dates.data(), found.dates.size(), found.times.data(), found.times.size(),
+            found.statuses.data(), found.statuses.size()));
+    }
+    return found;
+}
+
+// Parses durations, of which text k is the bytes from bounds[k] to bounds[k + 1].
+inline DurationColumn parse_durations(std::string_view bytes, const std::vector<std::int32_t> &bounds)
+{
+    const std::size_t rows = bounds.empty() ? 0 : bounds.size() - 1;
+    DurationColumn found{std::vector<std::int64_t>(rows), std::vector<std::int32_t>(rows), std::vector<std::uint8_t>(rows), 0};
+    if (rows) {
+        found.errors = fots_durations_parse(detail::data(bytes), bytes.size(), bounds.data(), bounds.size(), found.seconds.data(), rows,
+            found.nanoseconds.data(), rows, found.statuses.data(), rows);
+    }
+    return found;
+}
+
+// Returns the texts of durations. A row without a result has no bytes.
+inline TextColumn duration_texts(const std::vector<std::int64_t> &seconds, const std::vector<std::int32_t> &nanoseconds)
+{
+    const std::size_t rows = seconds.size();
+    TextColumn found{std::string(rows * FOTS_MAX_DURATION_LENGTH, ' '), std::vector<std::int32_t>(rows + 1), std::vector<std::uint8_t>(rows), 0};
+    if (rows || !nanoseconds.empty()) {
+        found.errors = detail::errors_or_throw(fots_durations_texts(seconds.data(), rows, nanoseconds.data(), nanoseconds.size(),
+            &found.bytes[0], found.bytes.size(), found.bounds.data(), rows + 1, found.statuses.data(), rows));
+    }
+    found.bytes.resize(static_cast<std::size_t>(found.bounds.back()));
+    return found;
+}
+
 class OffsetDateTime;
 class ZonedDateTime;
 
@@ -1559,6 +1653,13 @@ public:
     friend Duration operator-(const ZonedDateTime &one, const ZonedDateTime &other)
     {
         return one.to_offset_date_time() - other.to_offset_date_time();
+    }
+
+    // Rounds to a multiple of a unit since the midnight of the date, by what the clocks show. Keeps the
+    // offset if the clocks show the result at it. To 24 hours it is the start of the day or of the next.
+    ZonedDateTime round(Duration unit, RoundingMode mode) const
+    {
+        return from(zone_, fots_zoned_round, value_, unit.c(), static_cast<std::uint32_t>(mode));
     }
 
     // Return the start of the day, and its length.

@@ -104,10 +104,43 @@ static void duration_texts(void)
     }
 }
 
+/* Columns have the results of the single calls. */
+static void duration_columns(void)
+{
+    static const char texts[] = "PT2H30M-PT90MP1DPT0,5SPT9223372036854775808S";
+    const int32_t bounds[] = {0, 7, 13, 16, 22, 44, 45};
+    const uint8_t wanted[] = {FOTS_OK, FOTS_OK, FOTS_UNEXPECTED_BYTE, FOTS_OK, FOTS_SECONDS_OUT_OF_RANGE, FOTS_INVALID_BOUNDS};
+    int64_t seconds[6] = {77};
+    int32_t nanoseconds[6] = {77}, printed[7] = {77};
+    uint8_t statuses[6] = {77};
+    char bytes[6 * FOTS_MAX_DURATION_LENGTH] = {77};
+    check(fots_durations_parse(texts, 44, bounds, 6, seconds, 6, nanoseconds, 6, statuses, 6) == FOTS_LENGTH_MISMATCH, "a bound too few", 0, 0);
+    check(fots_durations_parse(texts, 44, bounds, 7, seconds, 6, nanoseconds, 5, statuses, 6) == FOTS_LENGTH_MISMATCH, "a column too short", 0, 0);
+    check(fots_durations_texts(seconds, 6, nanoseconds, 5, bytes, sizeof bytes, printed, 7, statuses, 6) == FOTS_LENGTH_MISMATCH, "nanoseconds too few", 0, 0);
+    check(fots_durations_texts(seconds, 6, nanoseconds, 6, bytes, sizeof bytes - 1, printed, 7, statuses, 6) == FOTS_LENGTH_MISMATCH, "a byte too few", 0, 0);
+    check(seconds[0] == 77 && nanoseconds[0] == 77 && statuses[0] == 77 && bytes[0] == 77 && printed[0] == 77, "what stood there", seconds[0], bytes[0]);
+    check(fots_durations_parse(texts, 44, bounds, 7, seconds, 6, nanoseconds, 6, statuses, 6) == 3, "three rows without a duration", 0, 0);
+    check(seconds[0] == 9000 && seconds[1] == -5400 && seconds[3] == 0 && nanoseconds[3] == 500000000, "parsed durations", seconds[0], seconds[1]);
+    for (size_t row = 0; row < 6; row++) {
+        check(statuses[row] == wanted[row], "the status of a text", (long long)row, statuses[row]);
+        check((statuses[row] == FOTS_OK) == (seconds[row] != INT64_MIN) && (statuses[row] == FOTS_OK) == (nanoseconds[row] != FOTS_NO_VALUE), "no duration",
+            seconds[row], nanoseconds[row]);
+    }
+    check(fots_durations_texts(seconds, 6, nanoseconds, 6, bytes, sizeof bytes, printed, 7, statuses, 6) == 3, "three rows without a text", 0, 0);
+    check(printed[6] == 21 && memcmp(bytes, "PT2H30M-PT1H30MPT0.5S", 21) == 0, "printed durations", printed[6], 0);
+    check(printed[2] == printed[3] && statuses[2] == FOTS_INVALID_DURATION, "no bytes", printed[2], statuses[2]);
+    seconds[0] = INT64_MIN;
+    nanoseconds[0] = -999999999;
+    check(fots_durations_texts(seconds, 1, nanoseconds, 1, bytes, FOTS_MAX_DURATION_LENGTH, printed, 2, statuses, 1) == 0, "the longest duration", 0, 0);
+    check(memcmp(bytes, "-PT2562047788015215H30M8.999999999S", (size_t)printed[1]) == 0 && printed[1] == 35, "its text", printed[1], 0);
+    check(fots_durations_texts(seconds, 0, nanoseconds, 0, bytes, 0, printed, 1, statuses, 0) == 0 && printed[0] == 0, "no rows", printed[0], 0);
+}
+
 int main(void)
 {
     period_texts();
     printed_periods();
     duration_texts();
+    duration_columns();
     return ended("durations");
 }

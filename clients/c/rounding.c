@@ -65,6 +65,40 @@ static void date_times(void)
     check(fots_moment_round(moment, hour, 5).status == FOTS_INVALID_ROUNDING_MODE, "no mode of a moment", 0, 0);
 }
 
+/* Columns have the results of the single calls, whose values come from the examples of Temporal. */
+static void columns(void)
+{
+    const fots_duration half = of(30 * MINUTE, 0), day = of(24 * HOUR, 0);
+    const int32_t date = fots_date_from_calendar_date(1995, 12, 7).date.julian_day;
+    const fots_time times[] = {at(19, 39, 9, 68346205), FOTS_NO_TIME, at(23, 50, 0, 0)};
+    const int32_t dates[] = {date, FOTS_NO_VALUE, FOTS_MAX_JULIAN_DAY};
+    fots_time rounded[3] = {77, 77, 77};
+    int32_t days[3] = {77, 77, 77};
+    uint8_t statuses[3] = {77, 77, 77};
+    check(fots_times_round(times, 3, half, FOTS_HALF_CEIL, rounded, 2, statuses, 3) == FOTS_LENGTH_MISMATCH, "a time too few", 0, 0);
+    check(fots_times_round(times, 3, half, FOTS_HALF_CEIL, rounded, 3, statuses, 2) == FOTS_LENGTH_MISMATCH, "a status too few", 0, 0);
+    check(fots_pairs_round(dates, 3, times, 2, half, FOTS_HALF_CEIL, days, 3, rounded, 3, statuses, 3) == FOTS_LENGTH_MISMATCH, "a time of day too few", 0, 0);
+    check(fots_pairs_round(dates, 3, times, 3, half, FOTS_HALF_CEIL, days, 3, rounded, 2, statuses, 3) == FOTS_LENGTH_MISMATCH, "a rounded time too few", 0, 0);
+    check(rounded[0] == 77 && days[0] == 77 && statuses[0] == 77, "what stood there", statuses[0], days[0]);
+    check(fots_times_round(times, 0, half, FOTS_HALF_CEIL, rounded, 0, statuses, 0) == 0 && rounded[0] == 77, "no rows", 0, 0);
+    check(fots_times_round(times, 3, half, FOTS_HALF_CEIL, rounded, 3, statuses, 3) == 1, "a row without a time", 0, 0);
+    check(rounded[0] == at(19, 30, 0, 0) && rounded[1] == FOTS_NO_TIME && rounded[2] == 0, "rounded times", 0, 0);
+    check(statuses[0] == FOTS_OK && statuses[1] == FOTS_INVALID_TIME && statuses[2] == FOTS_OK, "their statuses", statuses[0], statuses[1]);
+    check(fots_times_round(times, 3, of(7 * MINUTE, 0), 5, rounded, 3, statuses, 3) == 3 && statuses[0] == FOTS_INVALID_ROUNDING_UNIT, "no unit", 0, 0);
+    check(fots_times_round(times, 3, half, 5, rounded, 3, statuses, 3) == 3 && statuses[2] == FOTS_INVALID_ROUNDING_MODE, "no mode", 0, 0);
+    check(fots_pairs_round(dates, 3, times, 3, day, FOTS_CEIL, days, 3, rounded, 3, statuses, 3) == 2, "two rows without a pair", 0, 0);
+    check(days[0] == date + 1 && rounded[0] == 0 && statuses[0] == FOTS_OK, "the next date", days[0], date);
+    check(days[1] == FOTS_NO_VALUE && rounded[1] == FOTS_NO_TIME && statuses[1] == FOTS_INVALID_DATE, "no date", days[1], statuses[1]);
+    check(days[2] == FOTS_NO_VALUE && rounded[2] == FOTS_NO_TIME && statuses[2] == FOTS_RESULT_OUT_OF_RANGE, "past the range", days[2], statuses[2]);
+    for (uint32_t mode = 0; mode < 5; mode++) {
+        fots_times_round(times, 3, half, mode, rounded, 3, statuses, 3);
+        for (size_t row = 0; row < 3; row++) {
+            const fots_time_result single = fots_time_round(times[row], half, mode);
+            check(rounded[row] == single.time && statuses[row] == single.status, "as the single call", mode, (long long)row);
+        }
+    }
+}
+
 /* Rounds whole numbers by the definition of each mode. */
 static int64_t rounded(int64_t number, int64_t unit, uint32_t mode)
 {
@@ -105,6 +139,7 @@ int main(void)
 {
     times();
     date_times();
+    columns();
     durations();
     return ended("rounding");
 }

@@ -99,6 +99,25 @@ static void ranges(void)
     check(fots_date_range_length(backward).status == FOTS_INVALID_RANGE, "an end before the start", 0, 0);
 }
 
+/* Published dates of Easter: in 1954 and 2049 an exception makes it a week earlier. */
+static void easter(void)
+{
+    static const struct {
+        int32_t year;
+        uint32_t month, day, orthodox_month, orthodox_day;
+    } rows[] = {{1583, 4, 10, 4, 10}, {1598, 3, 22, 4, 26}, {1943, 4, 25, 4, 25}, {1954, 4, 18, 4, 25}, {2000, 4, 23, 4, 30}, {2024, 3, 31, 5, 5},
+        {2038, 4, 25, 4, 25}, {2049, 4, 18, 4, 25}, {4099, 4, 19, 5, 3}};
+    for (size_t row = 0; row < sizeof rows / sizeof rows[0]; row++) {
+        const int32_t year = rows[row].year;
+        is_day(fots_easter(year), fots_date_from_calendar_date(year, rows[row].month, rows[row].day).date, "Easter");
+        is_day(fots_julian_easter(year), fots_date_from_calendar_date(year, rows[row].orthodox_month, rows[row].orthodox_day).date, "orthodox Easter");
+    }
+    is_error(fots_easter(1000000), FOTS_YEAR_OUT_OF_RANGE, "Easter after the range");
+    is_error(fots_easter(-1000000), FOTS_YEAR_OUT_OF_RANGE, "Easter before the range");
+    is_error(fots_julian_easter(INT32_MIN), FOTS_YEAR_OUT_OF_RANGE, "orthodox Easter before the range");
+    is_error(fots_julian_easter(999999), FOTS_YEAR_OUT_OF_RANGE, "an orthodox Easter after the last date");
+}
+
 static void ends(void)
 {
     const fots_date leap = day(2024, 2, 29);
@@ -1017,6 +1036,7 @@ int main(void)
 {
     months();
     ranges();
+    easter();
     ends();
     day_counts();
     workdays();

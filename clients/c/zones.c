@@ -160,6 +160,7 @@ static void is_rejected(const fots_zone *zone, long long which)
     check(fots_zoned_start_of(zone, no_moment, 0).status == FOTS_INVALID_ZONE, "the start of a unit", which, 0);
     check(fots_zoned_end_of(zone, no_moment, 0).status == FOTS_INVALID_ZONE, "the end of a unit", which, 0);
     check(fots_zoned_start_of_day(zone, no_day).status == FOTS_INVALID_ZONE, "start of a day", which, 0);
+    check(fots_zoned_round(zone, no_moment, no_duration, 5).status == FOTS_INVALID_ZONE, "rounded", which, 0);
     check(fots_zoned_day_length(zone, no_day).status == FOTS_INVALID_ZONE, "length of a day", which, 0);
     check(fots_zoned_add_days(zone, &second, 1, &second, 1, 4, &second, 1, &status, 1) == 1 && status == FOTS_INVALID_ZONE, "days", which, second);
     check(fots_zoned_add_months(zone, &second, 1, &offset, 1, 4, &second, 1, &status, 1) == 1 && status == FOTS_INVALID_ZONE, "months", which, second);
@@ -284,6 +285,7 @@ static void is_safe(const fots_zone *zone)
         fots_zoned_period_until(zone, from.moment, fots_zoned_add_period(zone, from.moment, step, 0).moment, 1 + (uint32_t)row, (uint32_t)row);
         fots_zoned_start_of(zone, from.moment, (uint32_t)row);
         fots_zoned_end_of(zone, from.moment, (uint32_t)row);
+        fots_zoned_round(zone, from.moment, (fots_duration){row % 2 ? 3600 : 86400, 0}, (uint32_t)row);
     }
     fots_zoned_start_of_day(zone, day(2024, 3, 31));
     fots_zoned_add_days(zone, seconds, 4, seconds, 4, FOTS_LATER, found, 4, statuses, 4);
@@ -458,6 +460,35 @@ static void moved_and_ends(void)
     is_not_moment(fots_zoned_end_of(&berlin, wrong, 6), FOTS_WRONG_OFFSET, "the end around another offset");
     is_not_moment(fots_zoned_end_of(&berlin, noon, 6), FOTS_INVALID_UNIT, "the end of no unit");
     is_not_moment(fots_zoned_end_of(&berlin, at_end, FOTS_YEAR), FOTS_RESULT_OUT_OF_RANGE, "the end of the last year");
+}
+
+/* The examples of Temporal for ZonedDateTime.round, and a day of 23 and one of 25 hours by a count. */
+static void rounded(void)
+{
+    const fots_zone berlin = posix(CET), angeles = posix("PST8PDT,M3.2.0,M11.1.0"), azores = posix("<-01>1<+00>,M3.5.0/0,M10.5.0/1");
+    const fots_date skipping = day(2024, 3, 31), repeating = day(2024, 10, 27), next = day(2024, 4, 1), last = {FOTS_MAX_JULIAN_DAY}, none = {FOTS_NO_VALUE};
+    const fots_date december = day(1995, 12, 7);
+    const fots_duration hour = {3600, 0}, half = {1800, 0}, whole = {86400, 0}, week = {7 * 86400, 0};
+    fots_moment example = moment(december, 3, 24, -8);
+    example.time += UINT64_C(30000003500);
+    is_moment(fots_zoned_round(&angeles, example, hour, FOTS_HALF_CEIL), moment(december, 3, 0, -8), "to an hour");
+    is_moment(fots_zoned_round(&angeles, example, half, FOTS_HALF_CEIL), moment(december, 3, 30, -8), "to half an hour");
+    is_moment(fots_zoned_round(&angeles, example, half, FOTS_FLOOR), moment(december, 3, 0, -8), "down to half an hour");
+    is_moment(fots_zoned_round(&berlin, moment(skipping, 1, 50, 1), hour, FOTS_HALF_CEIL), moment(skipping, 3, 0, 2), "into a gap");
+    is_moment(fots_zoned_round(&berlin, moment(repeating, 2, 20, 1), half, FOTS_HALF_CEIL), moment(repeating, 2, 30, 1), "in the second half of a fold");
+    is_moment(fots_zoned_round(&berlin, moment(repeating, 2, 20, 2), half, FOTS_HALF_CEIL), moment(repeating, 2, 30, 2), "in the first half of a fold");
+    is_moment(fots_zoned_round(&berlin, moment(skipping, 12, 29, 2), whole, FOTS_HALF_CEIL), moment(skipping, 0, 0, 1), "before the middle of 23 hours");
+    is_moment(fots_zoned_round(&berlin, moment(skipping, 12, 30, 2), whole, FOTS_HALF_CEIL), moment(next, 0, 0, 2), "the middle of 23 hours");
+    is_moment(fots_zoned_round(&berlin, moment(skipping, 12, 30, 2), whole, FOTS_HALF_EVEN), moment(skipping, 0, 0, 1), "the middle of 23 hours, to the even one");
+    is_moment(fots_zoned_round(&berlin, moment(repeating, 11, 29, 1), whole, FOTS_HALF_CEIL), moment(repeating, 0, 0, 2), "before the middle of 25 hours");
+    is_moment(fots_zoned_round(&berlin, moment(repeating, 11, 30, 1), whole, FOTS_HALF_CEIL), moment(day(2024, 10, 28), 0, 0, 1), "the middle of 25 hours");
+    is_moment(fots_zoned_round(&azores, moment(skipping, 2, 0, 0), whole, FOTS_FLOOR), moment(skipping, 1, 0, 0), "to a midnight that is skipped");
+    is_not_moment(fots_zoned_round(&berlin, moment(none, 0, 0, 1), week, 5), FOTS_INVALID_MOMENT, "no moment, rounded");
+    is_not_moment(fots_zoned_round(&berlin, moment(skipping, 12, 0, 1), week, 5), FOTS_WRONG_OFFSET, "another offset, rounded");
+    is_not_moment(fots_zoned_round(&berlin, moment(skipping, 12, 0, 2), week, 5), FOTS_INVALID_ROUNDING_UNIT, "to a week");
+    is_not_moment(fots_zoned_round(&berlin, moment(skipping, 12, 0, 2), hour, 5), FOTS_INVALID_ROUNDING_MODE, "by no mode");
+    is_not_moment(fots_zoned_round(&berlin, moment(last, 23, 50, 1), hour, FOTS_CEIL), FOTS_RESULT_OUT_OF_RANGE, "past the range");
+    is_not_moment(fots_zoned_round(&berlin, moment(last, 0, 0, 1), whole, FOTS_FLOOR), FOTS_RESULT_OUT_OF_RANGE, "on the last day");
 }
 
 static void is_period(fots_exact_period_result found, fots_period wanted, const char *what)
@@ -664,6 +695,7 @@ int main(int count, char **arguments)
     equal_bytes();
     moves();
     moved_and_ends();
+    rounded();
     periods_between();
     zoned_periods();
     periods();

@@ -10,7 +10,7 @@ use std::path::{Path, PathBuf};
 use std::process::ExitCode;
 
 /// The libraries, as modules of the crate.
-const CRATES: [&str; 16] = [
+const CRATES: [&str; 17] = [
     "cal_units",
     "cal_span",
     "cal_clock",
@@ -20,6 +20,7 @@ const CRATES: [&str; 16] = [
     "cal_schedule",
     "cal_text",
     "cal_duration",
+    "cal_holidays",
     "cal_format",
     "cal_zone",
     "cal_tzif",

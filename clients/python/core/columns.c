@@ -26,6 +26,8 @@ typedef struct Columns {
     fots_format format;
     fots_zone zone;
     uint32_t policy;
+    fots_duration unit;
+    uint32_t mode;
 } Columns;
 
 /* A call. The columns that it reads and writes have the letters of the module array, and "W" if
@@ -136,18 +138,35 @@ static void put_columns(const Columns *columns, const ColumnCall *call)
     }
 }
 
+/* Converts a tuple of a unit and a mode of rounding. A unit that isn't one is an error of all rows, so
+ * it raises here. */
+static int to_unit_and_mode(const State *state, PyObject *tuple, fots_duration *unit, uint32_t *mode)
+{
+    PyObject *first, *second;
+    if (!PyArg_ParseTuple(tuple, "OO", &first, &second) || !to_duration(state, first, unit) ||
+        !to_member(state->rounding_mode, second, mode)) {
+        return 0;
+    }
+    int32_t status = fots_time_round(0, *unit, *mode).status;
+    if (status) {
+        raise_status(state, status);
+    }
+    return !status;
+}
+
 /* Converts the other argument of a call. */
 static int get_extra(Columns *columns, char extra, const State *state, PyObject *object)
 {
     columns->workdays = WORKDAYS(object);
     return extra == 'f' ? to_format(state, object, &columns->format) :
         extra == 'z' ? to_zone_and_policy(object, &columns->zone, &columns->policy) :
+        extra == 'u' ? to_unit_and_mode(state, object, &columns->unit, &columns->mode) :
         extra != 'w' || PyObject_TypeCheck(object, state->workdays) ||
             is_kind(object, state->workdays);
 }
 
-/* Takes the name of a call, a tuple of columns, and working days, a format, a zone or None. Returns
- * the number of rows without a result. */
+/* Takes the name of a call, a tuple of columns, and working days, a format, a zone, a unit or None.
+ * Returns the number of rows without a result. */
 static PyObject *core_over_columns(PyObject *self, PyObject *const *given, Py_ssize_t count)
 {
     const State *state = state_of_module(self);

@@ -15,6 +15,15 @@ def weekday_nth_prev(weekday: Weekday, n: Fits) -> Weekday: ...
 
 # ---- pairs, texts and Unix times
 
+def easter(year: Fits) -> Date:
+    """Returns Easter Sunday of a year, as western churches celebrate it, or raises ComponentRange.
+
+    >>> str(easter(2024)), str(julian_easter(2024))
+    ('2024-03-31', '2024-05-05')
+    """
+def julian_easter(year: Fits) -> Date:
+    """Returns Easter Sunday of a year of the Julian calendar, as orthodox churches celebrate it, or
+    raises ComponentRange."""
 def add_to_pair(date: Date, time: Time, duration: SignedDuration) -> tuple[Date, Time] | None:
     "Returns the date and time a duration later, or None out of range."
 def sub_from_pair(date: Date, time: Time, duration: SignedDuration) -> tuple[Date, Time] | None:
@@ -108,6 +117,8 @@ def zoned_nth_period(zone: _Zone, moment: OffsetDateTime, period: Period, n: Int
 def zoned_period_until(zone: _Zone, moment: OffsetDateTime, other: OffsetDateTime, unit: CalendarUnit,
                        policy: int) -> Period: ...
 def zoned_moved_to(zone: _Zone, moment: OffsetDateTime, date: Date, policy: int) -> OffsetDateTime: ...
+def zoned_round(zone: _Zone, moment: OffsetDateTime, unit: SignedDuration, mode: RoundingMode
+                ) -> OffsetDateTime: ...
 def zoned_start_of(zone: _Zone, moment: OffsetDateTime, unit: CalendarUnit) -> OffsetDateTime: ...
 def zoned_end_of(zone: _Zone, moment: OffsetDateTime, unit: CalendarUnit) -> OffsetDateTime: ...
 def zoned_start_of_day(zone: _Zone, date: Date) -> OffsetDateTime: ...
@@ -147,6 +158,10 @@ class InstantColumns:
 class NumberColumns: "Numbers in 32 bits; -2147483648 in a row without one."
 class MomentColumns:
     "Julian days in 32 bits, nanoseconds since midnight in 64, and seconds of offsets in 32."
+class TimeColumns: "Nanoseconds since midnight in 64 bits; 2**64 - 1 in a row without a time."
+class PairColumns: "Julian days in 32 bits, and nanoseconds since midnight in 64."
+class DurationColumns:
+    "Seconds in 64 bits, and nanoseconds in 32; -2**63 and -2147483648 in a row without a duration."
 class TextColumns:
     """The bytes of texts, one after another, and their bounds, one more than rows: a text is
     `texts[bounds[k]:bounds[k + 1]]`, and has no bytes in a row without one."""
@@ -188,6 +203,20 @@ dates_calendar_texts: TextColumns = """Returns the calendar dates of dates, one 
 moments_texts: TextColumns = """Returns the texts of RFC 3339, one after another.
 
 The times are nanoseconds since midnight, and the offsets seconds."""
+times_round: TimeColumns = """Rounds times of day, in nanoseconds since midnight, like `Time.round`.
+
+>>> tuple(times_round([32_850_000_000_000], SignedDuration(minutes=15), RoundingMode.HalfCeil))
+(array('Q', [33300000000000]), array('B', [0]), 0)
+"""
+pairs_round: PairColumns = "Rounds dates and times of day like `PlainDateTime.round`."
+durations_parse: DurationColumns = """Parses texts in a buffer of bytes like `SignedDuration.parse`.
+
+>>> tuple(durations_parse(b"PT1H30MPT0.5S", [0, 7, 13]))
+(array('q', [5400, 0]), array('i', [0, 500000000]), array('B', [0, 0]), 0)
+"""
+durations_texts: TextColumns = """Returns the texts of durations, one after another, like `str`.
+
+The durations are seconds and nanoseconds, which don't differ in sign."""
 dates_parse_format: DateColumns = "Parses texts in a buffer of bytes like `Date.strptime`."
 dates_format: TextColumns = """Returns the texts of dates by a format, one after another.
 

@@ -49,17 +49,19 @@ __all__ = [
 # A checker of types reads literals only; a test compares these names with calls.__all__.
 __all__ += [
     "Date", "Time", "UtcOffset", "SignedDuration", "Period", "PlainDateTime", "OffsetDateTime",
-    "days_in_month", "days_in_year_month", "is_leap_year", "days_in_year", "weeks_in_year",
+    "days_in_month", "days_in_year_month", "is_leap_year", "days_in_year", "weeks_in_year", "easter",
+    "julian_easter",
     "add_to_pair", "sub_from_pair", "rfc3339_text", "unix_text", "unix_duration", "unix_pair",
     "parse_rfc3339", "parse_unix", "CalendarUnit", "Convention", "DayCount", "Frequency", "LocalKind",
     "RoundingMode", "Policy", "DateColumns", "CalendarDateColumns", "OrdinalDateColumns", "IsoWeekDateColumns",
     "WeekdayColumns", "OffsetColumns", "InstantColumns", "NumberColumns", "MomentColumns",
-    "TextColumns", "dates_from_julian_days", "dates_from_calendar_dates",
+    "TimeColumns", "PairColumns", "DurationColumns", "TextColumns", "dates_from_julian_days", "dates_from_calendar_dates",
     "dates_from_ordinal_dates", "dates_from_iso_week_dates", "dates_to_calendar_dates",
     "dates_to_ordinal_dates", "dates_to_iso_week_dates", "dates_weekdays",
     "calendar_dates_to_iso_week_dates", "dates_add_days", "dates_add_months", "dates_add_workdays",
     "dates_workdays_between", "dates_parse", "moments_parse", "dates_calendar_texts",
-    "moments_texts", "dates_parse_format", "dates_format",
+    "moments_texts", "times_round", "pairs_round", "durations_parse", "durations_texts",
+    "dates_parse_format", "dates_format",
 ]
 
 # Errors and pickles name the package.

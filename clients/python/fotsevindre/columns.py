@@ -39,13 +39,13 @@ def _whole(values: Any, unit: str) -> Any:
     return found.view("int64")
 
 
-def _of_array(values: Any, code: str, unit: str) -> Any:
+def _of_array(values: Any, code: str, unit: str | None) -> Any:
     """Returns the numbers of an array of numpy, in one piece and in the bits of the code. C takes
     days of numpy in 64 bits."""
     letter = values.dtype.kind
     if letter == "M" and unit:
         values, code = _whole(values, unit), "q"
-    elif letter == "m" and code == "q":
+    elif letter == "m" and code == "q" and unit == "":
         values = _whole(values, "D")
     elif letter not in "iu":
         raise TypeError(f"expected a column of integers, not {values.dtype}")
@@ -59,9 +59,10 @@ def _number(value: Any) -> Any:
     return value.to_julian_day() if isinstance(value, Date) else value
 
 
-def _column(values: Any, code: str, unit: str) -> Any:
+def _column(values: Any, code: str, unit: str | None) -> Any:
     """Returns the numbers of a column, as C has them: the buffer itself if it has these bits in one
-    piece, else a copy. A column of dates has the unit "D", and one of times "s"."""
+    piece, else a copy. A column of dates has the unit "D", one of times "s", and parts of durations
+    have none."""
     if getattr(getattr(values, "dtype", None), "tz", None) is not None:
         raise ValueError("expected a column without a time zone; .dt.tz_localize(None) removes it")
     if hasattr(values, "to_numpy"):
@@ -168,8 +169,8 @@ def _days_later(dates: Any, days: Any) -> Any:
 
 def call(kind: Callable[..., _R], name: str, reads: str, writes: str,
          extra: Workdays | bytes | tuple[Any, ...] | None, **columns: Any) -> _R:
-    """Calls C for columns by their names, with numbers in these letters and working days, a format
-    or a zone, and makes the result."""
+    """Calls C for columns by their names, with numbers in these letters and working days, a format,
+    a zone or a unit, and makes the result."""
     later = _days_later(**columns) if name == "dates_add_days" else None
     if later is not None:
         return kind(later, sys.modules["numpy"].zeros(len(later), "uint8"), 0)
@@ -180,10 +181,11 @@ def call(kind: Callable[..., _R], name: str, reads: str, writes: str,
     if len(single) == len(columns):
         raise TypeError("expected a column; call a method of Date or Zone for one value")
     like, reads, writes = _Like(columns), reads.replace("W", "B"), writes.replace("W", "B")
-    found = {one: _column(columns[one], code, _UNITS.get(one, ""))
+    units = dict.fromkeys(columns) if name == "durations_texts" else _UNITS
+    found = {one: _column(columns[one], code, units.get(one, ""))
         for one, code in zip(columns, reads) if one == "bounds" or one not in single}
     rows = len(found["bounds"]) - 1 if "bounds" in found else len(next(iter(found.values())))
-    room = {"dates_calendar_texts": 13, "moments_texts": 38}.get(name, 0)
+    room = {"dates_calendar_texts": 13, "moments_texts": 38, "durations_texts": 36}.get(name, 0)
     if name == "dates_format" and isinstance(extra, bytes):
         # 15 bytes for each item, of which the number comes first.
         room = 15 * max(1, int.from_bytes(extra[:4], sys.byteorder))

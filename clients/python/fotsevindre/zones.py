@@ -18,7 +18,7 @@ from typing import TYPE_CHECKING, Any, SupportsIndex, overload
 from . import _core, calls
 from ._core import Date, IsoCalendarDate, OffsetDateTime, Period, PlainDateTime, SignedDuration
 from ._core import Time, UtcOffset
-from .choices import CalendarUnit, LocalKind, Policy
+from .choices import CalendarUnit, LocalKind, Policy, RoundingMode
 from .conversions import instant_of
 from .enums import Month, Weekday
 from .errors import ParseError, ZoneError, check
@@ -480,6 +480,12 @@ class ZonedDateTime:
         number = check(policy, Policy)
         return self._at(
             _core.zoned_moved_to(self.zone._zone, self._moment, date, number), self.zone)
+
+    def round(self, unit: SignedDuration, mode: RoundingMode = RoundingMode.HalfCeil) -> ZonedDateTime:
+        """Rounds to a multiple of a unit since the midnight of the date, by what the clocks show, like
+        `PlainDateTime.round`. The result keeps the offset if the clocks show it at this offset. To
+        24 hours it is the start of the day or of the next one."""
+        return self._at(_core.zoned_round(self.zone._zone, self._moment, unit, mode), self.zone)
 
     def start_of(self, unit: CalendarUnit) -> ZonedDateTime:
         """Returns the start of the day, ISO week, month, quarter or year."""

@@ -12,6 +12,7 @@ pub mod Schedules
 pub mod CheckedHolidays
 pub mod PrintedRows
 pub mod TextRows
+pub mod RoundedRows
 pub mod Unreads
 pub mod DurationErrors
 pub mod Recurring
@@ -26,6 +27,8 @@ pub mod OnePass
 pub mod IsoDates
 pub mod OneZone
 pub mod OneZoned
+pub mod OnePair
+pub mod OneRounded
 pub mod Stable
 pub mod FormatItems
 pub mod FormatPrinting

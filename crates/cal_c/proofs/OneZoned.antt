@@ -23,7 +23,7 @@ use Rattle.cal_zoned.specs.Until.{IsUntilInZone}
 use Rattle.cal_zoned.proofs.UnitEnds.{moved_to-one, next_start-one, start_of-one}
 use Rattle.cal_zoned.proofs.UntilInZone.{until_in_zone-one}
 use Rattle.cal_c.specs.Moments.{moment_ok}
-use Rattle.cal_c.proofs.Stable.{either, need-one, of_field, stable_n, stable_z, Stable}
+use Rattle.cal_c.proofs.Stable.{by_number-one, either, need-one, of_field, stable_n, stable_z, Stable}
 use Rattle.cal_c.specs.Periods.{exact_period_ok, parts_in, IsExactPeriodWith}
 use Rattle.cal_c.specs.Results.{duration_ok}
 use Rattle.cal_c.specs.Schedule.{unit_number}
@@ -39,7 +39,7 @@ use Rattle.cal_c.specs.declared.schedule.pair_periods.ExactPeriodResult.{ExactPe
 use Rattle.cal_c.specs.declared.schedule.periods.PeriodParts.{PeriodParts}
 
 -- ---- results are equal if they aren't unequal
-stable_moment : (r s : MomentResult) → Stable (r ≡ s)
+pub stable_moment : (r s : MomentResult) → Stable (r ≡ s)
 stable_moment r s never =
     let status = stable_z r.status s.status (of_field (λ (x : MomentResult). x.status) r s never) in
     let date = stable_z r.moment.date s.moment.date (of_field (λ (x : MomentResult). x.moment.date) r s never) in
@@ -47,7 +47,7 @@ stable_moment r s never =
     let time = stable_n r.moment.time s.moment.time (of_field (λ (x : MomentResult). x.moment.time) r s never) in
     λ i. record { status = status i; moment = record { date = date i; offset = offset i; time = time i } }
 
-stable_duration : (r s : DurationResult) → Stable (r ≡ s)
+pub stable_duration : (r s : DurationResult) → Stable (r ≡ s)
 stable_duration r s never =
     let status = stable_z r.status s.status (of_field (λ (x : DurationResult). x.status) r s never) in
     let seconds = stable_z r.duration.seconds s.duration.seconds (of_field (λ (x : DurationResult). x.duration.seconds) r s never) in
@@ -71,9 +71,6 @@ policy-known Earlier = refl
 policy-known Later = refl
 policy-known Reject = refl
 
-policy-one : (p q : Policy) (k : ℕ) → policy_number p ≡ k → policy_number q ≡ k → p ≡ q
-policy-one p q k e f = sym (policy-known p) ∙ ap policy_of (e ∙ sym f) ∙ policy-known q
-
 unit_of : ℕ → CalendarUnit
 unit_of n = if n == 1 then units.Day else if n == 2 then units.Week else if n == 3 then units.Month else if n == 4 then units.Quarter else units.Year
 
@@ -85,29 +82,26 @@ unit-known units.Month = refl
 unit-known units.Quarter = refl
 unit-known units.Year = refl
 
-unit-one : (u v : CalendarUnit) (k : ℕ) → unit_number u ≡ k → unit_number v ≡ k → u ≡ v
-unit-one u v k e f = sym (unit-known u) ∙ ap unit_of (e ∙ sym f) ∙ unit-known v
-
 by_policy-one : {R : Type 0} (k : ℕ) (Is : Policy → R → Type 0) (r s : R) → ((p : Policy) → Is p r → Is p s → r ≡ s) → (p : Policy) × (policy_number p ≡ k) × Is p r
     → (p : Policy) × (policy_number p ≡ k) × Is p s → r ≡ s
-by_policy-one k Is r s one (p, e, h) (q, f, i) = one q (subst (λ (x : Policy). Is x r) (policy-one p q k e f) h) i
+by_policy-one = by_number-one policy_number policy_of policy-known
 
-by_unit-one : {R : Type 0} (k : ℕ) (Is : CalendarUnit → R → Type 0) (r s : R) → ((u : CalendarUnit) → Is u r → Is u s → r ≡ s) → (u : CalendarUnit) × (unit_number u ≡ k) × Is u r
+pub by_unit-one : {R : Type 0} (k : ℕ) (Is : CalendarUnit → R → Type 0) (r s : R) → ((u : CalendarUnit) → Is u r → Is u s → r ≡ s) → (u : CalendarUnit) × (unit_number u ≡ k) × Is u r
     → (u : CalendarUnit) × (unit_number u ≡ k) × Is u s → r ≡ s
-by_unit-one k Is r s one (u, e, h) (v, f, i) = one v (subst (λ (x : CalendarUnit). Is x r) (unit-one u v k e f) h) i
+by_unit-one = by_number-one unit_number unit_of unit-known
 
 -- ---- results, through any function of a date-time in a zone or an error
 abbrev Its : Type 0
 Its = Result InZone LocalTimeError
 
-with-one : {R : Type 0} (Of : Its → R) (Is : Its → Type 0) (r s : R) → ((a b : Its) → Is a → Is b → a ≡ b) → (its : Its) × Is its × (r ≡ Of its) → (its : Its) × Is its × (s ≡ Of its) → r ≡ s
+pub with-one : {R : Type 0} (Of : Its → R) (Is : Its → Type 0) (r s : R) → ((a b : Its) → Is a → Is b → a ≡ b) → (its : Its) × Is its × (r ≡ Of its) → (its : Its) × Is its × (s ≡ Of its) → r ≡ s
 with-one Of Is r s one (a, h, e) (b, k, f) = e ∙ ap Of (one a b h k) ∙ sym f
 
 seen-one : {R : Type 0} (Of : Its → R) (z : Timeline) (i : ℤ) (a b : Its) (r s : R) → Stable (r ≡ s) → r ≡ Of a → s ≡ Of b → IsSeen z i a → IsSeen z i b → r ≡ s
 seen-one Of z i a b r s stable e f h k =
     either (IsDateTime (reading_at z i)) stable (λ is. e ∙ ap Of (h.value is ∙ sym (k.value is)) ∙ sym f) (λ out. e ∙ ap Of (h.error out ∙ sym (k.error out)) ∙ sym f)
 
-seen_with-one : {R : Type 0} (Of : Its → R) (z : Timeline) (i : ℤ) (r s : R) → Stable (r ≡ s) → (its : Its) × IsSeen z i its × (r ≡ Of its) → (its : Its) × IsSeen z i its × (s ≡ Of its) → r ≡ s
+seen_pub with-one : {R : Type 0} (Of : Its → R) (z : Timeline) (i : ℤ) (r s : R) → Stable (r ≡ s) → (its : Its) × IsSeen z i its × (r ≡ Of its) → (its : Its) × IsSeen z i its × (s ≡ Of its) → r ≡ s
 seen_with-one Of z i r s stable (a, h, e) (b, k, f) = seen-one Of z i a b r s stable e f h k
 
 moved_then-one : {R : Type 0} (Of : Its → R) (p : Policy) (z : Timeline) → InOrder z → (reading exact : ℤ) (a b : Its) (r s : R) → Stable (r ≡ s) → r ≡ Of a → s ≡ Of b
@@ -221,7 +215,7 @@ end_of-one z m unit r s =
     (by_unit-one unit (λ u. IsEndResult u (zoned_in z m)) r s (λ u. end_result-one u (zoned_in z m) r s))))
 
 -- ---- the period until a moment
-stable_period : (r s : ExactPeriodResult) → Stable (r ≡ s)
+pub stable_period : (r s : ExactPeriodResult) → Stable (r ≡ s)
 stable_period r s never =
     let status = stable_z r.status s.status (of_field (λ (x : ExactPeriodResult). x.status) r s never) in
     let years = stable_z r.period.years s.period.years (of_field (λ (x : ExactPeriodResult). x.period.years) r s never) in
@@ -235,7 +229,7 @@ stable_period r s never =
       period = record { years = years i; months = months i; weeks = weeks i; days = days i; duration = record { seconds = seconds i; nanoseconds = nanoseconds i } };
     }
 
-period_with-one : {Has : Parts → Type 0} (r s : ExactPeriodResult) → ((p q : Parts) → Has p → Has q → p ≡ q) → IsExactPeriodWith Has r → IsExactPeriodWith Has s → r ≡ s
+pub period_with-one : {Has : Parts → Type 0} (r s : ExactPeriodResult) → ((p q : Parts) → Has p → Has q → p ≡ q) → IsExactPeriodWith Has r → IsExactPeriodWith Has s → r ≡ s
 period_with-one r s one (p, h, e) (q, k, f) = e ∙ ap exact_period_ok (one p q h k) ∙ sym f
 
 pub until-one : (z : Timeline) → InOrder z → (m other : Moment) (unit policy : ℕ) (r s : ExactPeriodResult) → IsUntilInZoneResult z m other unit policy r → IsUntilInZoneResult z m other unit policy s

@@ -19,7 +19,7 @@ use Rattle.cal_c.specs.declared.texts.ParseMomentResult.{ParseMomentResult}
 abbrev pub IsByteOf : ℕ → ℤ → Type 0
 IsByteOf b s = IsByte s → pos b ≡ s
 
-a_byte : (b : ℕ) (s t : ℤ) → IsByteOf b s → s ≡ t → IsByte t → pos b ≡ t
+pub a_byte : (b : ℕ) (s t : ℤ) → IsByteOf b s → s ≡ t → IsByte t → pos b ≡ t
 a_byte b s t byte e is = byte (subst IsByte (sym e) is) ∙ e
 
 pub is_byte : (c : Component) → IsByte (component_status c)
@@ -42,7 +42,7 @@ is_byte Ordinal = (omega (arith, ints), omega (arith, ints))
 is_byte Week = (omega (arith, ints), omega (arith, ints))
 is_byte Weekday = (omega (arith, ints), omega (arith, ints))
 
-stop_byte : (IsText : List ℕ → Type 0) (bytes : List ℕ) (at : ℕ) (s : ℤ) → StopsAt IsText bytes at s → IsByte s
+pub stop_byte : (IsText : List ℕ → Type 0) (bytes : List ℕ) (at : ℕ) (s : ℤ) → StopsAt IsText bytes at s → IsByte s
 stop_byte IsText bytes at s stop = elim stop.status as (λ _. IsByte s) [
   | inl byte ↦ rw byte.0 (omega (arith, ints), omega (arith, ints))
   | inr end ↦ rw end.0 (omega (arith, ints), omega (arith, ints))

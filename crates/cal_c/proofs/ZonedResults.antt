@@ -15,7 +15,11 @@ use Rattle.cal_zoned.specs.Unchecked.{in_zone}
 use Rattle.cal_zoned.specs.Zoned.{InZone, IsSeen, at_instant, instant_in, reading_at, seen}
 use Rattle.cal_zoned.proofs.OneResult.{seen-is}
 use Rattle.cal_zoned.proofs.UnitEnds.{next_start-one}
+use Rattle.cal_time.specs.SignedDuration.{day}
+use Rattle.cal_rounding.specs.InZone.{IsRoundedByClock, IsRoundedToDay}
+use Rattle.cal_rounding.specs.declared.rounding_mode.RoundingMode.{RoundingMode}
 use Rattle.cal_c.specs.Moments.{moment_error, moment_ok}
+use Rattle.cal_c.specs.Rounding.{RoundsInZone}
 use Rattle.cal_c.specs.Results.{duration_ok, duration_or_out_of_range, int64_error}
 use Rattle.cal_c.specs.Values.{need◌else◌then◌}
 use Rattle.cal_c.specs.Zoned.{zoned_or_error, IsDayLengthResult, IsEndResult, IsLaterSeconds, IsSecondsAfter}
@@ -71,3 +75,9 @@ end_is unit m v d its r e start seen is = by_result its (seen_at v.zone _ _ its 
         let out : ¬ IsDateTime (reading_at v.zone (instant_in v -ℤ pos 1)) = λ inside. let same = seen.value inside in absurd cc in
         IsEndResult.none (λ s other inside. out (subst (λ (x : InZone). IsDateTime (reading_at x.zone (instant_in x -ℤ pos 1))) (next_start-one unit m s v other start) inside))
         (is ∙ ap zoned_or_error (seen.error out))
+
+-- a rounded date-time in a zone, by another unit and date-time that are the same
+pub rounds : (z : Timeline) (mode : RoundingMode) (u v : ℕ) (m l : LocalAndOffset) (r : Result InZone LocalTimeError) → m ≡ l → u ≡ v → (u ≡ day → IsRoundedToDay mode (in_zone z m) r)
+    → ((u ≡ day → ⊥) → IsRoundedByClock mode u (in_zone z m) r) → RoundsInZone mode v (in_zone z l) r
+rounds z mode u v m l r e f by_day by_clock =
+    subst (λ (x : LocalAndOffset). RoundsInZone mode v (in_zone z x) r) e (subst (λ (x : ℕ). RoundsInZone mode x (in_zone z m) r) f (record { day = by_day; clock = by_clock }))

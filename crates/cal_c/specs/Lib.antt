@@ -18,6 +18,8 @@ pub mod Periods
 pub mod Zoned
 pub mod DurationTexts
 pub mod Rounding
+pub mod DurationColumns
+pub mod Easter
 pub mod Formats
 pub mod FormatTexts
 pub mod FormatParsing

@@ -1,19 +1,27 @@
 -- Rounding for C: units, the numbers of modes, and results.
-use Rattle.std.specs.Prelude.{◌≡◌, ℕ, ◌≤◌, ℤ, pos, ◌<ℤ◌, Option, Some, None, unsigned_abs}
-use Rattle.cal_time.specs.SignedDuration.{IsDuration}
+use Rattle.std.specs.Prelude.{◌≡◌, ◌≢◌, ℕ, ◌≤◌, ℤ, pos, ◌<ℤ◌, Option, Some, None, Result, unsigned_abs}
+use Rattle.cal_time.specs.SignedDuration.{day, IsDuration}
+use Rattle.cal_time.specs.Time.{IsTime}
+use Rattle.cal_datetime.specs.DateTime.{date_time}
 use Rattle.cal_datetime.specs.OffsetDateTime.{LocalAndOffset}
+use Rattle.cal_zone.specs.Timeline.{Timeline}
+use Rattle.cal_zone.specs.declared.local_time_error.LocalTimeError.{LocalTimeError}
+use Rattle.cal_zoned.specs.Zoned.{InZone}
+use Rattle.cal_rounding.specs.InZone.{IsRoundedByClock, IsRoundedToDay}
 use Rattle.cal_rounding.specs.Rounding.{IsRoundedTime, IsRoundingUnit, RoundsTimeOf, RoundsWithin}
 use Rattle.cal_rounding.specs.declared.rounding_mode.RoundingMode.{RoundingMode}
 use Rattle.cal_rounding.specs.declared.rounding_mode.RoundingMode.TheVariants.{Floor, Ceil, Trunc, HalfCeil, HalfEven}
-use Rattle.cal_c.specs.Moments.{moment_error, moment_ok}
-use Rattle.cal_c.specs.Results.{duration_or_out_of_range, pair_at_local, pair_error, time_ok}
-use Rattle.cal_c.specs.Values.{nanoseconds_in, IsDurationPair}
+use Rattle.cal_c.specs.Moments.{local_and_offset_in, moment_error, moment_ok, IsMoment}
+use Rattle.cal_c.specs.Results.{duration_error, duration_or_out_of_range, pair_at_local, pair_error, time_error, time_ok}
+use Rattle.cal_c.specs.Values.{need◌else◌then◌, day_of, nanoseconds_in, IsDurationPair, IsJulianDay}
+use Rattle.cal_c.specs.Zoned.{zoned_in, IsInZone, IsZonedWith}
 use Rattle.cal_c.specs.declared.results.Duration.{Duration}
 use Rattle.cal_c.specs.declared.results.DurationResult.{DurationResult}
+use Rattle.cal_c.specs.declared.results.Moment.{Moment}
 use Rattle.cal_c.specs.declared.results.MomentResult.{MomentResult}
 use Rattle.cal_c.specs.declared.results.PairResult.{PairResult}
 use Rattle.cal_c.specs.declared.results.TimeResult.{TimeResult}
-use Rattle.cal_c.specs.declared.status.TheConstants.{RESULT_OUT_OF_RANGE}
+use Rattle.cal_c.specs.declared.status.TheConstants.{INVALID_DATE, INVALID_DURATION, INVALID_MOMENT, INVALID_ROUNDING_MODE, INVALID_ROUNDING_UNIT, INVALID_TIME, RESULT_OUT_OF_RANGE, WRONG_OFFSET}
 
 -- A duration above 0, and one that also divides a day.
 pub record IsPositiveDuration (d : Duration) : Type 0 where
@@ -60,3 +68,52 @@ IsRoundedMoment mode unit m r =
 -- The result with a rounded duration.
 abbrev pub IsRoundedDuration : RoundingMode → ℕ → ℤ → DurationResult → Type 0
 IsRoundedDuration mode unit v r = (its : Option ℤ) × RoundsWithin IsDuration mode unit v its × (r ≡ duration_or_out_of_range its)
+
+-- ---- calls, whose result is that of the first condition that fails, or else the last
+-- A time of day to a multiple of a unit.
+abbrev pub IsTimeRoundedTo : ℕ → Duration → ℕ → TimeResult → Type 0
+IsTimeRoundedTo time unit mode r =
+    need IsTime time else r ≡ time_error INVALID_TIME then
+    need IsUnitOfDay unit else r ≡ time_error INVALID_ROUNDING_UNIT then
+    need IsMode mode else r ≡ time_error INVALID_ROUNDING_MODE then
+    (its : RoundingMode) × (mode_number its ≡ mode) × IsRoundedTimeResult its (unsigned_abs (nanoseconds_in unit)) time r
+
+-- A date and a time of day.
+abbrev pub IsPairRoundedTo : ℤ → ℕ → Duration → ℕ → PairResult → Type 0
+IsPairRoundedTo date time unit mode r =
+    need IsJulianDay date else r ≡ pair_error INVALID_DATE then
+    need IsTime time else r ≡ pair_error INVALID_TIME then
+    need IsUnitOfDay unit else r ≡ pair_error INVALID_ROUNDING_UNIT then
+    need IsMode mode else r ≡ pair_error INVALID_ROUNDING_MODE then
+    (its : RoundingMode) × (mode_number its ≡ mode)
+    × IsRoundedPair its (unsigned_abs (nanoseconds_in unit)) (date_time (day_of date) time) r
+
+-- A moment.
+abbrev pub IsMomentRoundedTo : Moment → Duration → ℕ → MomentResult → Type 0
+IsMomentRoundedTo moment unit mode r =
+    need IsMoment moment else r ≡ moment_error INVALID_MOMENT then
+    need IsUnitOfDay unit else r ≡ moment_error INVALID_ROUNDING_UNIT then
+    need IsMode mode else r ≡ moment_error INVALID_ROUNDING_MODE then
+    (its : RoundingMode) × (mode_number its ≡ mode) × IsRoundedMoment its (unsigned_abs (nanoseconds_in unit)) (local_and_offset_in moment) r
+
+-- A duration to a multiple of a positive one.
+abbrev pub IsDurationRoundedTo : Duration → Duration → ℕ → DurationResult → Type 0
+IsDurationRoundedTo duration unit mode r =
+    need IsDurationPair duration else r ≡ duration_error INVALID_DURATION then
+    need IsPositiveDuration unit else r ≡ duration_error INVALID_ROUNDING_UNIT then
+    need IsMode mode else r ≡ duration_error INVALID_ROUNDING_MODE then
+    (its : RoundingMode) × (mode_number its ≡ mode) × IsRoundedDuration its (unsigned_abs (nanoseconds_in unit)) (nanoseconds_in duration) r
+
+-- A date-time in a zone, to a start of a day or by what the clocks show.
+pub record RoundsInZone (mode : RoundingMode) (unit : ℕ) (m : InZone) (r : Result InZone LocalTimeError) : Type 0 where
+  pub day : unit ≡ day → IsRoundedToDay mode m r
+  pub clock : unit ≢ day → IsRoundedByClock mode unit m r
+
+abbrev pub IsZonedRoundedTo : Timeline → Moment → Duration → ℕ → MomentResult → Type 0
+IsZonedRoundedTo z moment unit mode r =
+    need IsMoment moment else r ≡ moment_error INVALID_MOMENT then
+    need IsInZone z moment else r ≡ moment_error WRONG_OFFSET then
+    need IsUnitOfDay unit else r ≡ moment_error INVALID_ROUNDING_UNIT then
+    need IsMode mode else r ≡ moment_error INVALID_ROUNDING_MODE then
+    (its : RoundingMode) × (mode_number its ≡ mode)
+    × IsZonedWith (RoundsInZone its (unsigned_abs (nanoseconds_in unit)) (zoned_in z moment)) r

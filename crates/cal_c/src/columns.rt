@@ -27,6 +27,7 @@ mod checked_workdays;
 mod components;
 mod constructors;
 mod months;
+mod rounding;
 mod statuses;
 mod texts;
 mod zoned;

@@ -1,12 +1,9 @@
 //! Rounding to multiples of a unit. A unit is a duration, and a mode is a number.
 ghost use Rattle.std.specs.Prelude.{◌≡◌, pos, ◌<ℤ◌, MatchOption, SomeIff, unsigned_abs};
-ghost use Rattle.cal_time.specs.Time.{IsTime};
-ghost use Rattle.cal_datetime.specs.DateTime.{date_time};
-ghost use Rattle.cal_rounding.specs.declared.rounding_mode.RoundingMode.{RoundingMode};
-ghost use Rattle.cal_c.specs.Moments.{local_and_offset_in, moment_error, IsMoment};
-ghost use Rattle.cal_c.specs.Results.{duration_error, pair_error, time_error};
-ghost use Rattle.cal_c.specs.Rounding.{mode_number, IsMode, IsPositiveDuration, IsRoundedDuration, IsRoundedMoment, IsRoundedPair, IsRoundedTimeResult, IsUnitOfDay};
-ghost use Rattle.cal_c.specs.Values.{need◌else◌then◌, day_of, nanoseconds_in, IsDurationPair, IsJulianDay};
+ghost use Rattle.cal_c.specs.Rounding.{mode_number, IsDurationRoundedTo, IsMode, IsMomentRoundedTo, IsPairRoundedTo, IsPositiveDuration, IsRoundedDuration, IsRoundedMoment, IsRoundedPair, IsTimeRoundedTo, IsUnitOfDay};
+ghost use Rattle.cal_c.specs.Values.{nanoseconds_in};
+
+pub mod laws;
 
 use crate::moment::valid_moment;
 use crate::results::{Duration, DurationResult, Moment, MomentResult, PairResult, TimeResult};
@@ -61,11 +58,7 @@ fn positive_duration(duration: Duration) -> Option<SignedDuration>
 /// 15 minutes by 3 is 9:15.
 #[unsafe(no_mangle)]
 pub extern "C" fn fots_time_round(time: u64, unit: Duration, mode: u32) -> TimeResult
-    ensures { need IsTime time else result ≡ time_error INVALID_TIME then
-        need IsUnitOfDay unit else result ≡ time_error INVALID_ROUNDING_UNIT then
-        need IsMode mode else result ≡ time_error INVALID_ROUNDING_MODE then
-        (its : RoundingMode) × (mode_number its ≡ mode)
-        × IsRoundedTimeResult its (unsigned_abs (nanoseconds_in unit)) time result }
+    ensures { IsTimeRoundedTo time unit mode result }
 {
     let time = or_error!(TimeResult, valid_time(time), INVALID_TIME);
     let unit = or_error!(TimeResult, valid_rounding_unit(unit), INVALID_ROUNDING_UNIT);
@@ -77,13 +70,7 @@ pub extern "C" fn fots_time_round(time: u64, unit: Duration, mode: u32) -> TimeR
 /// Fails if the result is out of range. 2024-02-29 23:50 to an hour by 3 is 2024-03-01 0:00.
 #[unsafe(no_mangle)]
 pub extern "C" fn fots_pair_round(date: i32, time: u64, unit: Duration, mode: u32) -> PairResult
-    ensures { need IsJulianDay date else result ≡ pair_error INVALID_DATE then
-        need IsTime time else result ≡ pair_error INVALID_TIME then
-        need IsUnitOfDay unit else result ≡ pair_error INVALID_ROUNDING_UNIT then
-        need IsMode mode else result ≡ pair_error INVALID_ROUNDING_MODE then
-        (its : RoundingMode) × (mode_number its ≡ mode)
-        × IsRoundedPair its (unsigned_abs (nanoseconds_in unit))
-        (date_time (day_of date) time) result }
+    ensures { IsPairRoundedTo date time unit mode result }
 {
     let date = or_error!(PairResult, valid_date(date), INVALID_DATE);
     let time = or_error!(PairResult, valid_time(time), INVALID_TIME);
@@ -108,12 +95,7 @@ fn rounded_pair(local: PlainDateTime, unit: RoundingUnit, mode: RoundingMode) ->
 /// like it.
 #[unsafe(no_mangle)]
 pub extern "C" fn fots_moment_round(moment: Moment, unit: Duration, mode: u32) -> MomentResult
-    ensures { need IsMoment moment else result ≡ moment_error INVALID_MOMENT then
-        need IsUnitOfDay unit else result ≡ moment_error INVALID_ROUNDING_UNIT then
-        need IsMode mode else result ≡ moment_error INVALID_ROUNDING_MODE then
-        (its : RoundingMode) × (mode_number its ≡ mode)
-        × IsRoundedMoment its (unsigned_abs (nanoseconds_in unit))
-        (local_and_offset_in moment) result }
+    ensures { IsMomentRoundedTo moment unit mode result }
 {
     let moment = or_error!(MomentResult, valid_moment(moment), INVALID_MOMENT);
     let unit = or_error!(
@@ -146,12 +128,7 @@ pub extern "C" fn fots_duration_round(
     unit: Duration,
     mode: u32,
 ) -> DurationResult
-    ensures { need IsDurationPair duration else result ≡ duration_error INVALID_DURATION then
-        need IsPositiveDuration unit else result ≡ duration_error INVALID_ROUNDING_UNIT then
-        need IsMode mode else result ≡ duration_error INVALID_ROUNDING_MODE then
-        (its : RoundingMode) × (mode_number its ≡ mode)
-        × IsRoundedDuration its (unsigned_abs (nanoseconds_in unit))
-        (nanoseconds_in duration) result }
+    ensures { IsDurationRoundedTo duration unit mode result }
 {
     let duration = or_error!(DurationResult, valid_duration(duration), INVALID_DURATION);
     let unit = or_error!(

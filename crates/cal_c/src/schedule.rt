@@ -1,8 +1,9 @@
 //! Months and years, ends of periods, ranges of days, weekdays of months, day counts, working days,
-//! recurrences.
+//! recurrences, Easter.
 
 mod date_list;
 pub mod date_ranges;
+mod easter;
 pub mod laws;
 mod months;
 pub mod pair_periods;

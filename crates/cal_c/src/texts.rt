@@ -10,7 +10,7 @@ use cal_text::ParseError;
 use cal_time::Date;
 
 pub mod date_times;
-mod durations;
+pub mod durations;
 mod formatting;
 pub mod parsing;
 

@@ -13,5 +13,6 @@ pub mod policy;
 mod printing;
 mod resolution;
 pub mod results;
+mod rounding;
 mod until;
 mod zoned;

@@ -1,9 +1,14 @@
-//! Laws: the clauses of the calls for ranges allow only one result.
-ghost use Rattle.std.specs.Prelude.{◌≡◌, ℤ};
+//! Laws: the clauses of the calls for ranges, and for periods of a date and a time, allow only one
+//! result.
+ghost use Rattle.std.specs.Prelude.{◌≡◌, ℕ, ℤ};
+ghost use Rattle.cal_schedule.specs.Period.{Parts};
 ghost use Rattle.cal_schedule.specs.Ranges.{HasCommonDay, IsIn};
 ghost use Rattle.cal_c.specs.DateRanges.{range_in, IsYesNo};
+ghost use Rattle.cal_c.specs.Periods.{IsPairAfter, IsPeriodUntilResult, IsStepOfPair};
 ghost use Rattle.cal_c.specs.Values.{day_of};
 ghost use Rattle.cal_c.specs.declared.results.NumberResult.{NumberResult};
+ghost use Rattle.cal_c.specs.declared.results.PairResult.{PairResult};
+ghost use Rattle.cal_c.specs.declared.schedule.pair_periods.ExactPeriodResult.{ExactPeriodResult};
 ghost use Rattle.cal_c.specs.declared.schedule.date_ranges.DateRangeParts.{DateRangeParts};
 
 /// States that a date is in a range or not, and that two ranges overlap or not.
@@ -14,4 +19,16 @@ pub fn one_range_answer()
     ensures overlaps { (range other : DateRangeParts) (r s : NumberResult)
         → IsYesNo (HasCommonDay (range_in range) (range_in other)) r
         → IsYesNo (HasCommonDay (range_in range) (range_in other)) s → r ≡ s }
+{}
+
+/// States that a period after a date and a time, their step and the period until them have one
+/// result each.
+pub fn one_pair_result()
+    ensures after { (from : ℤ) (period : Parts) (n : ℤ) (r s : PairResult)
+        → IsPairAfter from period n r → IsPairAfter from period n s → r ≡ s }
+    ensures step { (start : ℤ) (period : Parts) (date : ℤ) (time : ℕ) (r s : NumberResult)
+        → IsStepOfPair start period date time r → IsStepOfPair start period date time s → r ≡ s }
+    ensures period_until { (from date : ℤ) (time unit : ℕ) (r s : ExactPeriodResult)
+        → IsPeriodUntilResult from date time unit r
+        → IsPeriodUntilResult from date time unit s → r ≡ s }
 {}

@@ -1,6 +1,7 @@
 //! Laws: the clauses of the calls for zones allow only one result.
 ghost use Rattle.std.specs.Prelude.{◌≡◌, ℕ, ℤ};
 ghost use Rattle.cal_schedule.specs.Period.{Parts};
+ghost use Rattle.cal_c.specs.Rounding.{IsZonedRoundedTo};
 ghost use Rattle.cal_c.specs.ZoneColumns.{IsInstantByPolicy};
 ghost use Rattle.cal_c.specs.Zoned.{IsDurationEarlier, IsDurationLater, IsEndOfUnit, IsFromLocal, IsLaterSeconds, IsLengthOfDate, IsMovedToDate, IsNthPeriodResult, IsPeriodLaterResult, IsStartOfDate, IsStartOfUnit, IsStartSeconds, IsUntilInZoneResult, IsWithLocal, IsZonedAt};
 ghost use Rattle.cal_c.specs.Zones.{zone_in, IsChecked, IsMomentByPolicy, IsNextResult, IsPreviousResult, IsResolved};
@@ -69,6 +70,9 @@ pub fn one_zoned_result(zone: &CheckedZone<'_>)
     ensures end_of { (m : Moment) (unit : ℕ) (r s : MomentResult)
         → IsEndOfUnit (zone_in zone.now) m unit r
         → IsEndOfUnit (zone_in zone.now) m unit s → r ≡ s }
+    ensures rounded { (m : Moment) (unit : Duration) (mode : ℕ) (r s : MomentResult)
+        → IsZonedRoundedTo (zone_in zone.now) m unit mode r
+        → IsZonedRoundedTo (zone_in zone.now) m unit mode s → r ≡ s }
 {}
 
 /// States that a struct of a checked zone has one start and one length of each day, and one result

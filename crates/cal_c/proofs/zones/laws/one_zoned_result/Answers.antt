@@ -1,5 +1,6 @@
 use Rattle.cal_c.specs.Zones.{zone_in}
 use Rattle.cal_c.proofs.OneZoned.{at-one, earlier-one, end_of-one, from_local-one, later-one, moved_to_date-one, nth_later-one, period_later-one, start_of-one_moment, until-one, with_local-one}
+use Rattle.cal_c.proofs.OneRounded.{zoned_rounded-one}
 use Rattle.cal_c.proofs.zones.laws.one_zoned_result.Goals as goal
 
 pub returns : goal.returns
@@ -18,4 +19,5 @@ returns c =
       period_until = until-one z order;
       start_of = start_of-one_moment z;
       end_of = end_of-one z;
+      rounded = zoned_rounded-one z order;
     }

@@ -1,0 +1,14 @@
+use Rattle.std.proofs.Common.{rules, FitsSigned, w32}
+use Rattle.std.proofs.lemmas.Int.{to_z-of_z}
+use Rattle.cal_c.proofs.RoundedRows.{pair_rounded}
+use Rattle.cal_c.proofs.TextRows.{IsByteOf}
+use Rattle.cal_c.proofs.columns.rounding.rounded_pair.Goals as goal
+
+pub returns : goal.returns
+returns c =
+    let r = c.fots_pair_round-rounded.result in
+    let given = c.ranges.date in
+    let status : FitsSigned w32 r.status = search rules in
+    let fits : FitsSigned w32 r.date = search rules in
+    let byte : IsByteOf c.byte_status.result r.status = simp to_z-of_z at c.byte_status.ensures in
+    pair_rounded c.args.date c.args.time c.args.unit c.args.mode r c.byte_status.result fits byte (simp to_z-of_z at c.fots_pair_round-rounded.ensures)
