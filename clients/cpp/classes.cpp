@@ -49,6 +49,8 @@ template <class Call> void has_no_room(Call call, const char *what)
 void dates()
 {
     const Date day = Date::from_calendar_date(2024, Month::February, 29);
+    check(Date::easter(2024) == Date::parse("2024-03-31") && Date::julian_easter(2024) == Date::parse("2024-05-05"), "Easter");
+    throws([] { Date::easter(1000000); }, FOTS_YEAR_OUT_OF_RANGE, "year was not in range", "Easter after the range");
     check(day == Date::from_ordinal_date(2024, 60) && day == Date::from_iso_week_date(2024, 9, Weekday::Thursday), "made thrice");
     check(day == Date::from_julian_day(2460370) && day == Date::parse("2024-W09-4") && day == Date(day.c()), "the same day");
     check(day < Date::max() && day > Date::min() && day <= day && day >= day && !(day != day), "the order of dates");
@@ -426,6 +428,38 @@ void rounding()
     check(local.assume_utc().round(Duration::hours(24), RoundingMode::Ceil).date() == Date::parse("1995-12-08"), "a date-time at an offset");
     check(Duration::seconds(-90).round(Duration::minutes(1), RoundingMode::HalfEven) == Duration::minutes(-2), "a duration");
     throws([&] { time.round(Duration::minutes(7), RoundingMode::Ceil); }, FOTS_INVALID_ROUNDING_UNIT, "invalid rounding unit", "7 minutes");
+    const Zone angeles = Zone::from_posix("PST8PDT,M4.1.0,M10.5.0"), berlin = Zone::from_posix("CET-1CEST,M3.5.0,M10.5.0/3");
+    const ZonedDateTime zoned = ZonedDateTime::from_local(local, angeles);
+    check(zoned.round(Duration::hours(1), RoundingMode::HalfCeil).local().time() == Time::from_hms(3, 0, 0), "in a zone to an hour");
+    check(zoned.round(Duration::minutes(30), RoundingMode::HalfCeil).local().time() == Time::from_hms(3, 30, 0), "in a zone to half an hour");
+    const ZonedDateTime half = ZonedDateTime::from_local({Date::parse("2024-03-31"), Time::from_hms(12, 30, 0)}, berlin);
+    check(half.round(Duration::hours(24), RoundingMode::HalfCeil) == berlin.start_of_day(Date::parse("2024-04-01")), "half of a day of 23 hours");
+    throws([&] { half.round(Duration::hours(48), RoundingMode::Ceil); }, FOTS_INVALID_ROUNDING_UNIT, "invalid rounding unit", "two days");
+}
+
+// Rows as for the single calls, no rows, and columns of other lengths.
+void columns()
+{
+    const std::uint64_t time = Time::from_hms_nano(19, 39, 9, 68346205).c();
+    const TimeColumn times = round_times({time, FOTS_NO_TIME}, Duration::minutes(30), RoundingMode::HalfCeil);
+    check(times.times[0] == Time::from_hms(19, 30, 0).c() && times.statuses[1] == FOTS_INVALID_TIME && times.errors == 1, "rounded times");
+    const PairColumn pairs = round_pairs({Date::parse("2024-02-29").to_julian_day()}, {Time::from_hms(23, 50, 0).c()}, Duration::hours(1), RoundingMode::HalfCeil);
+    check(pairs.dates[0] == Date::parse("2024-03-01").to_julian_day() && pairs.times[0] == 0 && pairs.errors == 0, "rounded dates and times");
+    const DurationColumn durations = parse_durations("PT2H30M-PT90MP1D", {0, 7, 13, 16});
+    check(durations.seconds[0] == 9000 && durations.seconds[1] == -5400 && durations.statuses[2] == FOTS_UNEXPECTED_BYTE && durations.errors == 1, "parsed durations");
+    const TextColumn texts = duration_texts(durations.seconds, durations.nanoseconds);
+    check(texts.bytes == "PT2H30M-PT1H30M" && texts.bounds == std::vector<std::int32_t>{0, 7, 15, 15} && texts.errors == 1, "texts of durations");
+    check(round_times({}, Duration::hours(1), RoundingMode::Ceil).errors == 0 && parse_durations("", {}).seconds.empty(), "no rows");
+    check(round_pairs({}, {}, Duration::hours(1), RoundingMode::Ceil).errors == 0 && duration_texts({}, {}).bounds.size() == 1, "no rows, either");
+    for (const bool is_text : {false, true}) {
+        bool is_thrown = false;
+        try {
+            is_text ? static_cast<void>(duration_texts({}, {1})) : static_cast<void>(round_pairs({1}, {}, Duration::hours(1), RoundingMode::Ceil));
+        } catch (const std::invalid_argument &) {
+            is_thrown = true;
+        }
+        check(is_thrown, "columns of other lengths");
+    }
 }
 
 // The current time is between two readings of another clock of the system.
@@ -600,6 +634,7 @@ int main()
     zoned();
     current_time();
     rounding();
+    columns();
     periods();
     named_zones();
     times_of_day();

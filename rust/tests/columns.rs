@@ -1,9 +1,11 @@
 //! Columns: worked rows, each row against the call of one value, and columns that are not of one length.
 
 use fotsevindre::columns::{self, RowError, row_error};
-use fotsevindre::error::ComponentRange;
+use fotsevindre::error::{ComponentRange, DurationComponent};
 use fotsevindre::format::ParseError;
-use fotsevindre::{Date, Format, Month, Weekday, Workdays};
+use fotsevindre::{
+    Date, Format, Month, PlainDateTime, RoundingMode, RoundingUnit, SignedDuration as Duration, Time, Weekday, Workdays,
+};
 use std::panic::catch_unwind;
 
 const ROWS: usize = 20_000;
@@ -307,6 +309,64 @@ fn texts_of_moments() {
         row_errors,
         [RowError::InvalidTime, RowError::InvalidOffset, RowError::ResultOutOfRange, RowError::InvalidDate].map(Some)
     );
+}
+
+#[test]
+fn texts_of_durations() {
+    let text = b"PT2H30M-PT90MP1DPT0,5SPT9223372036854775808S";
+    let bounds = [0, 7, 13, 16, 22, 44, 45];
+    let (mut seconds, mut nanoseconds, mut statuses) = ([0; 6], [0; 6], [0; 6]);
+    assert_eq!(columns::durations_parse(text, &bounds, &mut seconds, &mut nanoseconds, &mut statuses), 3);
+    assert_eq!((seconds, nanoseconds[3]), ([9000, -5400, i64::MIN, 0, i64::MIN, i64::MIN], 500_000_000));
+    let row_errors = [2, 4, 5].map(|row| row_error(statuses[row]));
+    let seconds_out = RowError::DurationOutOfRange(DurationComponent::Seconds);
+    assert_eq!(row_errors, [RowError::UnexpectedByte, seconds_out, RowError::InvalidBounds].map(Some));
+    for (text, component) in [("PT2562047788015216H", DurationComponent::Hours), ("PT153722867280912931M", DurationComponent::Minutes)] {
+        let bounds = [0, text.len() as i32];
+        columns::durations_parse(text.as_bytes(), &bounds, &mut [0], &mut [0], &mut statuses[..1]);
+        assert_eq!(row_error(statuses[0]), Some(RowError::DurationOutOfRange(component)));
+    }
+    let (mut bytes, mut bounds) = ([0; 6 * columns::MAX_DURATION_LENGTH], [0; 7]);
+    assert_eq!(columns::durations_texts(&seconds, &nanoseconds, &mut bytes, &mut bounds, &mut statuses), 3);
+    assert_eq!((&bytes[..21], bounds), (&b"PT2H30M-PT1H30MPT0.5S"[..], [0, 7, 15, 15, 21, 21, 21]));
+    assert_eq!(row_error(statuses[2]), Some(RowError::InvalidDuration));
+}
+
+/// Rounded rows are the results for one value, and the ends of the range.
+#[test]
+fn rounded() {
+    let unit = RoundingUnit::new(Duration::minutes(15)).unwrap();
+    let times = column(11, 0, 86_400_000_000_000, |number| number as u64);
+    let dates = column(12, -363_600_000, 367_000_000, |number| number as i32);
+    for mode in [RoundingMode::Floor, RoundingMode::Ceil, RoundingMode::Trunc, RoundingMode::HalfCeil, RoundingMode::HalfEven] {
+        let (mut rounded, mut statuses) = (vec![0; ROWS], vec![0; ROWS]);
+        columns::times_round(&times, unit, mode, &mut rounded, &mut statuses);
+        for row in 0..ROWS {
+            let past = i64::try_from(times[row]).ok().filter(|time| *time < 86_400_000_000_000);
+            let wanted = past.map(|past| (Time::MIDNIGHT + Duration::nanoseconds(past)).round(unit, mode));
+            let found = (rounded[row] != u64::MAX).then(|| Time::MIDNIGHT + Duration::nanoseconds(rounded[row] as i64));
+            assert_eq!((found, statuses[row] == 0), (wanted, wanted.is_some()), "{}", times[row]);
+        }
+        let (mut days, mut pair_statuses) = (vec![0; ROWS], vec![0; ROWS]);
+        columns::pairs_round(&dates, &times, unit, mode, &mut days, &mut rounded, &mut pair_statuses);
+        for row in 0..ROWS {
+            let date = Date::from_julian_day(dates[row]);
+            let past = i64::try_from(times[row]).ok().filter(|time| *time < 86_400_000_000_000);
+            let wanted = match (date, past) {
+                (Err(_), _) => Err(RowError::InvalidDate),
+                (_, None) => Err(RowError::InvalidTime),
+                (Ok(date), Some(past)) => {
+                    let local = PlainDateTime::new(date, Time::MIDNIGHT + Duration::nanoseconds(past));
+                    local.round(unit, mode).ok_or(RowError::ResultOutOfRange)
+                }
+            };
+            let found = row_error(pair_statuses[row]).map_or_else(
+                || Ok(PlainDateTime::new(Date::from_julian_day(days[row]).unwrap(), Time::MIDNIGHT + Duration::nanoseconds(rounded[row] as i64))),
+                Err,
+            );
+            assert_eq!(found, wanted, "{} {}", dates[row], times[row]);
+        }
+    }
 }
 
 /// Each row by a format is the result for one date. The formats are parsed and printed in one step, or by their items.

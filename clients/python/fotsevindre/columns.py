@@ -181,8 +181,8 @@ def call(kind: Callable[..., _R], name: str, reads: str, writes: str,
     if len(single) == len(columns):
         raise TypeError("expected a column; call a method of Date or Zone for one value")
     like, reads, writes = _Like(columns), reads.replace("W", "B"), writes.replace("W", "B")
-    units = dict.fromkeys(columns) if name == "durations_texts" else _UNITS
-    found = {one: _column(columns[one], code, units.get(one, ""))
+    has_units = name != "durations_texts"
+    found = {one: _column(columns[one], code, _UNITS.get(one, "") if has_units else None)
         for one, code in zip(columns, reads) if one == "bounds" or one not in single}
     rows = len(found["bounds"]) - 1 if "bounds" in found else len(next(iter(found.values())))
     room = {"dates_calendar_texts": 13, "moments_texts": 38, "durations_texts": 36}.get(name, 0)

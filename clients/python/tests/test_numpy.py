@@ -63,6 +63,24 @@ class Numpy(unittest.TestCase):
                 self.assertEqual((list(found.statuses), found.error_count), (list(wanted.statuses), wanted.error_count))
                 self.assertEqual((found.statuses.dtype, found.dates.dtype), ("uint8", "datetime64[D]"))
 
+    def test_durations_and_rounding(self):
+        seconds = numpy.arange(-200_000, 200_000, 7919)
+        texts = fotsevindre.durations_texts(seconds, numpy.zeros(len(seconds), dtype="int32"))
+        read = fotsevindre.durations_parse(texts.texts, texts.bounds)
+        self.assertEqual((texts.error_count, read.error_count, read.seconds.dtype, read.nanoseconds.dtype), (0, 0, "int64", "int32"))
+        self.assertTrue((read.seconds == seconds).all() and not read.nanoseconds.any())
+        for wrong in (seconds.astype("timedelta64[s]"), seconds.astype("datetime64[s]")):
+            self.assertRaisesRegex(TypeError, "expected a column of integers", fotsevindre.durations_texts, wrong, 0)
+        self.assertRaisesRegex(TypeError, "expected a column of integers", Zone.from_posix("<+01>-1").offsets, seconds.astype("timedelta64[s]"))
+        minute = 60 * 10**9
+        times = numpy.arange(0, 24 * 60 * minute, 13 * minute, dtype="uint64")
+        unit, down = fotsevindre.SignedDuration(minutes=15), fotsevindre.RoundingMode.Floor
+        found = fotsevindre.times_round(times, unit, down)
+        self.assertTrue((found.times == times // (15 * minute) * (15 * minute)).all())
+        days = numpy.full(len(times), "2024-02-29", dtype="datetime64[D]")
+        late = fotsevindre.pairs_round(days, times, fotsevindre.SignedDuration.DAY, fotsevindre.RoundingMode.Ceil)
+        self.assertEqual((late.dates.dtype, str(late.dates[0]), str(late.dates[1]), late.times.any()), ("datetime64[D]", "2024-02-29", "2024-03-01", False))
+
     def test_what_is_in_a_rule(self):
         day = Date(2024, 2, 29)
         for container in (day.iter_to(day), Rule(day, Frequency.Daily)):

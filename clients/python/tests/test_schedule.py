@@ -18,7 +18,7 @@ except ImportError:
 
 from fotsevindre import (
     CalendarUnit, ComponentRange, Convention, Date, DateRange, DayCount, Frequency, Month, OffsetDateTime, ParseError, ParseRuleError, ParseRuleErrorKind, Period, PlainDateTime, Recurrence,
-    Rule, SignedDuration, Steps, Time, Weekday, Workdays, Zone)
+    Rule, SignedDuration, Steps, Time, Weekday, Workdays, Zone, easter, julian_easter)
 
 
 def day(year, month, day_of_month):
@@ -222,6 +222,18 @@ class Months(unittest.TestCase):
         self.assertEqual((leap.first_of_year(), leap.last_of_year()), (day(2024, 1, 1), day(2024, 12, 31)))
         self.assertEqual((day(2021, 1, 1).first_of_iso_week(), day(2021, 1, 1).last_of_iso_week()), (day(2020, 12, 28), day(2021, 1, 3)))
         self.assertIsNone(Date.MAX.last_of_iso_week())
+
+    def test_easter(self):
+        """Published dates: in 1954 and 2049 an exception makes it a week earlier."""
+        rows = [(1583, "04-10", "04-10"), (1943, "04-25", "04-25"), (1954, "04-18", "04-25"), (2000, "04-23", "04-30"), (2024, "03-31", "05-05"), (2049, "04-18", "04-25"), (4099, "04-19", "05-03")]
+        for year, western, orthodox in rows:
+            self.assertEqual((str(easter(year)), str(julian_easter(year))), (f"{year}-{western}", f"{year}-{orthodox}"))
+        for call, year in ((easter, 10**6), (easter, -10**6), (julian_easter, 999_999), (julian_easter, -2**31)):
+            with self.assertRaises(ComponentRange) as refused:
+                call(year)
+            self.assertEqual((refused.exception.name, refused.exception.is_conditional), ("year", False))
+        self.assertRaises(OverflowError, easter, 2**31)
+        self.assertRaises(TypeError, easter, Date(2024, 1, 1))
 
     def test_weekdays(self):
         self.assertEqual(Date.nth_weekday_of_month(2024, Month.November, Weekday.Thursday, 4), day(2024, 11, 28))

@@ -52,8 +52,8 @@ starts: Tuple[ZonedDateTime, SignedDuration, datetime.datetime] = (zone.start_of
 moved: Tuple[Date, PlainDateTime, Optional[Date], Date] = (
     day + Period(months=1), local + Period(duration=no_time), day.checked_add_period(Period(days=-1)), day.nth_period(Period(weeks=2), 3))
 period: Period = day.period_until(last)
-rounded: Tuple[Time, PlainDateTime, OffsetDateTime, SignedDuration] = (
-    Time.MAX.round(SignedDuration.HOUR), local.round(SignedDuration.HOUR, RoundingMode.Floor), moment.round(SignedDuration.HOUR), no_time.round(SignedDuration.HOUR))
+rounded: Tuple[Time, PlainDateTime, OffsetDateTime, ZonedDateTime, SignedDuration] = (
+    Time.MAX.round(SignedDuration.HOUR), local.round(SignedDuration.HOUR, RoundingMode.Floor), moment.round(SignedDuration.HOUR), in_zone.round(SignedDuration.HOUR, RoundingMode.Ceil), no_time.round(SignedDuration.HOUR))
 by_iso: Tuple[SignedDuration, Period, str] = (SignedDuration.parse("PT1H"), Period.fromisoformat("P1D"), period.isoformat())
 steps: List[Date] = [date for date in Steps(day, period)]
 of_steps: Tuple[PlainDateTime, Optional[int], Period] = (local.nth_period(period, 2), local.step_of(period, local), local.period_until_by(local, CalendarUnit.Day))
@@ -117,6 +117,7 @@ moment.in_zone("Europe/Berlin")  # refused
 moment - Period(days=1)  # refused
 local.round(1)  # refused
 local.round(no_time, 0)  # refused
+in_zone.round(3600)  # refused
 Steps(moment, period)  # refused
 Time(1, 2, 3, 4)  # refused
 PlainDateTime(2024, 2)  # refused

@@ -918,6 +918,27 @@ class Columns(Cases):
         with self.assertRaises(ValueError):
             fotsevindre.moments_texts(read.dates, read.times, read.offsets[:2])
 
+    def test_durations(self):
+        """Rows as for single durations, of which `datetime` has the same texts in parts."""
+        read = fotsevindre.durations_parse(*self.bounds_of(["PT2H30M", "-PT90M", "P1D", "PT0,5S", "PT9223372036854775808S", "PT"]))
+        self.assertEqual((list(read.seconds), list(read.nanoseconds)), ([9000, -5400, -2**63, 0, -2**63, -2**63], [0, 0, -2**31, 500_000_000, -2**31, -2**31]))
+        self.assertEqual((list(read.statuses), read.error_count), ([0, 0, 8, 0, 28, 31], 3))
+        printed = fotsevindre.durations_texts(read.seconds, read.nanoseconds)
+        self.assertEqual((printed.texts, list(printed.bounds), printed.error_count), (b"PT2H30M-PT1H30MPT0.5S", [0, 7, 15, 15, 21, 21, 21], 3))
+        self.assertEqual(fotsevindre.durations_texts([60, 3600], 0).texts, b"PT1MPT1H")
+        self.assertRaises(ValueError, fotsevindre.durations_texts, read.seconds, [0])
+
+    def test_rounded(self):
+        quarter, mode = SignedDuration(minutes=15), fotsevindre.RoundingMode.HalfCeil
+        # 9:07:30, which is in the middle, no time, and 23:59.
+        found = fotsevindre.times_round([32_850_000_000_000, 2**64 - 1, 86_340_000_000_000], quarter, mode)
+        self.assertEqual((list(found.times), list(found.statuses), found.error_count), ([33_300_000_000_000, 2**64 - 1, 0], [0, 3, 0], 1))
+        days = [Date(2024, 2, 29), Date.MAX]
+        found = fotsevindre.pairs_round(days, 86_340_000_000_000, quarter, mode)
+        self.assertEqual((list(found.dates), list(found.times), list(found.statuses)), ([2460371, -2**31], [0, 2**64 - 1], [0, 1]))
+        for unit, mode, error in ((SignedDuration(minutes=7), mode, ValueError), (15, mode, TypeError), (quarter, 3, TypeError)):
+            self.assertRaises(error, fotsevindre.times_round, [0], unit, mode)
+
     def test_columns_chain(self):
         """What one call writes is taken by the next one as it lies, and a refused row is refused again."""
         made = fotsevindre.dates_from_calendar_dates(*self.CALENDAR)

@@ -11,7 +11,7 @@ import random
 import unittest
 import zoneinfo
 
-from fotsevindre import CalendarUnit, Date, OffsetDateTime, Period, PlainDateTime, Policy, SignedDuration, Steps, Time, UtcOffset, Weekday, Zone, ZonedDateTime
+from fotsevindre import CalendarUnit, Date, OffsetDateTime, Period, PlainDateTime, Policy, RoundingMode, SignedDuration, Steps, Time, UtcOffset, Weekday, Zone, ZonedDateTime
 from fotsevindre import zones
 
 UTC = datetime.timezone.utc
@@ -105,6 +105,28 @@ class WorkedRows(unittest.TestCase):
             noon = of(f"{day}T12:00", key)
             if noon.date() == date:
                 self.assertEqual((noon.start_of_day(), noon.day_length()), (found, zone.day_length(date)))
+
+    def test_rounding(self):
+        """The examples of the documentation of Temporal, and days of 23 and 25 hours by a count."""
+        hour, half, day = SignedDuration.HOUR, SignedDuration(minutes=30), SignedDuration.DAY
+        for text, key, unit, mode, wanted in (
+            ("1995-12-07T03:24:30.0000035", "America/Los_Angeles", hour, RoundingMode.HalfCeil, "1995-12-07T03:00:00-08:00"),
+            ("1995-12-07T03:24:30.0000035", "America/Los_Angeles", half, RoundingMode.HalfCeil, "1995-12-07T03:30:00-08:00"),
+            ("1995-12-07T03:24:30.0000035", "America/Los_Angeles", half, RoundingMode.Floor, "1995-12-07T03:00:00-08:00"),
+            ("2024-03-31T01:50", "Europe/Berlin", hour, RoundingMode.HalfCeil, "2024-03-31T03:00:00+02:00"),
+            ("2024-03-31T12:29", "Europe/Berlin", day, RoundingMode.HalfCeil, "2024-03-31T00:00:00+01:00"),
+            ("2024-03-31T12:30", "Europe/Berlin", day, RoundingMode.HalfCeil, "2024-04-01T00:00:00+02:00"),
+            ("2024-10-27T11:29", "Europe/Berlin", day, RoundingMode.HalfCeil, "2024-10-27T00:00:00+02:00"),
+            ("2024-10-27T11:30", "Europe/Berlin", day, RoundingMode.HalfCeil, "2024-10-28T00:00:00+01:00"),
+        ):
+            self.assertEqual(str(of(text, key).round(unit, mode)), wanted, (text, mode))
+        noon = of("2024-03-31T12:30", "Europe/Berlin")
+        self.assertEqual(noon.round(hour), of("2024-03-31T13:00", "Europe/Berlin"))
+        self.assertRaises(ValueError, noon.round, SignedDuration(minutes=7))
+        self.assertRaises(TypeError, noon.round, 3600)
+        self.assertRaises(TypeError, noon.round, hour, 3)
+        last = ZonedDateTime(OffsetDateTime(Date.MAX, Time(23, 50), UtcOffset(0)), Zone.from_posix("<+00>0"))
+        self.assertRaises(OverflowError, last.round, hour)
 
     def test_range(self):
         east, west = Zone.from_posix("<+14>-14"), Zone.from_posix("<-10>10")
