@@ -11,6 +11,7 @@ mod constructors;
 mod counts;
 mod datetimes;
 mod days;
+mod durations;
 mod errors;
 mod generic;
 mod order;
@@ -48,5 +49,6 @@ fn main(rt: HostRuntime) -> io::Result<()> {
     zones::show(&rt)?;
     periods::show(&rt)?;
     rounding::show(&rt)?;
+    durations::show(&rt)?;
     arrival::main(rt)
 }
