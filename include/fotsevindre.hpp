@@ -1123,7 +1123,7 @@ struct TextColumn {
 
 namespace detail {
 
-// Throws a std::invalid_argument if the columns of a call differ in length.
+// Throws a std::invalid_argument if columns differ in length.
 inline std::size_t errors_or_throw(std::size_t errors)
 {
     if (errors == FOTS_LENGTH_MISMATCH) {
@@ -1170,7 +1170,7 @@ inline DurationColumn parse_durations(std::string_view bytes, const std::vector<
     return found;
 }
 
-// Returns the texts of durations. A row without a result has no bytes.
+// Returns durations as strings. A row without a result has no bytes.
 inline TextColumn duration_texts(const std::vector<std::int64_t> &seconds, const std::vector<std::int32_t> &nanoseconds)
 {
     const std::size_t rows = seconds.size();

@@ -321,7 +321,9 @@ fn texts_of_durations() {
     let row_errors = [2, 4, 5].map(|row| row_error(statuses[row]));
     let seconds_out = RowError::DurationOutOfRange(DurationComponent::Seconds);
     assert_eq!(row_errors, [RowError::UnexpectedByte, seconds_out, RowError::InvalidBounds].map(Some));
-    for (text, component) in [("PT2562047788015216H", DurationComponent::Hours), ("PT153722867280912931M", DurationComponent::Minutes)] {
+    for (text, component) in
+        [("PT2562047788015216H", DurationComponent::Hours), ("PT153722867280912931M", DurationComponent::Minutes)]
+    {
         let bounds = [0, text.len() as i32];
         columns::durations_parse(text.as_bytes(), &bounds, &mut [0], &mut [0], &mut statuses[..1]);
         assert_eq!(row_error(statuses[0]), Some(RowError::DurationOutOfRange(component)));
@@ -361,7 +363,12 @@ fn rounded() {
                 }
             };
             let found = row_error(pair_statuses[row]).map_or_else(
-                || Ok(PlainDateTime::new(Date::from_julian_day(days[row]).unwrap(), Time::MIDNIGHT + Duration::nanoseconds(rounded[row] as i64))),
+                || {
+                    Ok(PlainDateTime::new(
+                        Date::from_julian_day(days[row]).unwrap(),
+                        Time::MIDNIGHT + Duration::nanoseconds(rounded[row] as i64),
+                    ))
+                },
                 Err,
             );
             assert_eq!(found, wanted, "{} {}", dates[row], times[row]);

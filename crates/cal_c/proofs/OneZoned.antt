@@ -101,7 +101,7 @@ seen-one : {R : Type 0} (Of : Its → R) (z : Timeline) (i : ℤ) (a b : Its) (r
 seen-one Of z i a b r s stable e f h k =
     either (IsDateTime (reading_at z i)) stable (λ is. e ∙ ap Of (h.value is ∙ sym (k.value is)) ∙ sym f) (λ out. e ∙ ap Of (h.error out ∙ sym (k.error out)) ∙ sym f)
 
-seen_pub with-one : {R : Type 0} (Of : Its → R) (z : Timeline) (i : ℤ) (r s : R) → Stable (r ≡ s) → (its : Its) × IsSeen z i its × (r ≡ Of its) → (its : Its) × IsSeen z i its × (s ≡ Of its) → r ≡ s
+seen_with-one : {R : Type 0} (Of : Its → R) (z : Timeline) (i : ℤ) (r s : R) → Stable (r ≡ s) → (its : Its) × IsSeen z i its × (r ≡ Of its) → (its : Its) × IsSeen z i its × (s ≡ Of its) → r ≡ s
 seen_with-one Of z i r s stable (a, h, e) (b, k, f) = seen-one Of z i a b r s stable e f h k
 
 moved_then-one : {R : Type 0} (Of : Its → R) (p : Policy) (z : Timeline) → InOrder z → (reading exact : ℤ) (a b : Its) (r s : R) → Stable (r ≡ s) → r ≡ Of a → s ≡ Of b

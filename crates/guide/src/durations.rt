@@ -37,7 +37,11 @@ pub fn show(rt: &impl Print) -> io::Result<()> {
     println!(rt; "{:?} {:?}", worked(b"PT1H30M"), worked(b"90 min"))?;
     println!(rt; "{:?}", read_back(SignedDuration::minutes(-90)))?;
     match period::parse(b"P1Y2M10DT2H30M") {
-        Ok(found) => println!(rt; "{} {:?}", period::Text::new(found), period_read_back(found) == Ok(found)),
+        Ok(found) => println!(rt;
+            "{} {:?}",
+            period::Text::new(found),
+            period_read_back(found) == Ok(found)
+        ),
         Err(error) => println!(rt; "{error}"),
     }
 }

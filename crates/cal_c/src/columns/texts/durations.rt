@@ -69,7 +69,7 @@ fn parse_duration_row(text: &[u8]) -> (Duration, u8)
     (read.duration, byte_status(read.status))
 }
 
-/// Writes the texts of durations, like `fots_duration_text`. Writes nothing if the bytes lack room for
+/// Writes durations as strings, like `fots_duration_text`. Writes nothing if the bytes lack room for
 /// 36 bytes a row, or a bound may not fit in an `i32`.
 #[unsafe(no_mangle)]
 pub extern "C" fn fots_durations_texts(

@@ -14,8 +14,11 @@ returns c = λ order.
     let mode = c.in-Some-valid_mode.ensures in
     let own : IsTrue c.is_in_zone.result = search rules in
     let shows = (c.is_in_zone.ensures order).0 own in
-    met moment.0 (met (rw moment.1 at shows) (met unit.0 (met mode.0 (c.in-Some-valid_mode.value, mode.1,
-    (result_in z c.round_in_zone.result, rounds z c.in-Some-valid_mode.value _ _ _ _ _ moment.1 unit.1 (c.round_in_zone.ensures.day order shows) (c.round_in_zone.ensures.clock order), c.zoned_result.ensures z)))))
+    met moment.0 (met (rw moment.1 at shows) (met unit.0 (met mode.0 (
+      c.in-Some-valid_mode.value,
+      mode.1,
+      (result_in z c.round_in_zone.result, rounds z c.in-Some-valid_mode.value _ _ _ _ _ moment.1 unit.1 (c.round_in_zone.ensures.day order shows) (c.round_in_zone.ensures.clock order), c.zoned_result.ensures z),
+    ))))
 
 pub returns-in-None-valid_rounding_unit : goal.returns-in-None-valid_rounding_unit
 returns-in-None-valid_rounding_unit c = λ order.
