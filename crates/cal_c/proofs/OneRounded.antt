@@ -1,9 +1,11 @@
 -- The clauses of the calls that round leave one result.
 use Rattle.std.proofs.Common.{◌≡◌, ◌∙◌, ◌==◌, ℕ, ◌<◌, refl, sym, ap, arith}
+use Rattle.std.proofs.lemmas.Bool.{cases_eq}
 use Rattle.std.proofs.lemmas.Int.{ints}
 use Rattle.std.specs.Prelude.{if◌then◌else◌, ℤ, unsigned_abs, Result}
 use Rattle.cal_time.specs.SignedDuration.{day, IsDuration}
 use Rattle.cal_datetime.specs.DateTime.{date_time, IsDateTime}
+use Rattle.cal_datetime.specs.DateTimeLaws.{IsDateTime-date_time}
 use Rattle.cal_datetime.specs.OffsetDateTime.{LocalAndOffset}
 use Rattle.cal_zone.specs.Local.{Shows}
 use Rattle.cal_zone.specs.Timeline.{Timeline, InOrder}
@@ -21,6 +23,7 @@ use Rattle.cal_c.specs.Results.{duration_or_out_of_range, time_ok}
 use Rattle.cal_c.specs.Rounding.{local_or_out_of_range, mode_number, moment_or_out_of_range, IsDurationRoundedTo, IsMomentRoundedTo, IsPairRoundedTo, IsRoundedDuration, IsRoundedMoment, IsRoundedPair, IsRoundedTimeResult, IsTimeRoundedTo, IsZonedRoundedTo, RoundsInZone}
 use Rattle.cal_c.specs.Values.{day_of, nanoseconds_in}
 use Rattle.cal_c.specs.Zoned.{zoned_in, zoned_or_error, IsZonedWith}
+use Rattle.cal_c.proofs.Days.{either, IsDate-day_of}
 use Rattle.cal_c.proofs.OnePair.{stable_pair}
 use Rattle.cal_c.proofs.OneZoned.{stable_duration, stable_moment, with-one}
 use Rattle.cal_c.proofs.Stable.{by_number-one, need-one, need-one_if, of_field, stable_n, stable_z, Stable}
@@ -45,7 +48,7 @@ mode-known HalfEven = refl
 
 by_mode-one : {R : Type 0} (k : ℕ) (Is : RoundingMode → R → Type 0) (r s : R) → ((m : RoundingMode) → Is m r → Is m s → r ≡ s) → (m : RoundingMode) × (mode_number m ≡ k) × Is m r
     → (m : RoundingMode) × (mode_number m ≡ k) × Is m s → r ≡ s
-by_mode-one = by_number-one mode_number mode_of mode-known
+by_mode-one k = by_number-one mode_number mode_of mode-known k
 
 -- ---- calls
 stable_time : (r s : TimeResult) → Stable (r ≡ s)
@@ -94,17 +97,13 @@ duration_rounded-one duration unit mode r s =
     (λ m. let positive = is.positive in duration_result-one m (unsigned_abs (nanoseconds_in unit)) (nanoseconds_in duration) r s (omega (arith, ints, positive))))))
 
 -- in a zone
-equal_or_not : {A : Type 0} (m n : ℕ) → (m ≡ n → A) → ((m ≡ n → ⊥) → A) → A
-equal_or_not m n same other =
-    cases_lt m n (λ less. other (λ e. absurd (omega (arith, e, less)))) (λ most. cases_lt n m (λ more. other (λ e. absurd (omega (arith, e, more)))) (λ least. same (omega (arith, most, least))))
-
 in_range_of : (m : Moment) → IsMoment m → IsDateTime (local_in m)
-in_range_of m is = search rules
+in_range_of m is = IsDateTime-date_time (day_of m.date) m.time (IsDate-day_of m.date is.date) is.time.below_day
 
 rounds_in_zone-one : (mode : RoundingMode) (u : ℕ) (z : Timeline) (m : LocalAndOffset) (a b : Result InZone LocalTimeError) → InOrder z → 0 < u → Shows z m.local m → IsDateTime m.local
     → RoundsInZone mode u (in_zone z m) a → RoundsInZone mode u (in_zone z m) b → a ≡ b
 rounds_in_zone-one mode u z m a b order some shows inside h k =
-    equal_or_not u day (λ is. day-one mode (in_zone z m) a b shows.offset inside (h.day is) (k.day is))
+    either (cases_eq u day) (λ is. day-one mode (in_zone z m) a b shows.offset inside (h.day is) (k.day is))
     (λ other. clock-one mode u (in_zone z m) a b some (λ p reading x y. kept-one p (in_zone z m) reading x y (local-one z order)) (h.clock other) (k.clock other))
 
 pub zoned_rounded-one : (z : Timeline) → InOrder z → (moment : Moment) (unit : Duration) (mode : ℕ) (r s : MomentResult) → IsZonedRoundedTo z moment unit mode r → IsZonedRoundedTo z moment unit mode s

@@ -84,11 +84,11 @@ unit-known units.Year = refl
 
 by_policy-one : {R : Type 0} (k : ℕ) (Is : Policy → R → Type 0) (r s : R) → ((p : Policy) → Is p r → Is p s → r ≡ s) → (p : Policy) × (policy_number p ≡ k) × Is p r
     → (p : Policy) × (policy_number p ≡ k) × Is p s → r ≡ s
-by_policy-one = by_number-one policy_number policy_of policy-known
+by_policy-one k = by_number-one policy_number policy_of policy-known k
 
 pub by_unit-one : {R : Type 0} (k : ℕ) (Is : CalendarUnit → R → Type 0) (r s : R) → ((u : CalendarUnit) → Is u r → Is u s → r ≡ s) → (u : CalendarUnit) × (unit_number u ≡ k) × Is u r
     → (u : CalendarUnit) × (unit_number u ≡ k) × Is u s → r ≡ s
-by_unit-one = by_number-one unit_number unit_of unit-known
+by_unit-one k = by_number-one unit_number unit_of unit-known k
 
 -- ---- results, through any function of a date-time in a zone or an error
 abbrev Its : Type 0

@@ -1,21 +1,21 @@
 -- The result of a call that rounds, and of one that parses a duration, in a row of columns.
-use Rattle.std.proofs.Common.{◌≡◌, ◌∙◌, ℕ, ℤ, List, ap, arith, FitsSigned, w32, w64, to_z, of_z}
+use Rattle.std.proofs.Common.{◌≡◌, ◌∙◌, ℕ, ℤ, List, ap, arith, FitsSigned, w32, to_z, of_z}
 use Rattle.std.proofs.lemmas.Int.{ints, to_z-of_z}
 use Rattle.std.specs.Prelude.{Option, Some, None}
-use Rattle.cal_rounding.specs.declared.rounding_mode.RoundingMode.{RoundingMode}
 use Rattle.cal_duration.specs.declared.error.DurationComponent.{DurationComponent}
 use Rattle.cal_duration.specs.declared.error.DurationComponent.TheVariants.{Years, Months, Weeks, Days, Hours, Minutes, Seconds}
 use Rattle.cal_c.specs.Columns.{IsByte}
 use Rattle.cal_c.specs.DurationColumns.{duration_row, pair_row, time_row}
-use Rattle.cal_c.specs.DurationTexts.{duration_part_status, parsed_duration_error_at, parsed_duration_ok}
-use Rattle.cal_c.specs.Results.{duration_error, duration_ok, time_ok}
+use Rattle.cal_c.specs.DurationTexts.{duration_part_status, parsed_duration_error_at}
+use Rattle.cal_c.specs.Results.{duration_error, pair_error, time_error, time_ok}
 use Rattle.cal_c.specs.Rounding.{local_or_out_of_range, IsPairRoundedTo, IsTimeRoundedTo}
-use Rattle.cal_c.specs.Texts.{no_position, IsSyntaxError, StopsAt}
+use Rattle.cal_c.specs.Texts.{IsSyntaxError, StopsAt}
 use Rattle.cal_c.specs.Values.{need◌else◌then◌}
 use Rattle.cal_c.specs.declared.results.Duration.{Duration}
 use Rattle.cal_c.specs.declared.results.DurationResult.{DurationResult}
 use Rattle.cal_c.specs.declared.results.PairResult.{PairResult}
 use Rattle.cal_c.specs.declared.results.TimeResult.{TimeResult}
+use Rattle.cal_c.specs.declared.status.TheConstants.{INVALID_DATE, INVALID_ROUNDING_MODE, INVALID_ROUNDING_UNIT, INVALID_TIME}
 use Rattle.cal_c.specs.declared.texts.durations.ParseDurationResult.{ParseDurationResult}
 use Rattle.cal_c.proofs.TextRows.{a_byte, stop_byte, IsByteOf}
 
@@ -31,9 +31,9 @@ time_same r x b byte is e =
 
 pub time_rounded : (time : ℕ) (unit : Duration) (mode : ℕ) (r : TimeResult) (b : ℕ) → IsByteOf b r.status → IsTimeRoundedTo time unit mode r → IsTimeRoundedTo time unit mode (time_row r.time b)
 time_rounded time unit mode r b byte h =
-    need_by (time_same r _ b byte (omega (arith, ints), omega (arith, ints)))
-    (need_by (time_same r _ b byte (omega (arith, ints), omega (arith, ints)))
-    (need_by (time_same r _ b byte (omega (arith, ints), omega (arith, ints)))
+    need_by (time_same r (time_error INVALID_TIME) b byte (omega (arith, ints), omega (arith, ints)))
+    (need_by (time_same r (time_error INVALID_ROUNDING_UNIT) b byte (omega (arith, ints), omega (arith, ints)))
+    (need_by (time_same r (time_error INVALID_ROUNDING_MODE) b byte (omega (arith, ints), omega (arith, ints)))
     (λ found. (found.0, found.1, (found.2.0, found.2.1, time_same r (time_ok found.2.0) b byte (omega (arith, ints), omega (arith, ints)) found.2.2))))) h
 
 -- ---- dates and times of day
@@ -51,10 +51,10 @@ local_byte None = (omega (arith, ints), omega (arith, ints))
 pub pair_rounded : (date : ℤ) (time : ℕ) (unit : Duration) (mode : ℕ) (r : PairResult) (b : ℕ) → FitsSigned w32 r.date → IsByteOf b r.status → IsPairRoundedTo date time unit mode r
     → IsPairRoundedTo date time unit mode (pair_row (to_z w32 (of_z w32 r.date)) r.time b)
 pair_rounded date time unit mode r b fits byte h =
-    need_by (pair_same r _ b fits byte (omega (arith, ints), omega (arith, ints)))
-    (need_by (pair_same r _ b fits byte (omega (arith, ints), omega (arith, ints)))
-    (need_by (pair_same r _ b fits byte (omega (arith, ints), omega (arith, ints)))
-    (need_by (pair_same r _ b fits byte (omega (arith, ints), omega (arith, ints)))
+    need_by (pair_same r (pair_error INVALID_DATE) b fits byte (omega (arith, ints), omega (arith, ints)))
+    (need_by (pair_same r (pair_error INVALID_TIME) b fits byte (omega (arith, ints), omega (arith, ints)))
+    (need_by (pair_same r (pair_error INVALID_ROUNDING_UNIT) b fits byte (omega (arith, ints), omega (arith, ints)))
+    (need_by (pair_same r (pair_error INVALID_ROUNDING_MODE) b fits byte (omega (arith, ints), omega (arith, ints)))
     (λ found. (found.0, found.1, (found.2.0, found.2.1, pair_same r (local_or_out_of_range found.2.0) b fits byte (local_byte found.2.0) found.2.2)))))) h
 
 -- ---- parsed durations
