@@ -240,7 +240,11 @@ enum fots_status {
     FOTS_WEEKS_OUT_OF_RANGE = 77,
     FOTS_DAYS_OUT_OF_RANGE = 78,
     FOTS_HOURS_OUT_OF_RANGE = 79,
-    FOTS_MINUTES_OUT_OF_RANGE = 80
+    FOTS_MINUTES_OUT_OF_RANGE = 80,
+    FOTS_END_BEFORE_START = 81, /* the end of the interval is before its start */
+    FOTS_MISSING_START = 82, /* expected the start of the interval to repeat */
+    FOTS_PERIOD_NOT_POSITIVE = 83, /* expected a positive period to repeat */
+    FOTS_COUNT_OUT_OF_RANGE = 84 /* expected 1 to 4294967295 repetitions */
 };
 
 /* Returns the name of a status: the component, such as "day", or words such as "result out of
@@ -329,6 +333,10 @@ static inline const char *fots_status_name(int32_t status)
     case FOTS_DAYS_OUT_OF_RANGE: return "days";
     case FOTS_HOURS_OUT_OF_RANGE: return "hours";
     case FOTS_MINUTES_OUT_OF_RANGE: return "minutes";
+    case FOTS_END_BEFORE_START: return "end before start";
+    case FOTS_MISSING_START: return "missing start";
+    case FOTS_PERIOD_NOT_POSITIVE: return "period not positive";
+    case FOTS_COUNT_OUT_OF_RANGE: return "count out of range";
     default: return "unknown";
     }
 }
@@ -557,6 +565,32 @@ typedef struct fots_date_range_result {
     int32_t status;
     fots_date_range range; /* or {{FOTS_NO_VALUE}, {FOTS_NO_VALUE}} */
 } fots_date_range_result;
+
+typedef struct fots_parse_date_range_result {
+    int32_t status;
+    fots_date_range range; /* as above */
+    uint32_t unused; /* 0 */
+    size_t position; /* as for a date */
+} fots_parse_date_range_result;
+
+typedef struct fots_parse_pair_range_result {
+    int32_t status;
+    fots_date start_date; /* or {FOTS_NO_VALUE}, as the end */
+    fots_time start_time; /* or FOTS_NO_TIME, as the end */
+    fots_time end_time;
+    fots_date end_date;
+    uint32_t unused; /* 0 */
+    size_t position; /* as for a date */
+} fots_parse_pair_range_result;
+
+typedef struct fots_parse_repeated_dates_result {
+    int32_t status;
+    fots_date start; /* or {FOTS_NO_VALUE} */
+    uint32_t count; /* of occurrences with the start, or 0 without an end */
+    uint32_t unused; /* 0 */
+    fots_period period;
+    size_t position; /* as for a date */
+} fots_parse_repeated_dates_result;
 
 typedef struct fots_share_result {
     int32_t status;
@@ -1156,6 +1190,19 @@ fots_number_result fots_duration_compare(fots_duration duration, fots_duration o
  * FOTS_SECONDS_OUT_OF_RANGE for the first part that is too large. "P1D" isn't a duration. */
 fots_parse_duration_result fots_duration_parse(const char *text, size_t length);
 fots_parse_period_result fots_period_parse(const char *text, size_t length);
+
+/* Parse an interval of ISO 8601 by its two ends or by one end and a period, as fots_date_parse does:
+ * dates such as "2024-01-01/2024-02-01", "2024-01-01/P1M" or "P1M/2024-02-01", and dates and times
+ * such as "2024-01-01T08:00/PT90M". The end isn't in the range. Errors: those of a date, a time and
+ * a period, FOTS_END_BEFORE_START, FOTS_PERIOD_HAS_DURATION for dates, FOTS_RESULT_OUT_OF_RANGE. */
+fots_parse_date_range_result fots_date_interval_parse(const char *text, size_t length);
+fots_parse_pair_range_result fots_pair_interval_parse(const char *text, size_t length);
+
+/* Parses a repeated interval of dates, such as "R12/2024-01-31/P1M", or "R/2024-01-31/P1M" without an
+ * end, to its start, its period and the number of its occurrences; fots_date_nth_period returns each
+ * of them. Two dates repeat their number of days. Errors: as above, FOTS_COUNT_OUT_OF_RANGE for R0,
+ * FOTS_MISSING_START and FOTS_PERIOD_NOT_POSITIVE. */
+fots_parse_repeated_dates_result fots_repeated_dates_parse(const char *text, size_t length);
 
 /* Return a duration or a period as such a text, without parts that are zero; "PT0S" if all are.
  * FOTS_INVALID_PERIOD. {5400, 0} is "PT1H30M". */

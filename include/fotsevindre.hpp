@@ -24,6 +24,7 @@
 #include <string_view>
 #include <system_error>
 #include <tuple>
+#include <type_traits>
 #include <utility>
 #include <vector>
 
@@ -693,8 +694,18 @@ private:
 // so nothing drifts. To be read in a loop: for (const Date date : Steps(start, period)).
 template <class Value> class Steps {
 public:
+    // Parses a repeated interval of dates in ISO 8601, such as "R12/2024-01-31/P1M". They end after their
+    // number, or never in "R/2024-01-31/P1M".
+    static Steps parse(std::string_view text)
+    {
+        static_assert(std::is_same<Value, Date>::value, "only dates are parsed");
+        const fots_parse_repeated_dates_result found = detail::parsed_or_throw(fots_repeated_dates_parse(detail::data(text), text.size()));
+        return Steps(Value(found.start, {}), Period(found.period), found.count);
+    }
     // Throws a std::invalid_argument if the period isn't positive, or has a duration and the start is a date.
-    Steps(Value start, const Period &period) : start_(start), period_(period)
+    Steps(Value start, const Period &period) : Steps(start, period, 0) {}
+    // The same, of which there are only so many; 0 for all in the range.
+    Steps(Value start, const Period &period, std::uint32_t count) : start_(start), period_(period), count_(count)
     {
         if (!start.step_of(period, start)) {
             throw std::invalid_argument("steps of a period that isn't positive, or of dates by a duration");
@@ -714,7 +725,7 @@ public:
         iterator &operator++()
         {
             ++number_;
-            step_ = steps_->start_.nth_period(steps_->period_, number_);
+            step_ = static_cast<std::uint32_t>(number_) == steps_->count_ ? std::nullopt : steps_->start_.nth_period(steps_->period_, number_);
             return *this;
         }
         iterator operator++(int)
@@ -741,6 +752,7 @@ public:
 private:
     Value start_;
     Period period_;
+    std::uint32_t count_;
 };
 
 // The days from a date up to another, which isn't in the range. There may be none.
@@ -748,6 +760,11 @@ class DateRange {
 public:
     // Creates a range, or throws FOTS_INVALID_RANGE if the end is before the start.
     DateRange(Date start, Date end) : value_{start.c(), end.c()} { detail::value_or_throw(fots_date_range_length(value_)); }
+    // Parses an interval in ISO 8601, such as "2024-01-01/2024-02-01", "2024-01-01/P1M" or "P1M/2024-02-01".
+    static DateRange parse(std::string_view text)
+    {
+        return DateRange(detail::parsed_or_throw(fots_date_interval_parse(detail::data(text), text.size())).range);
+    }
 
     Date start() const noexcept { return Date(value_.start, {}); }
     Date end() const noexcept { return Date(value_.end, {}); }
@@ -1198,6 +1215,13 @@ public:
     static PlainDateTime parse(std::string_view text, const Format &format)
     {
         return from(fots_pair_parse_format(detail::data(text), text.size(), format.c()));
+    }
+
+    // Parses an interval in ISO 8601, such as "2024-01-01T08:00/PT90M", and returns its ends.
+    static std::pair<PlainDateTime, PlainDateTime> parse_interval(std::string_view text)
+    {
+        const fots_parse_pair_range_result found = detail::parsed_or_throw(fots_pair_interval_parse(detail::data(text), text.size()));
+        return {{Date(found.start_date, {}), Time(found.start_time, {})}, {Date(found.end_date, {}), Time(found.end_time, {})}};
     }
 
     Date date() const noexcept { return Date(value_.date, {}); }

@@ -10,7 +10,7 @@ use std::path::{Path, PathBuf};
 use std::process::ExitCode;
 
 /// The libraries, as modules of the crate.
-const CRATES: [&str; 17] = [
+const CRATES: [&str; 18] = [
     "cal_units",
     "cal_span",
     "cal_clock",
@@ -25,6 +25,7 @@ const CRATES: [&str; 17] = [
     "cal_zone",
     "cal_tzif",
     "cal_zoned",
+    "cal_interval",
     "cal_rounding",
     "cal_recurrence",
     "cal_c",

@@ -375,6 +375,14 @@ OF_PARSED(parse_moment, parse_moment, 0, Py_BuildValue("NNN", new_date(state, re
     new_time(state, result.time), new_offset(state, result.offset)))
 OF_PARSED(parse_pair, parse_moment, 0,
     Py_BuildValue("NN", new_date(state, result.date), new_time(state, result.time)))
+OF_PARSED(parse_date_range, parse_date_range, 0, Py_BuildValue("NN",
+    new_date(state, result.range.start), new_date(state, result.range.end)))
+#define NEW_PLAIN(which) new_moment(state->plain, \
+    (fots_moment){result.which##_date, {0}, result.which##_time})
+OF_PARSED(parse_pair_range, parse_pair_range, 0, Py_BuildValue("NN", NEW_PLAIN(start),
+    NEW_PLAIN(end)))
+OF_PARSED(parse_repeated_dates, parse_repeated_dates, 0, Py_BuildValue("NNI",
+    new_date(state, result.start), new_period(state, result.period), (unsigned)result.count))
 OF_PARSED(parse_recurrence, parse_recurrence, result.part,
     parts_of_recurrence(state, &result.recurrence))
 OF_PARSED(recurrence_text, recurrence_text, result.part,

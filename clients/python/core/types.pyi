@@ -603,6 +603,11 @@ class PlainDateTime(_DateTime, _Shifted):
     def parse(cls, text: str) -> PlainDateTime:
         """Parses a date, T or a space, and a time, such as 2024-02-29T23:59:59.25; errors like
         Date.parse and Time.parse."""
+    @staticmethod
+    def parse_interval(text: str) -> tuple[PlainDateTime, PlainDateTime]:
+        """Parses an interval of ISO 8601, such as 2024-01-01T08:00/PT90M, and returns its ends; errors
+        like DateRange.parse."""
+        return _core.pair_interval_parse(text)
     @classmethod
     def fromisoformat(cls, text: str) -> PlainDateTime:
         """Parses a date, T or a space, and a time, such as 2024-02-29T23:59:59.25; errors like

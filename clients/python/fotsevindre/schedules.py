@@ -109,6 +109,16 @@ class DateRange(Collection[Date]):
     def __post_init__(self) -> None:
         _core.date_range_length(check(self.start, Date), check(self.end, Date))
 
+    @classmethod
+    def parse(cls, text: str) -> DateRange:
+        """Parses an interval of ISO 8601 by two dates, or by a date and a period, or raises ParseError,
+        ComponentRange, ValueError or OverflowError.
+
+        >>> DateRange.parse("2024-01-01/P1M") == DateRange.parse("P1M/2024-02-01")
+        True
+        """
+        return cls(*_core.date_interval_parse(text))
+
     def __len__(self) -> int:
         return _core.date_range_length(self.start, self.end)
 
@@ -135,8 +145,9 @@ class DateRange(Collection[Date]):
 
 @dataclasses.dataclass(frozen=True)
 class Steps(Iterable[_S]):
-    """Steps(start, period): the dates or date-times from a start on, each a period later. Each is
-    counted from the start, so nothing drifts. They end at the end of the range.
+    """Steps(start, period, count=0): the dates or date-times from a start on, each a period later. Each
+    is counted from the start, so nothing drifts. They end after a number of them, if it isn't 0, and
+    at the end of the range.
 
     A period that isn't positive raises `ValueError`, and so does one with a duration for dates.
 
@@ -146,15 +157,27 @@ class Steps(Iterable[_S]):
 
     start: _S
     period: Period
+    count: int = 0
 
     def __post_init__(self) -> None:
         start: Any = self.start.local() if hasattr(self.start, "local") else self.start
         if start.step_of(self.period, start) is None:
             raise ValueError("expected a positive period, of dates without a duration")
+        if operator.index(self.count) < 0:
+            raise ValueError(f"{self.count} is out of range; expected a number from 0 on")
+
+    @staticmethod
+    def parse(text: str) -> Steps[Date]:
+        """Parses a repeated interval of dates in ISO 8601, or raises like `DateRange.parse`.
+
+        >>> [str(date) for date in Steps.parse("R3/2024-01-31/P1M")]
+        ['2024-01-31', '2024-02-29', '2024-03-31']
+        """
+        return Steps(*_core.repeated_dates_parse(text))
 
     def __iter__(self) -> Iterator[_S]:
         with contextlib.suppress(OverflowError):
-            for n in itertools.count():
+            for n in range(self.count) if self.count else itertools.count():
                 yield self.start.nth_period(self.period, n)
 
 

@@ -15,6 +15,7 @@ pub mod TextRows
 pub mod RoundedRows
 pub mod Unreads
 pub mod DurationErrors
+pub mod IntervalErrors
 pub mod Recurring
 pub mod RuleSets
 pub mod Walks

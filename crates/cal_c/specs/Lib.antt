@@ -20,6 +20,7 @@ pub mod DurationTexts
 pub mod Rounding
 pub mod DurationColumns
 pub mod Easter
+pub mod Intervals
 pub mod Formats
 pub mod FormatTexts
 pub mod FormatParsing

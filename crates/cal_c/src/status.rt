@@ -226,6 +226,18 @@ pub const HOURS_OUT_OF_RANGE: i32 = 79;
 
 pub const MINUTES_OUT_OF_RANGE: i32 = 80;
 
+/// The end of the interval is before its start.
+pub const END_BEFORE_START: i32 = 81;
+
+/// The interval to repeat has no start.
+pub const MISSING_START: i32 = 82;
+
+/// The period to repeat is zero or negative.
+pub const PERIOD_NOT_POSITIVE: i32 = 83;
+
+/// The number of repetitions isn't from 1 to 4294967295.
+pub const COUNT_OUT_OF_RANGE: i32 = 84;
+
 /// Returns the status of an error, by its component.
 pub fn error_status(error: ComponentRange) -> i32
     ensures { result ≡ component_status error.component }

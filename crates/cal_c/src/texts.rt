@@ -12,6 +12,7 @@ use cal_time::Date;
 pub mod date_times;
 pub mod durations;
 mod formatting;
+mod intervals;
 pub mod parsing;
 
 /// The bytes of a text: enough for the longest one and a zero byte.

@@ -57,7 +57,7 @@ pub struct ParsePeriodResult {
 }
 
 /// Returns the status of a part of a duration that is out of range.
-fn part_status(part: DurationComponent) -> i32
+pub fn part_status(part: DurationComponent) -> i32
     ensures { result ≡ duration_part_status part }
 {
     match part {
