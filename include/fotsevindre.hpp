@@ -700,7 +700,7 @@ public:
     {
         static_assert(std::is_same<Value, Date>::value, "only dates are parsed");
         const fots_parse_repeated_dates_result found = detail::parsed_or_throw(fots_repeated_dates_parse(detail::data(text), text.size()));
-        return Steps(Value(found.start, {}), Period(found.period), found.count);
+        return Steps(Value(found.start, {}), Period(found.period, {}), found.count);
     }
     // Throws a std::invalid_argument if the period isn't positive, or has a duration and the start is a date.
     Steps(Value start, const Period &period) : Steps(start, period, 0) {}

@@ -136,11 +136,68 @@ static void duration_columns(void)
     check(fots_durations_texts(seconds, 0, nanoseconds, 0, bytes, 0, printed, 1, statuses, 0) == 0 && printed[0] == 0, "no rows", printed[0], 0);
 }
 
+static int is_on(fots_date date, int32_t year, uint32_t month, uint32_t day)
+{
+    return date.julian_day == fots_date_from_calendar_date(year, month, day).date.julian_day;
+}
+
+/* Three texts of each interval, and those of none. */
+static void intervals(void)
+{
+    static const char *const january[] = {"2024-01-01/2024-02-01", "2024-01-01/P1M", "P1M/2024-02-01", "2024-001/P4W3D", "2024-W01-1/2024-W05-4"};
+    static const char *const shift[] = {"2024-01-01T08:00/2024-01-01T09:30", "2024-01-01T08:00/PT90M", "PT1,5H/2024-01-01T09:30", "2024-001 08:00:00.0/PT5400S"};
+    static const error_row errors[] = {{"2024-02-01/2024-01-01", FOTS_END_BEFORE_START, SIZE_MAX}, {"2024-01-01/PT1H", FOTS_PERIOD_HAS_DURATION, SIZE_MAX},
+        {"+999999-12-31/P1D", FOTS_RESULT_OUT_OF_RANGE, SIZE_MAX}, {"2024-13-01/P1M", FOTS_MONTH_OUT_OF_RANGE, SIZE_MAX}, {"2024-01-01/2024-02-30", FOTS_DAY_OUT_OF_RANGE, SIZE_MAX},
+        {"2024-01-01/P2147483648Y", FOTS_YEARS_OUT_OF_RANGE, SIZE_MAX}, {"2024-01-01", FOTS_UNEXPECTED_END, 10}, {"2024-01-01/-P1M", FOTS_UNEXPECTED_BYTE, 12},
+        {"2024-01-01T08:00/P1D", FOTS_UNEXPECTED_BYTE, 10}, {"P1D/P1D", FOTS_UNEXPECTED_BYTE, 4}, {"", FOTS_UNEXPECTED_END, 0}};
+    static const error_row of_pairs[] = {{"2024-01-01T09:30/2024-01-01T08:00", FOTS_END_BEFORE_START, SIZE_MAX}, {"2024-01-01T24:00/P1D", FOTS_HOUR_OUT_OF_RANGE, SIZE_MAX},
+        {"+999999-12-31T23:00/PT1H", FOTS_RESULT_OUT_OF_RANGE, SIZE_MAX}, {"2024-01-01/P1D", FOTS_UNEXPECTED_BYTE, 10}};
+    static const error_row of_repeats[] = {{"R0/2024-01-31/P1M", FOTS_COUNT_OUT_OF_RANGE, SIZE_MAX}, {"R4294967296/2024-01-31/P1M", FOTS_COUNT_OUT_OF_RANGE, SIZE_MAX},
+        {"R5/P1M/2024-01-31", FOTS_MISSING_START, SIZE_MAX}, {"R5/2024-01-31/P0D", FOTS_PERIOD_NOT_POSITIVE, SIZE_MAX}, {"R5/2024-01-31/PT1H", FOTS_PERIOD_HAS_DURATION, SIZE_MAX},
+        {"R5/2024-01-31/2024-01-30", FOTS_END_BEFORE_START, SIZE_MAX}, {"5/2024-01-31/P1M", FOTS_UNEXPECTED_BYTE, 0}, {"R-1/2024-01-31/P1M", FOTS_UNEXPECTED_BYTE, 1},
+        {"R5/2024-02-30/P1M", FOTS_DAY_OUT_OF_RANGE, SIZE_MAX}};
+    for (size_t row = 0; row < sizeof january / sizeof january[0]; row++) {
+        const fots_parse_date_range_result found = fots_date_interval_parse(january[row], strlen(january[row]));
+        check(found.status == FOTS_OK && found.position == SIZE_MAX && found.unused == 0, january[row], found.status, (long long)found.position);
+        check(is_on(found.range.start, 2024, 1, 1) && is_on(found.range.end, 2024, 2, 1), january[row], found.range.start.julian_day, found.range.end.julian_day);
+    }
+    for (size_t row = 0; row < sizeof shift / sizeof shift[0]; row++) {
+        const fots_parse_pair_range_result found = fots_pair_interval_parse(shift[row], strlen(shift[row]));
+        if (row == 2) {
+            check(found.status == FOTS_UNEXPECTED_BYTE && found.position == 5, "a fraction of hours", found.status, (long long)found.position);
+            continue;
+        }
+        check(found.status == FOTS_OK && found.position == SIZE_MAX && found.unused == 0, shift[row], found.status, (long long)found.position);
+        check(is_on(found.start_date, 2024, 1, 1) && is_on(found.end_date, 2024, 1, 1), shift[row], found.start_date.julian_day, found.end_date.julian_day);
+        check(found.start_time == UINT64_C(8) * 3600000000000 && found.end_time == UINT64_C(5700) * 6000000000, shift[row], 0, 0);
+    }
+    for (size_t row = 0; row < sizeof errors / sizeof errors[0]; row++) {
+        const fots_parse_date_range_result found = fots_date_interval_parse(errors[row].text, strlen(errors[row].text));
+        check(found.status == errors[row].status && found.position == errors[row].position, errors[row].text, found.status, (long long)found.position);
+        check(found.range.start.julian_day == FOTS_NO_VALUE && found.range.end.julian_day == FOTS_NO_VALUE, "no range", (long long)row, 0);
+    }
+    for (size_t row = 0; row < sizeof of_pairs / sizeof of_pairs[0]; row++) {
+        const fots_parse_pair_range_result found = fots_pair_interval_parse(of_pairs[row].text, strlen(of_pairs[row].text));
+        check(found.status == of_pairs[row].status && found.position == of_pairs[row].position, of_pairs[row].text, found.status, (long long)found.position);
+        check(found.start_date.julian_day == FOTS_NO_VALUE && found.start_time == FOTS_NO_TIME && found.end_time == FOTS_NO_TIME, "no ends", (long long)row, 0);
+    }
+    for (size_t row = 0; row < sizeof of_repeats / sizeof of_repeats[0]; row++) {
+        const fots_parse_repeated_dates_result found = fots_repeated_dates_parse(of_repeats[row].text, strlen(of_repeats[row].text));
+        check(found.status == of_repeats[row].status && found.position == of_repeats[row].position, of_repeats[row].text, found.status, (long long)found.position);
+        check(found.start.julian_day == FOTS_NO_VALUE && found.count == 0 && found.period.years == FOTS_NO_VALUE, "no repetition", (long long)row, found.count);
+    }
+    const fots_parse_repeated_dates_result months = fots_repeated_dates_parse("R12/2024-01-31/P1M", 18), days = fots_repeated_dates_parse("R/2024-01-01/2024-01-08", 23);
+    check(months.status == FOTS_OK && is_on(months.start, 2024, 1, 31) && months.count == 12 && months.period.months == 1, "twelve months", months.status, months.count);
+    check(is_on(fots_date_nth_period(months.start, months.period, 11).date, 2024, 12, 31), "the twelfth one", 0, 0);
+    check(days.status == FOTS_OK && days.count == 0 && days.period.days == 7 && days.period.months == 0, "weeks without an end", days.status, days.period.days);
+}
+
 int main(void)
 {
     period_texts();
     printed_periods();
     duration_texts();
     duration_columns();
+    intervals();
     return ended("durations");
 }

@@ -485,6 +485,16 @@ void periods()
     check(Date::max().checked_add_period(day) == std::nullopt && january.checked_add_period(Period::from_weeks(1)) == Date::parse("2024-02-07"), "weeks");
     check(all.years() == 1 && all.months() == 2 && all.weeks() == 3 && all.days() == 4 && all.duration() == Duration::hours(5), "the parts");
     check(month == Period(0, 1, 0, 0) && month != day && Period::from_years(1) != Period::from_months(12), "equality");
+    check(DateRange::parse("2024-01-31/P1M") == DateRange(january, Date::parse("2024-02-29")) && DateRange::parse("P1M/2024-03-01").length() == 29, "intervals");
+    const std::pair<PlainDateTime, PlainDateTime> shift = PlainDateTime::parse_interval("2024-01-01T08:00/PT90M");
+    check(shift.second - shift.first == Duration::minutes(90) && shift.first.time() == Time::from_hms(8, 0, 0), "an interval of date-times");
+    std::string repeated;
+    for (const Date step : Steps<Date>::parse("R3/2024-01-31/P1M")) {
+        repeated += step.calendar_text() + " ";
+    }
+    check(repeated == "2024-01-31 2024-02-29 2024-03-31 ", "a repeated interval");
+    throws([] { DateRange::parse("2024-02-01/2024-01-01"); }, FOTS_END_BEFORE_START, "end before start", "an end before the start");
+    throws([] { Steps<Date>::parse("R0/2024-01-31/P1M"); }, FOTS_COUNT_OUT_OF_RANGE, "count out of range", "no occurrence");
     const PlainDateTime night(january, Time::from_hms(23, 30, 0));
     check(night.checked_add_period(Period(0, 1, 0, 0, Duration::hours(2))) == PlainDateTime(Date::parse("2024-03-01"), Time::from_hms(1, 30, 0)), "a pair");
     check(night.period_until({Date::parse("2024-03-01"), Time(0)}, CalendarUnit::Month) == Period(0, 1, 0, 0, Duration::minutes(30)), "the period between pairs");

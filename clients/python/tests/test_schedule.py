@@ -223,6 +223,25 @@ class Months(unittest.TestCase):
         self.assertEqual((day(2021, 1, 1).first_of_iso_week(), day(2021, 1, 1).last_of_iso_week()), (day(2020, 12, 28), day(2021, 1, 3)))
         self.assertIsNone(Date.MAX.last_of_iso_week())
 
+    def test_intervals(self):
+        january = DateRange(day(2024, 1, 1), day(2024, 2, 1))
+        for text in ("2024-01-01/2024-02-01", "2024-01-01/P1M", "P1M/2024-02-01", "2024-001/P4W3D", "2024-W01-1/2024-W05-4"):
+            self.assertEqual(DateRange.parse(text), january, text)
+        shift = PlainDateTime(2024, 1, 1, 8), PlainDateTime(2024, 1, 1, 9, 30)
+        for text in ("2024-01-01T08:00/2024-01-01T09:30", "2024-01-01T08:00/PT90M", "PT1H30M/2024-01-01T09:30"):
+            self.assertEqual(PlainDateTime.parse_interval(text), shift, text)
+        self.assertEqual([str(date) for date in Steps.parse("R3/2024-01-31/P1M")], ["2024-01-31", "2024-02-29", "2024-03-31"])
+        self.assertEqual(Steps.parse("R/2024-01-01/2024-01-08"), Steps(day(2024, 1, 1), Period(days=7)))
+        self.assertEqual(len(list(Steps(PlainDateTime(2024, 1, 1), Period(months=1), 5))), 5)
+        self.assertRaises(ValueError, Steps, day(2024, 1, 1), Period(days=7), -1)
+        for text, error in (("2024-02-01/2024-01-01", ValueError), ("2024-01-01/PT1H", ValueError), ("+999999-12-31/P1D", OverflowError), ("2024-13-01/P1M", ComponentRange),
+                            ("2024-01-01/P2147483648Y", ComponentRange), ("2024-01-01", ParseError), ("2024-01-01/-P1M", ParseError)):
+            self.assertRaises(error, DateRange.parse, text)
+        for text in ("R0/2024-01-31/P1M", "R4294967296/2024-01-31/P1M", "R5/P1M/2024-01-31", "R5/2024-01-31/P0D", "R5/2024-01-31/PT1H", "R5/2024-01-31/2024-01-30"):
+            self.assertRaises(ValueError, Steps.parse, text)
+        self.assertRaises(TypeError, DateRange.parse, b"2024-01-01/P1M")
+        self.assertRaises(ParseError, PlainDateTime.parse_interval, "2024-01-01/P1M")
+
     def test_easter(self):
         """Published dates: in 1954 and 2049 an exception makes it a week earlier."""
         rows = [(1583, "04-10", "04-10"), (1943, "04-25", "04-25"), (1954, "04-18", "04-25"), (2000, "04-23", "04-30"), (2024, "03-31", "05-05"), (2049, "04-18", "04-25"), (4099, "04-19", "05-03")]

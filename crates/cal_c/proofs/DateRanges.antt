@@ -15,7 +15,7 @@ pub share_is : {a b c d : ℕ} → a ≡ c → b ≡ d → share_ok a b ≡ shar
 share_is {b = b} {c = c} common whole = ap (λ n. share_ok n b) common ∙ ap (share_ok c) whole
 
 -- ---- one answer
-stable_number : (r s : NumberResult) → Stable (r ≡ s)
+pub stable_number : (r s : NumberResult) → Stable (r ≡ s)
 stable_number r s never =
     let status = stable_z r.status s.status (of_field (λ (x : NumberResult). x.status) r s never) in
     let number = stable_z r.number s.number (of_field (λ (x : NumberResult). x.number) r s never) in

@@ -103,7 +103,7 @@ in_range_of m is = IsDateTime-date_time (day_of m.date) m.time (IsDate-day_of m.
 rounds_in_zone-one : (mode : RoundingMode) (u : ℕ) (z : Timeline) (m : LocalAndOffset) (a b : Result InZone LocalTimeError) → InOrder z → 0 < u → Shows z m.local m → IsDateTime m.local
     → RoundsInZone mode u (in_zone z m) a → RoundsInZone mode u (in_zone z m) b → a ≡ b
 rounds_in_zone-one mode u z m a b order some shows inside h k =
-    either (cases_eq u day) (λ is. day-one mode (in_zone z m) a b shows.offset inside (h.day is) (k.day is))
+    either (cases_eq u day) (λ is. day-one mode (in_zone z m) a b shows.offset inside (h.whole_day is) (k.whole_day is))
     (λ other. clock-one mode u (in_zone z m) a b some (λ p reading x y. kept-one p (in_zone z m) reading x y (local-one z order)) (h.clock other) (k.clock other))
 
 pub zoned_rounded-one : (z : Timeline) → InOrder z → (moment : Moment) (unit : Duration) (mode : ℕ) (r s : MomentResult) → IsZonedRoundedTo z moment unit mode r → IsZonedRoundedTo z moment unit mode s

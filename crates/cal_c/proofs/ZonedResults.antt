@@ -80,4 +80,4 @@ end_is unit m v d its r e start seen is = by_result its (seen_at v.zone _ _ its 
 pub rounds : (z : Timeline) (mode : RoundingMode) (u v : ℕ) (m l : LocalAndOffset) (r : Result InZone LocalTimeError) → m ≡ l → u ≡ v → (u ≡ day → IsRoundedToDay mode (in_zone z m) r)
     → ((u ≡ day → ⊥) → IsRoundedByClock mode u (in_zone z m) r) → RoundsInZone mode v (in_zone z l) r
 rounds z mode u v m l r e f by_day by_clock =
-    subst (λ (x : LocalAndOffset). RoundsInZone mode v (in_zone z x) r) e (subst (λ (x : ℕ). RoundsInZone mode x (in_zone z m) r) f (record { day = by_day; clock = by_clock }))
+    subst (λ (x : LocalAndOffset). RoundsInZone mode v (in_zone z x) r) e (subst (λ (x : ℕ). RoundsInZone mode x (in_zone z m) r) f (record { whole_day = by_day; clock = by_clock }))

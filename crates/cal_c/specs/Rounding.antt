@@ -106,7 +106,7 @@ IsDurationRoundedTo duration unit mode r =
 
 -- A date-time in a zone, to a start of a day or by what the clocks show.
 pub record RoundsInZone (mode : RoundingMode) (unit : ℕ) (m : InZone) (r : Result InZone LocalTimeError) : Type 0 where
-  pub day : unit ≡ day → IsRoundedToDay mode m r
+  pub whole_day : unit ≡ day → IsRoundedToDay mode m r
   pub clock : unit ≢ day → IsRoundedByClock mode unit m r
 
 abbrev pub IsZonedRoundedTo : Timeline → Moment → Duration → ℕ → MomentResult → Type 0
