@@ -1434,6 +1434,19 @@ fots_parse_offset_result fots_offset_parse_format(const char *text, size_t text_
 fots_parse_moment_result fots_pair_parse_format(const char *text, size_t text_length, const fots_format *format);
 fots_parse_moment_result fots_moment_parse_format(const char *text, size_t text_length, const fots_format *format);
 
+/* No pivot, in a call that takes one. */
+#define FOTS_NO_PIVOT (-1)
+
+/* Parse the text of a value that the format holds, or a variant of it (FORMATS.md): numbers with or
+ * without padding, names in any case or by their first three letters, and any run of white space for
+ * a space. With a pivot from 0 to 9900, "%y" is one of the 100 years from it on: 1970 to 2069 with
+ * 1970. Errors as above; FOTS_INSUFFICIENT_FORMAT also if two values could have the same text, as for
+ * "%Y%m%d", and for a pivot above 9900 or a format without "%y". */
+fots_parse_date_result fots_date_parse_leniently(const char *text, size_t text_length, const fots_format *format, int32_t pivot);
+fots_parse_time_result fots_time_parse_leniently(const char *text, size_t text_length, const fots_format *format, int32_t pivot);
+fots_parse_moment_result fots_pair_parse_leniently(const char *text, size_t text_length, const fots_format *format, int32_t pivot);
+fots_parse_moment_result fots_moment_parse_leniently(const char *text, size_t text_length, const fots_format *format, int32_t pivot);
+
 /* ---- whole columns
  *
  * A column is one array for each component of a value: Julian days and years as int32_t, ordinals

@@ -24,6 +24,7 @@ pub mod Intervals
 pub mod Formats
 pub mod FormatTexts
 pub mod FormatParsing
+pub mod LenientParsing
 pub mod DateRanges
 pub mod FormatColumns
 pub mod OnePass

@@ -3,6 +3,7 @@ mod components;
 pub mod format_parts;
 pub(crate) mod iso_dates;
 mod items;
+pub mod lenient;
 mod making;
 mod names;
 pub mod one_pass;
