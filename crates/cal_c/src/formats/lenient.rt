@@ -131,7 +131,14 @@ pub extern "C" fn fots_pair_parse_leniently(
         → ReadsDateTimes (lenient_of items pivot)
         → IsParsed (IsVariantOfPair (lenient_of items pivot) text.now) (IsLenientRejection text.now) parsed_pair_ok parsed_moment_error_at result }
 {
-    parse_leniently!(text, format, pivot, for_date_times, parse_pair, ParseMomentResult)
+    parse_leniently!(
+        text,
+        format,
+        pivot,
+        for_date_times,
+        parse_pair,
+        ParseMomentResult
+    )
 }
 
 fn parse_pair(text: &[u8], format: &LenientDateTimeFormat) -> ParseMomentResult
@@ -157,7 +164,14 @@ pub extern "C" fn fots_moment_parse_leniently(
         → ReadsOffsetDateTimes (lenient_of items pivot)
         → IsParsed (IsVariantOfMoment (lenient_of items pivot) text.now) (IsLenientRejection text.now) parsed_moment_ok parsed_moment_error_at result }
 {
-    parse_leniently!(text, format, pivot, for_offset_date_times, parse_moment, ParseMomentResult)
+    parse_leniently!(
+        text,
+        format,
+        pivot,
+        for_offset_date_times,
+        parse_moment,
+        ParseMomentResult
+    )
 }
 
 fn parse_moment(text: &[u8], format: &LenientOffsetDateTimeFormat) -> ParseMomentResult
