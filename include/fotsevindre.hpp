@@ -254,6 +254,21 @@ private:
     fots_format value_;
 };
 
+// A format of which variants are parsed too: numbers with or without padding, names in any case or by
+// their first three letters, and any run of white space. With a pivot, %y is one of the 100 years from
+// it on.
+class LenientFormat {
+public:
+    explicit LenientFormat(const Format &format, std::int32_t pivot = FOTS_NO_PIVOT) : format_(format), pivot_(pivot) {}
+
+    const fots_format *c() const noexcept { return format_.c(); }
+    std::int32_t pivot() const noexcept { return pivot_; }
+
+private:
+    Format format_;
+    std::int32_t pivot_;
+};
+
 // How to round to a multiple of a unit: down, up, toward zero, and to the nearest multiple, of two to the
 // greater or to the even one.
 enum class RoundingMode : std::uint32_t { Floor = FOTS_FLOOR, Ceil = FOTS_CEIL, Trunc = FOTS_TRUNC, HalfCeil = FOTS_HALF_CEIL, HalfEven = FOTS_HALF_EVEN };
@@ -349,6 +364,10 @@ public:
     static Time parse(std::string_view text, const Format &format)
     {
         return Time(detail::parsed_or_throw(fots_time_parse_format(detail::data(text), text.size(), format.c())).time, {});
+    }
+    static Time parse(std::string_view text, const LenientFormat &format)
+    {
+        return Time(detail::parsed_or_throw(fots_time_parse_leniently(detail::data(text), text.size(), format.c(), format.pivot())).time, {});
     }
 
     std::uint32_t hour() const { return detail::value_or_throw(fots_time_hour(value_)).number; }
@@ -532,6 +551,10 @@ public:
     static Date parse(std::string_view text, const Format &format)
     {
         return Date(detail::parsed_or_throw(fots_date_parse_format(detail::data(text), text.size(), format.c())).date, {});
+    }
+    static Date parse(std::string_view text, const LenientFormat &format)
+    {
+        return Date(detail::parsed_or_throw(fots_date_parse_leniently(detail::data(text), text.size(), format.c(), format.pivot())).date, {});
     }
 
     std::int32_t to_julian_day() const noexcept { return value_.julian_day; }
@@ -1216,6 +1239,10 @@ public:
     {
         return from(fots_pair_parse_format(detail::data(text), text.size(), format.c()));
     }
+    static PlainDateTime parse(std::string_view text, const LenientFormat &format)
+    {
+        return from(fots_pair_parse_leniently(detail::data(text), text.size(), format.c(), format.pivot()));
+    }
 
     // Parses an interval in ISO 8601, such as "2024-01-01T08:00/PT90M", and returns its ends.
     static std::pair<PlainDateTime, PlainDateTime> parse_interval(std::string_view text)
@@ -1327,6 +1354,11 @@ public:
     static OffsetDateTime parse(std::string_view text, const Format &format)
     {
         return OffsetDateTime(detail::moment_or_throw(fots_moment_parse_format(detail::data(text), text.size(), format.c())), {});
+    }
+    static OffsetDateTime parse(std::string_view text, const LenientFormat &format)
+    {
+        const fots_parse_moment_result found = fots_moment_parse_leniently(detail::data(text), text.size(), format.c(), format.pivot());
+        return OffsetDateTime(detail::moment_or_throw(found), {});
     }
 
     Date date() const noexcept { return Date(value_.date, {}); }

@@ -299,6 +299,40 @@ static void columns(void)
         statuses[0], 0);
 }
 
+/* Rows as datetime.strptime of Python reads them, and faults. */
+static void lenient(void)
+{
+    static const struct {
+        const char *format, *text;
+        int32_t pivot, status, julian_day;
+    } dates[] = {{"%d-%b-%Y", "29-FEB-2024", FOTS_NO_PIVOT, FOTS_OK, 2460370}, {"%d-%b-%Y", "29-feb-2024", FOTS_NO_PIVOT, FOTS_OK, 2460370},
+        {"%d %B %Y", "29  Feb 2024", FOTS_NO_PIVOT, FOTS_OK, 2460370}, {"%d/%m/%Y", "1/1/2000", FOTS_NO_PIVOT, FOTS_OK, 2451545},
+        {"%d/%m/%y", "1/1/00", 1970, FOTS_OK, 2451545}, {"%d/%m/%y", "01/01/70", 1970, FOTS_OK, 2440588}, {"%d/%m/%y", "1/1/00", FOTS_NO_PIVOT, FOTS_INSUFFICIENT_FORMAT, FOTS_NO_VALUE},
+        {"%d/%m/%Y", "1/1/2000", 1970, FOTS_INSUFFICIENT_FORMAT, FOTS_NO_VALUE}, {"%d/%m/%y", "1/1/00", 9901, FOTS_INSUFFICIENT_FORMAT, FOTS_NO_VALUE},
+        {"%d/%m/%y", "1/1/00", INT32_MAX, FOTS_INSUFFICIENT_FORMAT, FOTS_NO_VALUE}, {"%Y%m%d", "20240229", FOTS_NO_PIVOT, FOTS_INSUFFICIENT_FORMAT, FOTS_NO_VALUE},
+        {"%H", "9", FOTS_NO_PIVOT, FOTS_INSUFFICIENT_FORMAT, FOTS_NO_VALUE}, {"%d/%m/%Y", "30/2/2024", FOTS_NO_PIVOT, FOTS_DAY_OUT_OF_RANGE, FOTS_NO_VALUE},
+        {"%d/%m/%Y", "1/1", FOTS_NO_PIVOT, FOTS_UNEXPECTED_END, FOTS_NO_VALUE}, {"%d/%m/%Y", "1-1", FOTS_NO_PIVOT, FOTS_UNEXPECTED_BYTE, FOTS_NO_VALUE}};
+    for (size_t row = 0; row < sizeof dates / sizeof dates[0]; row++) {
+        const fots_format format = fots_format_new(dates[row].format, strlen(dates[row].format)).format;
+        const fots_parse_date_result found = fots_date_parse_leniently(dates[row].text, strlen(dates[row].text), &format, dates[row].pivot);
+        check(found.status == dates[row].status && found.date.julian_day == dates[row].julian_day, dates[row].text, found.status, found.date.julian_day);
+    }
+    fots_format format = fots_format_new("%d/%m/%Y %I:%M %p %z", 20).format;
+    const fots_parse_moment_result moment = fots_moment_parse_leniently("29/2/2024 9:5 pm +0530", 22, &format, FOTS_NO_PIVOT);
+    check(moment.status == FOTS_OK && moment.date.julian_day == 2460370 && moment.time == UINT64_C(75900000000000) && moment.offset.seconds == 19800, "a moment",
+        moment.status, (long long)moment.position);
+    format = fots_format_new("%d/%m/%Y %I:%M %p", 17).format;
+    const fots_parse_moment_result pair = fots_pair_parse_leniently("29/2/2024 9:5 pm", 16, &format, FOTS_NO_PIVOT);
+    check(pair.status == FOTS_OK && pair.date.julian_day == 2460370 && pair.time == UINT64_C(75900000000000), "a date and a time", pair.status, 0);
+    format = fots_format_new("%T", 2).format;
+    const fots_parse_time_result time = fots_time_parse_leniently("9:5:1", 5, &format, FOTS_NO_PIVOT);
+    check(time.status == FOTS_OK && time.time == UINT64_C(32701000000000), "a time", time.status, (long long)time.position);
+    format.items[0].kind = 255;
+    check(fots_date_parse_leniently("", 0, &format, 0).status == FOTS_INVALID_FORMAT && fots_time_parse_leniently("", 0, &format, 0).status == FOTS_INVALID_FORMAT
+        && fots_pair_parse_leniently("", 0, &format, 0).status == FOTS_INVALID_FORMAT && fots_moment_parse_leniently("", 0, &format, 0).status == FOTS_INVALID_FORMAT,
+        "by hand", 0, 0);
+}
+
 int main(void)
 {
     columns();
@@ -307,6 +341,7 @@ int main(void)
     parsed_dates();
     parsed_others();
     faults();
+    lenient();
     filled_by_hand();
     buffers();
     return ended("formats");

@@ -569,6 +569,12 @@ void formats()
     check(UtcOffset::parse("-0530", Format("%z")) == UtcOffset::from_hms(-5, -30, 0), "an offset, parsed");
     check(PlainDateTime::parse("2024-02-29 23:59:59", Format("%F %T")) == night.local(), "a local date-time, parsed");
     check(OffsetDateTime::parse("29/Feb/2024:23:59:59 +0530", Format("%d/%b/%Y:%T %z")) == night, "a date-time at an offset, parsed");
+    const LenientFormat lenient(Format("%d-%b-%Y")), pivot(Format("%d %B %y"), 1970);
+    check(Date::parse("29-FEB-2024", lenient) == day && Date::parse("1 jan 69", pivot) == Date::parse("2069-01-01"), "variants of dates");
+    check(Time::parse("9:5:1", LenientFormat(Format("%T"))) == Time::from_hms(9, 5, 1), "a variant of a time");
+    check(PlainDateTime::parse("29 february 2024  23:59:59", LenientFormat(Format("%d %B %Y %T"))) == night.local(), "a variant of a date-time");
+    check(OffsetDateTime::parse("29/feb/2024:23:59:59 +0530", LenientFormat(Format("%d/%b/%Y:%T %z"))) == night, "one at an offset");
+    throws([] { Date::parse("20240229", LenientFormat(Format("%Y%m%d"))); }, FOTS_INSUFFICIENT_FORMAT, "insufficient format", "no space between numbers");
     throws([] { Date::parse("29.02.2024", Format("%d/%m/%Y")); }, FOTS_UNEXPECTED_BYTE, "unexpected byte at 2", "a wrong byte");
     throws([] { Date::parse("Wed 2024-02-29", Format("%a %F")); }, FOTS_CONTRADICTION, "weekday contradicts the other components",
         "a wrong weekday");

@@ -66,6 +66,24 @@ static fots_length_result plain_strftime(
     return fots_pair_format(moment.date, moment.time, format, bytes, bytes_length);
 }
 
+/* Returns the pivot of a lenient format, FOTS_NO_PIVOT without one, or -2 for another format. */
+static int32_t pivot_of(PyObject *format)
+{
+    PyObject *pivot = PyUnicode_Check(format) ? NULL : PyObject_GetAttrString(format, "_pivot");
+    int32_t found = pivot && pivot != Py_None ? (int32_t)PyLong_AsLong(pivot) : -2;
+    Py_XDECREF(pivot);
+    PyErr_Clear();
+    return found;
+}
+
+/* An offset alone has no variants. */
+static fots_parse_offset_result fots_offset_parse_leniently(
+    const char *Py_UNUSED(text), size_t Py_UNUSED(length), const fots_format *Py_UNUSED(format),
+    int32_t Py_UNUSED(pivot))
+{
+    return (fots_parse_offset_result){FOTS_INSUFFICIENT_FORMAT, {FOTS_NO_VALUE}, SIZE_MAX};
+}
+
 #define STRPTIME(name, part, kind, value) \
     static PyObject *name(PyObject *self, PyObject *const *given, Py_ssize_t count) \
     { \
@@ -76,8 +94,10 @@ static fots_length_result plain_strftime(
             !to_text(state, given[0], &text)) { \
             return NULL; \
         } \
-        fots_parse_##kind##_result result = \
-            fots_##part##_parse_format(text.start, text.length, &format); \
+        int32_t pivot = pivot_of(given[1]); \
+        fots_parse_##kind##_result result = pivot == -2 ? \
+            fots_##part##_parse_format(text.start, text.length, &format) : \
+            fots_##part##_parse_leniently(text.start, text.length, &format, pivot); \
         return is_parsed(state, result.status, result.position, &text) ? value : NULL; \
     }
 STRPTIME(date_strptime, date, date, new_date(state, result.date))

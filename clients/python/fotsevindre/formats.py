@@ -3,7 +3,8 @@
 from __future__ import annotations
 
 import dataclasses
-from typing import Any
+import operator
+from typing import Any, SupportsIndex
 
 from . import _core
 
@@ -19,14 +20,33 @@ class Format:
     _items: bytes
     _text: str = dataclasses.field(compare=False)
     _is_description: bool = dataclasses.field(compare=False)
+    # The pivot of a lenient format, or -1 without one, and None for a format that isn't lenient.
+    _pivot: int | None
 
     def __init__(self, text: str) -> None:
         self._set(text, False)
 
     def _set(self, text: str, is_description: bool) -> Format:
         items = _core.format_new(text, is_description)
-        vars(self).update(_items=items, _text=text, _is_description=is_description)
+        vars(self).update(
+            _items=items, _text=text, _is_description=is_description, _pivot=None)
         return self
+
+    def lenient(self, pivot: SupportsIndex | None = None) -> Format:
+        """Returns the format that parses variants of its texts, too: numbers with or without
+        padding, names in any case or by three letters, and any run of white space. With a pivot, %y
+        is one of the 100 years from it on. `strptime` raises `ValueError` if two values could have
+        the same text.
+
+        >>> str(Date.strptime("7 FEB 24", Format("%d %B %y").lenient(pivot=1970)))
+        '2024-02-07'
+        """
+        number = -1 if pivot is None else operator.index(pivot)
+        if pivot is not None and not 0 <= number <= 9900:
+            raise ValueError(f"{number} is out of range; expected a pivot from 0 to 9900")
+        made = self.__class__.__new__(self.__class__)
+        vars(made).update(vars(self), _pivot=number)
+        return made
 
     @classmethod
     def from_description(cls, text: str) -> Format:
@@ -35,10 +55,19 @@ class Format:
         return cls.__new__(cls)._set(text, True)
 
     def __repr__(self) -> str:
-        return f"Format{'.from_description' * self._is_description}({self._text!r})"
+        made = f"Format{'.from_description' * self._is_description}({self._text!r})"
+        if self._pivot is None:
+            return made
+        return f"{made}.lenient({'' if self._pivot < 0 else self._pivot})"
 
     def __reduce__(self) -> tuple[Any, ...]:
-        return Format.from_description if self._is_description else Format, (self._text,)
+        return _made, (self._text, self._is_description, self._pivot)
+
+
+def _made(text: str, is_description: bool, pivot: int | None) -> Format:
+    """Returns the format of a pickle."""
+    format = Format.from_description(text) if is_description else Format(text)
+    return format if pivot is None else format.lenient(None if pivot < 0 else pivot)
 
 
 def bytes_of(format: str | Format) -> bytes:

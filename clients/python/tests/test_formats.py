@@ -4,6 +4,7 @@ import copy
 import datetime
 import pickle
 import random
+import re
 import unittest
 
 from fotsevindre import (
@@ -23,6 +24,44 @@ def drawn(randoms: random.Random) -> datetime.datetime:
     offset = datetime.timezone(datetime.timedelta(minutes=randoms.randint(-1439, 1439)))
     start = datetime.datetime(1000, 1, 1, tzinfo=offset)
     return start + datetime.timedelta(days=randoms.randrange(3_287_182), microseconds=randoms.randrange(86_400_000_000))
+
+
+class Lenient(unittest.TestCase):
+    def test_variants_that_datetime_reads(self):
+        randoms = random.Random(2)
+        for _ in range(500):
+            other = drawn(randoms).replace(tzinfo=None, microsecond=0)
+            local = PlainDateTime.from_datetime(other)
+            for form in ("%d/%m/%Y %H:%M:%S", "%d %B %Y, %H:%M:%S", "%b %d %Y %I:%M:%S %p"):
+                text = other.strftime(form)
+                # Without padding, in other letters, and with more white space, as datetime.strptime reads it.
+                for variant in (text, re.sub(r"\b0(?=\d)", "", text), text.upper(), text.lower(), text.replace(" ", " \t ")):
+                    self.assertEqual(datetime.datetime.strptime(variant, form), other, variant)
+                    self.assertEqual(PlainDateTime.strptime(variant, Format(form).lenient()), local, variant)
+
+    def test_pivots(self):
+        for text, pivot, year in (("70", 1970, 1970), ("69", 1970, 2069), ("00", 2000, 2000), ("99", 2000, 2099), ("29", 1930, 2029)):
+            self.assertEqual(Date.strptime(f"1 jan {text}", Format("%d %b %y").lenient(pivot)), Date(year, 1, 1))
+        self.assertRaises(ValueError, Format("%y").lenient, 9901)
+        self.assertRaises(ValueError, Format("%y").lenient, -1)
+        self.assertRaises(TypeError, Format("%y").lenient, "1970")
+
+    def test_what_is_refused(self):
+        day = Format("%d-%b-%Y").lenient()
+        for text in ("29-FEBR-2024", "029-FEB-2024", "29_FEB_2024", "-29-FEB-2024"):
+            self.assertRaises(ParseError, Date.strptime, text, day)
+        self.assertRaises(ComponentRange, Date.strptime, "30-FEB-2024", day)
+        self.assertRaises(ValueError, Date.strptime, "20240229", Format("%Y%m%d").lenient())
+        self.assertRaises(ValueError, UtcOffset.strptime, "+0100", Format("%z").lenient())
+
+    def test_it_is_a_value(self):
+        strict, lenient, pivot = Format("%y"), Format("%y").lenient(), Format.from_description("[year repr:last_two]").lenient(1970)
+        self.assertEqual((repr(lenient), repr(pivot)), ("Format('%y').lenient()", "Format.from_description('[year repr:last_two]').lenient(1970)"))
+        self.assertEqual((strict == lenient, lenient == pivot, lenient == Format("%y").lenient()), (False, False, True))
+        for one in (lenient, pivot):
+            for other in (copy.copy(one), pickle.loads(pickle.dumps(one))):
+                self.assertEqual((other, repr(other), hash(other)), (one, repr(one), hash(one)))
+        self.assertEqual(LEAP_DAY.strftime(lenient), "24")
 
 
 class Printing(unittest.TestCase):
