@@ -30,6 +30,7 @@ pub mod OneZone
 pub mod OneZoned
 pub mod OnePair
 pub mod OneRounded
+pub mod OneRepeat
 pub mod Stable
 pub mod FormatItems
 pub mod FormatPrinting

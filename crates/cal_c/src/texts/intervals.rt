@@ -16,6 +16,7 @@ macro_rules! interval_error_result {
     };
 }
 
+pub mod laws;
 mod ranges;
 mod repeats;
 
