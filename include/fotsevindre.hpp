@@ -902,7 +902,16 @@ private:
     fots_workdays workdays_;
 };
 
-enum class Frequency : std::uint32_t { Daily = FOTS_DAILY, Weekly = FOTS_WEEKLY, Monthly = FOTS_MONTHLY, Yearly = FOTS_YEARLY };
+// The unit of the interval of a rule. Hours and shorter units are in recurrences only.
+enum class Frequency : std::uint32_t {
+    Daily = FOTS_DAILY,
+    Weekly = FOTS_WEEKLY,
+    Monthly = FOTS_MONTHLY,
+    Yearly = FOTS_YEARLY,
+    Hourly = FOTS_HOURLY,
+    Minutely = FOTS_MINUTELY,
+    Secondly = FOTS_SECONDLY
+};
 
 // A weekday of a rule: every one if number is 0, else the n-th, or from the end if negative.
 struct ByDay {

@@ -121,7 +121,7 @@ static const char *const descriptions[] = {"[year]-[month]-[day]", "[weekday rep
     "[hour repr:12]:[minute]:[second].[subsecond digits:3] [period]", "[offset_hour sign:mandatory]:[offset_minute]", "[year][ordinal]"};
 static const char *const recurrences[] = {"FREQ=DAILY;COUNT=10", "FREQ=WEEKLY;INTERVAL=2;BYDAY=MO,WE,FR;WKST=SU;COUNT=40", "FREQ=MONTHLY;BYDAY=-1FR",
     "FREQ=MONTHLY;BYMONTHDAY=31,-1;UNTIL=20301231", "FREQ=YEARLY;BYMONTH=2;BYMONTHDAY=29", "FREQ=YEARLY;BYWEEKNO=53;BYDAY=SU", "FREQ=YEARLY;BYYEARDAY=1,100,-1",
-    "FREQ=MONTHLY;BYDAY=MO,TU,WE,TH,FR;BYSETPOS=-2", "FREQ=DAILY;BYHOUR=9,17;BYMINUTE=0,30;COUNT=7", "FREQ=HOURLY"};
+    "FREQ=MONTHLY;BYDAY=MO,TU,WE,TH,FR;BYSETPOS=-2", "FREQ=DAILY;BYHOUR=9,17;BYMINUTE=0,30;COUNT=7", "FREQ=HOURLY", "FREQ=MINUTELY;INTERVAL=90;COUNT=9", "FREQ=FORTNIGHTLY"};
 static const char *const zones[] = {"CET-1CEST,M3.5.0,M10.5.0/3", "EST5EDT,M3.2.0,M11.1.0", "<+0530>-5:30", "IST-2IDT,M3.4.4/26,M10.5.0", "<-03>3<-02>,M3.5.0/-2,M10.5.0/-1", "UTC0"};
 
 static const char *const durations[] = {"P1Y2M10DT2H30M", "-P1D", "PT36H", "P2W", "PT0.5S", "PT1,000000001S", "P2147483648Y", "PT9223372036854775807S", "-PT2562047788015215H30M8S", "P1Y1M1W1DT1H1M1S"};

@@ -772,7 +772,8 @@ static void text_errors(void)
         {"FREQ=DAILY;", FOTS_UNKNOWN_PART, 0, 11},
         {"FREQ=DAILY;UNTIL=20241231;COUNT=3", FOTS_DUPLICATE_PART, FOTS_RULE_COUNT, 26},
         {"FREQ=DAILY;freq=daily", FOTS_DUPLICATE_PART, FOTS_RULE_FREQ, 11},
-        {"FREQ=HOURLY;COUNT=0", FOTS_INVALID_VALUE, FOTS_RULE_FREQ, 0},
+        {"FREQ=HOURLYS;COUNT=0", FOTS_INVALID_VALUE, FOTS_RULE_FREQ, 0},
+        {"FREQ=HOURLY;COUNT=0", FOTS_INVALID_VALUE, FOTS_RULE_COUNT, 12},
         {"FREQ=DAILY;INTERVAL=0", FOTS_INVALID_VALUE, FOTS_RULE_INTERVAL, 11},
         {"FREQ=DAILY;WKST=1MO", FOTS_INVALID_VALUE, FOTS_RULE_WKST, 11},
         {"FREQ=DAILY;BYMONTH=12,13", FOTS_INVALID_VALUE, FOTS_RULE_BYMONTH, 11},
@@ -848,6 +849,32 @@ static fots_recurrence_set set_of(const char *text, fots_moment start)
 }
 
 /* "Every 20 minutes from 9:00 AM to 4:40 PM every day" of RFC 5545, and a rule with other readings. */
+/* The examples of RFC 5545 by hours and minutes. Days of such a rule don't exist. */
+static void hours(void)
+{
+    static const struct {
+        const char *text;
+        size_t length;
+        uint32_t minutes;
+    } rows[] = {{"FREQ=HOURLY;INTERVAL=3;UNTIL=20240902T170000", 3, 180}, {"FREQ=MINUTELY;INTERVAL=15;COUNT=6", 6, 15}, {"FREQ=MINUTELY;INTERVAL=90;COUNT=4", 4, 90},
+        {"FREQ=MINUTELY;INTERVAL=20;BYHOUR=9,10,11,12,13,14,15,16;COUNT=24", 24, 20}, {"FREQ=SECONDLY;INTERVAL=60;COUNT=3", 3, 1}};
+    fots_moment found[50];
+    for (size_t row = 0; row < COUNT(rows); row++) {
+        const fots_recurrence_set set = set_of(rows[row].text, reading(9, 2, 9, 0));
+        is_written(fots_recurrence_readings(&set, reading(1, 1, 0, 0), found, COUNT(found)), rows[row].length, rows[row].text);
+        for (uint32_t index = 0; index < rows[row].length; index++) {
+            const uint32_t minute = 540 + index * rows[row].minutes;
+            check(is_moment(found[index], reading(9, 2, minute / 60, minute % 60), 0), rows[row].text, index, (long long)found[index].time);
+        }
+    }
+    const fots_parse_recurrence_result parsed = fots_recurrence_parse("FREQ=SECONDLY;COUNT=3", 21);
+    check(parsed.status == FOTS_OK && parsed.recurrence.frequency == FOTS_SECONDLY && parsed.recurrence.count == 3, "parts", parsed.status, parsed.recurrence.frequency);
+    check(strcmp(fots_recurrence_text("COUNT=3;FREQ=HOURLY", 19).bytes, "FREQ=HOURLY;COUNT=3") == 0, "a text", 0, 0);
+    fots_date days[1];
+    const fots_recurrence_result none = fots_recurrence_days("COUNT=3;FREQ=HOURLY", 19, (fots_date){2450694}, (fots_date){2450694}, days, 1);
+    check(none.status == FOTS_INVALID_VALUE && none.part == FOTS_RULE_FREQ && none.position == 8, "days by hours", none.status, (long long)none.position);
+}
+
 static void times_of_day(void)
 {
     fots_moment found[50];
@@ -1050,6 +1077,7 @@ int main(void)
     texts_in_one_order();
     text_errors();
     times_of_day();
+    hours();
     times_in_zones();
     long_counts();
     rule_without_days();
