@@ -244,7 +244,8 @@ enum fots_status {
     FOTS_END_BEFORE_START = 81, /* the end of the interval is before its start */
     FOTS_MISSING_START = 82, /* expected the start of the interval to repeat */
     FOTS_PERIOD_NOT_POSITIVE = 83, /* expected a positive period to repeat */
-    FOTS_COUNT_OUT_OF_RANGE = 84 /* expected 1 to 4294967295 repetitions */
+    FOTS_COUNT_OUT_OF_RANGE = 84, /* expected 1 to 4294967295 repetitions */
+    FOTS_INVALID_CALENDAR = 85 /* expected 0 (TARGET) to 19 (Thuringia) */
 };
 
 /* Returns the name of a status: the component, such as "day", or words such as "result out of
@@ -337,6 +338,7 @@ static inline const char *fots_status_name(int32_t status)
     case FOTS_MISSING_START: return "missing start";
     case FOTS_PERIOD_NOT_POSITIVE: return "period not positive";
     case FOTS_COUNT_OUT_OF_RANGE: return "count out of range";
+    case FOTS_INVALID_CALENDAR: return "invalid calendar";
     default: return "unknown";
     }
 }
@@ -816,6 +818,37 @@ enum fots_convention {
  * FOTS_RESULT_OUT_OF_RANGE. Saturday 2000-04-29 moves to 2000-05-01 by FOTS_FOLLOWING, and to
  * 2000-04-28 by FOTS_MODIFIED_FOLLOWING. */
 fots_date_result fots_workdays_adjust(const fots_workdays *workdays, fots_date date, uint32_t convention);
+
+/* Known calendars of holidays. */
+enum fots_calendar {
+    FOTS_TARGET = 0, /* the payment system of the euro, since 1999 */
+    FOTS_US_FEDERAL = 1, /* the federal offices of the United States, since 1971 */
+    FOTS_NYSE = 2, /* the New York Stock Exchange, since 1986 */
+    FOTS_ENGLAND_AND_WALES = 3, /* bank holidays, since 1978 */
+    FOTS_DE_BW = 4, /* the states of Germany, since 1995 */
+    FOTS_DE_BY = 5,
+    FOTS_DE_BE = 6,
+    FOTS_DE_BB = 7,
+    FOTS_DE_HB = 8,
+    FOTS_DE_HH = 9,
+    FOTS_DE_HE = 10,
+    FOTS_DE_MV = 11,
+    FOTS_DE_NI = 12,
+    FOTS_DE_NW = 13,
+    FOTS_DE_RP = 14,
+    FOTS_DE_SL = 15,
+    FOTS_DE_SN = 16,
+    FOTS_DE_ST = 17,
+    FOTS_DE_SH = 18,
+    FOTS_DE_TH = 19
+};
+
+/* Writes the holidays of a calendar from one date through another to the front of the array, in
+ * ascending order as fots_workdays_new takes them, and returns their number. FOTS_INVALID_CALENDAR;
+ * FOTS_TOO_MANY_HOLIDAYS if there are more than the array has room for, or than FOTS_MAX_HOLIDAYS.
+ * FOTS_TARGET has 6 from 2024-01-01 through 2024-12-31. */
+fots_number_result fots_calendar_holidays(uint32_t calendar, fots_date first, fots_date last, fots_date *holidays,
+    size_t holidays_length);
 
 /* Add working days to dates, and count them between dates, like the calls for one date. */
 size_t fots_workdays_add_dates(const fots_workdays *workdays, const int32_t *dates, size_t dates_length, const int32_t *days,

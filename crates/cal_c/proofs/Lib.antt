@@ -38,3 +38,4 @@ pub mod FormatParsing
 pub mod FormatRows
 pub mod LaterMoments
 pub mod WrittenMoments
+pub mod Calendars

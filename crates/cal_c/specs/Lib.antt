@@ -29,3 +29,4 @@ pub mod DateRanges
 pub mod FormatColumns
 pub mod OnePass
 pub mod TextSets
+pub mod Calendars

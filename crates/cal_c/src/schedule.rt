@@ -1,6 +1,7 @@
 //! Months and years, ends of periods, ranges of days, weekdays of months, day counts, working days,
 //! recurrences, Easter.
 
+pub mod calendars;
 mod date_list;
 pub mod date_ranges;
 mod easter;

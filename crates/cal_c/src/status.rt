@@ -238,6 +238,9 @@ pub const PERIOD_NOT_POSITIVE: i32 = 83;
 /// The number of repetitions isn't from 1 to 4294967295.
 pub const COUNT_OUT_OF_RANGE: i32 = 84;
 
+/// No calendar has the number.
+pub const INVALID_CALENDAR: i32 = 85;
+
 /// Returns the status of an error, by its component.
 pub fn error_status(error: ComponentRange) -> i32
     ensures { result ≡ component_status error.component }

@@ -1,8 +1,10 @@
-//! Laws: the clauses of the calls for ranges, and for periods of a date and a time, allow only one
-//! result.
-ghost use Rattle.std.specs.Prelude.{◌≡◌, ℕ, ℤ};
+//! Laws: the clauses of the calls for ranges, for periods of a date and a time, and for holidays allow
+//! only one result.
+ghost use Rattle.std.specs.Prelude.{◌≡◌, ℕ, ℤ, List};
+ghost use Rattle.cal_holidays.specs.declared.holiday_rule.HolidayRule.{HolidayRule};
 ghost use Rattle.cal_schedule.specs.Period.{Parts};
 ghost use Rattle.cal_schedule.specs.Ranges.{HasCommonDay, IsIn};
+ghost use Rattle.cal_c.specs.Calendars.{AreListed};
 ghost use Rattle.cal_c.specs.DateRanges.{range_in, IsYesNo};
 ghost use Rattle.cal_c.specs.Periods.{IsPairAfter, IsPeriodUntilResult, IsStepOfPair};
 ghost use Rattle.cal_c.specs.Values.{day_of};
@@ -31,4 +33,10 @@ pub fn one_pair_result()
     ensures period_until { (from date : ℤ) (time unit : ℕ) (r s : ExactPeriodResult)
         → IsPeriodUntilResult from date time unit r
         → IsPeriodUntilResult from date time unit s → r ≡ s }
+{}
+
+/// States that the holidays of rules have one number or are too many.
+pub fn one_number_of_holidays()
+    ensures { (rules : List HolidayRule) (first last : ℕ) (written : List ℤ) (r s : NumberResult)
+        → AreListed rules first last written r → AreListed rules first last written s → r ≡ s }
 {}
