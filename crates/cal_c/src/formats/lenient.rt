@@ -78,13 +78,13 @@ pub extern "C" fn fots_date_parse_leniently(
         → result ≡ parsed_date_error_at INSUFFICIENT_FORMAT no_position }
     ensures value { (items : List Item) → HasItems format.now items
         → ReadsDates (lenient_of items pivot)
-        → IsParsed (IsVariantOfDate (lenient_of items pivot) text.now) (IsLenientRejection text.now) parsed_date_ok parsed_date_error_at result }
+        → IsParsed (IsVariantOfDate (lenient_of items pivot) text.now) (IsLenientRejection (lenient_of items pivot) text.now) parsed_date_ok parsed_date_error_at result }
 {
     parse_leniently!(text, format, pivot, for_dates, parse_date, ParseDateResult)
 }
 
 fn parse_date(text: &[u8], format: &LenientDateFormat) -> ParseDateResult
-    ensures { IsParsed (IsVariantOfDate format.now text.now) (IsLenientRejection text.now) parsed_date_ok parsed_date_error_at result }
+    ensures { IsParsed (IsVariantOfDate format.now text.now) (IsLenientRejection format.now text.now) parsed_date_ok parsed_date_error_at result }
 {
     result_of!(format.parse(text), date => ParseDateResult::ok(date), ParseDateResult)
 }
@@ -103,13 +103,13 @@ pub extern "C" fn fots_time_parse_leniently(
         → result ≡ parsed_time_error_at INSUFFICIENT_FORMAT no_position }
     ensures value { (items : List Item) → HasItems format.now items
         → ReadsTimes (lenient_of items pivot)
-        → IsParsed (IsVariantOfTime (lenient_of items pivot) text.now) (IsLenientRejection text.now) parsed_time_ok parsed_time_error_at result }
+        → IsParsed (IsVariantOfTime (lenient_of items pivot) text.now) (IsLenientRejection (lenient_of items pivot) text.now) parsed_time_ok parsed_time_error_at result }
 {
     parse_leniently!(text, format, pivot, for_times, parse_time, ParseTimeResult)
 }
 
 fn parse_time(text: &[u8], format: &LenientTimeFormat) -> ParseTimeResult
-    ensures { IsParsed (IsVariantOfTime format.now text.now) (IsLenientRejection text.now) parsed_time_ok parsed_time_error_at result }
+    ensures { IsParsed (IsVariantOfTime format.now text.now) (IsLenientRejection format.now text.now) parsed_time_ok parsed_time_error_at result }
 {
     result_of!(format.parse(text), time => ParseTimeResult::ok(time), ParseTimeResult)
 }
@@ -129,7 +129,7 @@ pub extern "C" fn fots_pair_parse_leniently(
         → result ≡ parsed_moment_error_at INSUFFICIENT_FORMAT no_position }
     ensures value { (items : List Item) → HasItems format.now items
         → ReadsDateTimes (lenient_of items pivot)
-        → IsParsed (IsVariantOfPair (lenient_of items pivot) text.now) (IsLenientRejection text.now) parsed_pair_ok parsed_moment_error_at result }
+        → IsParsed (IsVariantOfPair (lenient_of items pivot) text.now) (IsLenientRejection (lenient_of items pivot) text.now) parsed_pair_ok parsed_moment_error_at result }
 {
     parse_leniently!(
         text,
@@ -142,7 +142,7 @@ pub extern "C" fn fots_pair_parse_leniently(
 }
 
 fn parse_pair(text: &[u8], format: &LenientDateTimeFormat) -> ParseMomentResult
-    ensures { IsParsed (IsVariantOfPair format.now text.now) (IsLenientRejection text.now) parsed_pair_ok parsed_moment_error_at result }
+    ensures { IsParsed (IsVariantOfPair format.now text.now) (IsLenientRejection format.now text.now) parsed_pair_ok parsed_moment_error_at result }
 {
     result_of!(format.parse(text), date_time => ParseMomentResult::ok(date_time.assume_utc()), ParseMomentResult)
 }
@@ -162,7 +162,7 @@ pub extern "C" fn fots_moment_parse_leniently(
         → result ≡ parsed_moment_error_at INSUFFICIENT_FORMAT no_position }
     ensures value { (items : List Item) → HasItems format.now items
         → ReadsOffsetDateTimes (lenient_of items pivot)
-        → IsParsed (IsVariantOfMoment (lenient_of items pivot) text.now) (IsLenientRejection text.now) parsed_moment_ok parsed_moment_error_at result }
+        → IsParsed (IsVariantOfMoment (lenient_of items pivot) text.now) (IsLenientRejection (lenient_of items pivot) text.now) parsed_moment_ok parsed_moment_error_at result }
 {
     parse_leniently!(
         text,
@@ -175,7 +175,7 @@ pub extern "C" fn fots_moment_parse_leniently(
 }
 
 fn parse_moment(text: &[u8], format: &LenientOffsetDateTimeFormat) -> ParseMomentResult
-    ensures { IsParsed (IsVariantOfMoment format.now text.now) (IsLenientRejection text.now) parsed_moment_ok parsed_moment_error_at result }
+    ensures { IsParsed (IsVariantOfMoment format.now text.now) (IsLenientRejection format.now text.now) parsed_moment_ok parsed_moment_error_at result }
 {
     result_of!(format.parse(text), moment => ParseMomentResult::ok(moment), ParseMomentResult)
 }

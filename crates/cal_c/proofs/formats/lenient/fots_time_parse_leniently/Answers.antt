@@ -1,4 +1,5 @@
-use Rattle.std.proofs.Common.{List, subst, ◌∙◌}
+use Rattle.std.proofs.Common.{◌≡◌, ◌∙◌, List, subst, rules, FitsSigned, w32}
+use Rattle.std.proofs.lemmas.Int.{to_z-of_z}
 use Rattle.cal_format.specs.declared.item.Item.{Item}
 use Rattle.cal_format.specs.declared.lenient.LenientFormat.{LenientFormat}
 use Rattle.cal_format.specs.Lenient.{IsLenientRejection}
@@ -10,6 +11,8 @@ use Rattle.cal_c.proofs.formats.lenient.fots_time_parse_leniently.Goals as goal
 pub returns-clause-value : goal.returns-clause-value
 returns-clause-value c items has reads =
     let text = c.args.text.now in
-    let P : LenientFormat → Type 0 = λ f. IsParsed (IsVariantOfTime f text) (IsLenientRejection text) parsed_time_ok parsed_time_error_at c.parse_time.result in
+    let P : LenientFormat → Type 0 = λ f. IsParsed (IsVariantOfTime f text) (IsLenientRejection f text) parsed_time_ok parsed_time_error_at c.parse_time.result in
     let Q : List Item → Type 0 = λ xs. P (lenient_of xs c.args.pivot) in
-    at_items Q c.to_format.result c.in-Some-to_format.value items c.in-Some-to_format.is (c.to_format.ensures.every items has) (subst P (c.in-Some-for_times.ensures.same ∙ c.lenient.ensures) c.parse_time.ensures)
+    let fits : FitsSigned w32 c.args.pivot = search rules in
+    let made : c.lenient.result ≡ lenient_of c.in-Some.value c.args.pivot = simp to_z-of_z at c.lenient.ensures in
+    at_items Q c.to_format.result c.in-Some.value items c.in-Some.is (c.to_format.ensures.every items has) (subst P (c.in-Some-for_times.ensures.same ∙ made) c.parse_time.ensures)
