@@ -856,6 +856,30 @@ inline std::vector<fots_date> dates_of_c(const std::vector<Date> &dates)
 
 } // namespace detail
 
+// A known calendar of holidays.
+enum class Calendar : std::uint32_t {
+    Target = FOTS_TARGET,
+    UsFederal = FOTS_US_FEDERAL,
+    Nyse = FOTS_NYSE,
+    EnglandAndWales = FOTS_ENGLAND_AND_WALES,
+    DeBw = FOTS_DE_BW,
+    DeBy = FOTS_DE_BY,
+    DeBe = FOTS_DE_BE,
+    DeBb = FOTS_DE_BB,
+    DeHb = FOTS_DE_HB,
+    DeHh = FOTS_DE_HH,
+    DeHe = FOTS_DE_HE,
+    DeMv = FOTS_DE_MV,
+    DeNi = FOTS_DE_NI,
+    DeNw = FOTS_DE_NW,
+    DeRp = FOTS_DE_RP,
+    DeSl = FOTS_DE_SL,
+    DeSn = FOTS_DE_SN,
+    DeSt = FOTS_DE_ST,
+    DeSh = FOTS_DE_SH,
+    DeTh = FOTS_DE_TH
+};
+
 // The days of a week without holidays: at most FOTS_MAX_HOLIDAYS, in strictly ascending order.
 class Workdays {
 public:
@@ -880,6 +904,18 @@ public:
             throw error(made.status, position);
         }
         workdays_ = detail::value_or_throw(made).workdays;
+    }
+
+    // Takes Monday to Friday without the holidays of a calendar from one date through another.
+    static Workdays of(Calendar calendar, Date first, Date last)
+    {
+        std::vector<fots_date> dates(FOTS_MAX_HOLIDAYS);
+        const fots_number_result found = detail::value_or_throw(
+            fots_calendar_holidays(static_cast<std::uint32_t>(calendar), first.c(), last.c(), dates.data(), dates.size()));
+        Workdays made;
+        made.workdays_ =
+            detail::value_or_throw(fots_workdays_new(FOTS_MONDAY_TO_FRIDAY, dates.data(), static_cast<std::size_t>(found.number))).workdays;
+        return made;
     }
 
     bool is_workday(Date date) const { return detail::value_or_throw(fots_workdays_contains(&workdays_, date.c())).number == 1; }

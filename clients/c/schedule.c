@@ -246,6 +246,25 @@ static void workdays(void)
     many[7] = date_at(INT32_MAX);
     check(fots_workdays_new(31, many, 8).status == FOTS_INVALID_HOLIDAYS, "a holiday that is no date", 0, 0);
 
+    /* Counts the published holidays of a year. */
+    static const struct { uint32_t calendar; int32_t year, number; } calendars[] = {
+        {FOTS_TARGET, 2024, 6}, {FOTS_US_FEDERAL, 2021, 12}, {FOTS_NYSE, 2025, 11}, {FOTS_ENGLAND_AND_WALES, 2022, 10},
+        {FOTS_DE_BW, 2019, 12}, {FOTS_DE_BE, 2019, 10}, {FOTS_DE_TH, 2019, 11},
+    };
+    for (size_t row = 0; row < sizeof calendars / sizeof *calendars; row++) {
+        const fots_date first = day(calendars[row].year, 1, 1), last = day(calendars[row].year, 12, 31);
+        const fots_number_result found = fots_calendar_holidays(calendars[row].calendar, first, last, many, FOTS_MAX_HOLIDAYS);
+        check(found.status == FOTS_OK && found.number == calendars[row].number, "holidays of a year", calendars[row].calendar, found.number);
+        check(fots_calendar_holidays(calendars[row].calendar, first, last, many, (size_t)found.number - 1).status == FOTS_TOO_MANY_HOLIDAYS,
+            "room for one less", calendars[row].calendar, 0);
+    }
+    fots_calendar_holidays(FOTS_US_FEDERAL, day(2021, 12, 1), day(2021, 12, 31), many, 2);
+    check(many[0].julian_day == day(2021, 12, 24).julian_day && many[1].julian_day == day(2021, 12, 31).julian_day, "Christmas and New Year", 0, 0);
+    check(fots_calendar_holidays(20, day(2024, 1, 1), day(2024, 1, 1), many, 1).status == FOTS_INVALID_CALENDAR, "no calendar", 0, 0);
+    check(fots_calendar_holidays(0, date_at(INT32_MIN), day(2024, 1, 1), many, 1).status == FOTS_INVALID_DATE, "no first date", 0, 0);
+    check(fots_calendar_holidays(0, day(2024, 1, 1), date_at(INT32_MAX), many, 1).status == FOTS_INVALID_DATE, "no last date", 0, 0);
+    check(fots_calendar_holidays(0, day(2024, 1, 2), day(2024, 1, 1), many, 0).number == 0, "no days", 0, 0);
+
     /* Compares random weeks and moves with a count of one day at a time. */
     for (int turn = 0; turn < DRAWN; turn++) {
         const uint32_t marks = (uint32_t)(drawn() % 127) + 1;

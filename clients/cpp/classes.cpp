@@ -218,6 +218,10 @@ void workdays()
     check(plain.workdays_between(Date::parse("2024-01-01"), Date::parse("2025-01-01")) == 262, "those of 2024");
     check(Workdays({false, false, false, false, false, true, true}, {}).next_workday(friday) == Date::parse("2024-08-31"), "a weekend");
     check(Workdays(std::array<bool, 7>{}, {}).next_workday(friday) == std::nullopt, "no working day");
+    const Workdays target = Workdays::of(Calendar::Target, Date::parse("2024-01-01"), Date::parse("2024-12-31"));
+    check(target.next_workday(Date::parse("2024-03-28")) == Date::parse("2024-04-02"), "after Maundy Thursday");
+    throws([] { Workdays::of(Calendar::UsFederal, Date::parse("1971-01-01"), Date::parse("2099-12-31")); }, FOTS_TOO_MANY_HOLIDAYS,
+        "too many holidays", "the holidays of 129 years");
     throws([&] { Workdays({labor_day, labor_day}); }, FOTS_INVALID_HOLIDAYS, "holidays[1] is not after holidays[0]", "a holiday twice");
     throws([&] { Workdays({friday, labor_day, tuesday, labor_day}); }, FOTS_INVALID_HOLIDAYS, "holidays[3] is not after holidays[2]", "holidays out of order");
 }

@@ -51,6 +51,25 @@ static PyObject *core_rule_days_after(PyObject *self, PyObject *const *given, Py
         list_of_date(state, days, result.length);
 }
 
+/* Returns the holidays of a calendar, by its number, from one day through another. */
+static PyObject *core_calendar_holidays(PyObject *self, PyObject *const *given, Py_ssize_t count)
+{
+    const State *state = state_of_module(self);
+    fots_date first, last, holidays[FOTS_MAX_HOLIDAYS];
+    if (!is_count("calendar_holidays", count, 3) || !to_date(state, given[1], &first) ||
+        !to_date(state, given[2], &last)) {
+        return NULL;
+    }
+    unsigned long calendar = PyLong_AsUnsignedLong(given[0]);
+    if (PyErr_Occurred()) {
+        return NULL;
+    }
+    fots_number_result result =
+        fots_calendar_holidays((uint32_t)calendar, first, last, holidays, FOTS_MAX_HOLIDAYS);
+    return result.status ? raise_status(state, result.status) :
+        list_of_date(state, holidays, (size_t)result.number);
+}
+
 /* Returns the first days of a recurrence with a start from a day on. */
 static PyObject *core_recurrence_days(PyObject *self, PyObject *const *given, Py_ssize_t count)
 {

@@ -23,6 +23,9 @@ from .zones import Zone, ZonedDateTime
 # The lists of a rule, and their numbers in C as the module array has them.
 _LISTS = {"months": "B", "weeks": "b", "year_days": "h", "month_days": "b", "weekdays": "b",
     "set_positions": "h", "dates": "i", "exceptions": "i"}
+# The calendars of holidays, by their numbers in C.
+_CALENDARS = ("target", "us-federal", "nyse", "england-and-wales", *(
+    f"de-{state}" for state in "bw by be bb hb hh he mv ni nw rp sl sn st sh th".split()))
 _UNTIL = "%Y%m%dT%H%M%S%.fZ"
 _NANOSECOND = _core.nanoseconds(1)
 _Readings = Iterable[PlainDateTime]
@@ -201,6 +204,20 @@ class Workdays(_core.Workdays):
         weekmask = sum({1 << check(weekday, Weekday) for weekday in weekdays})
         julian_days = sorted({check(holiday, Date).to_julian_day() for holiday in holidays})
         return super().__new__(cls, weekmask, array.array("i", julian_days).tobytes())
+
+    @staticmethod
+    def of(calendar: str, first: Date = Date(1990, 1, 1), last: Date = Date(2059, 12, 31)
+           ) -> Workdays:
+        """Monday to Friday without the holidays of a calendar from one date through another. It is
+        `target`, `us-federal`, `nyse`, `england-and-wales`, or a state of Germany, such as `de-be`.
+        Another name raises `ValueError`, and so do more than 1024 holidays.
+
+        >>> Workdays.of("target").add_workdays(Date(2024, 3, 28), 1)
+        Date(2024, 4, 2)
+        """
+        if check(calendar, str) not in _CALENDARS:
+            raise ValueError(f"unknown calendar {calendar!r}; expected {', '.join(_CALENDARS)}")
+        return Workdays(holidays=_core.calendar_holidays(_CALENDARS.index(calendar), first, last))
 
     @property
     def weekdays(self) -> tuple[Weekday, ...]:

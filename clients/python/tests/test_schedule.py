@@ -266,6 +266,21 @@ class Months(unittest.TestCase):
         self.assertRaises(OverflowError, easter, 2**31)
         self.assertRaises(TypeError, easter, Date(2024, 1, 1))
 
+    def test_calendars(self):
+        """Published holidays: the New Year of 2022 was on the last day of 2021 in the United States."""
+        year = day(2021, 1, 1), day(2021, 12, 31)
+        self.assertEqual([str(holiday)[5:] for holiday in Workdays.of("us-federal", *year).holidays],
+                         "01-01 01-18 02-15 05-31 06-18 07-05 09-06 10-11 11-11 11-25 12-24 12-31".split())
+        self.assertEqual([str(holiday)[5:] for holiday in Workdays.of("de-sn", *year).holidays],
+                         "01-01 04-02 04-05 05-01 05-13 05-24 10-03 10-31 11-17 12-25 12-26".split())
+        self.assertTrue(Workdays.of("de-be").is_workday(day(2018, 3, 8)))
+        self.assertFalse(Workdays.of("de-be").is_workday(day(2019, 3, 8)))
+        self.assertEqual(Workdays.of("nyse").weekdays, Workdays().weekdays)
+        self.assertRaises(ValueError, Workdays.of, "de")
+        self.assertRaises(ValueError, Workdays.of, "us-federal", Date.MIN, Date.MAX)
+        self.assertRaises(TypeError, Workdays.of, 1)
+        self.assertRaises(TypeError, Workdays.of, "nyse", "2024-01-01")
+
     def test_weekdays(self):
         self.assertEqual(Date.nth_weekday_of_month(2024, Month.November, Weekday.Thursday, 4), day(2024, 11, 28))
         fridays = [26, 23, 29, 26, 31, 28, 26, 30, 27, 25, 29, 27]
