@@ -277,7 +277,7 @@ class RecurrencesInZones(unittest.TestCase):
             change = zone.next_change(draw.randrange(1200000000, 1700000000)) or 1300000000
             near = OffsetDateTime.from_unix_timestamp(change + draw.randrange(-7200, 93600, 900)).to_offset(zone.offset_at(change - 1)).local()
             start = near.to_datetime() - datetime.timedelta(days=draw.choice((0, 0, 1, 2, 7, 30)))
-            frequency, interval, week_start = draw.choice(list(Frequency)), draw.choice((1, 1, 1, 2, 3)), draw.choice(list(Weekday))
+            frequency, interval, week_start = draw.choice(list(Frequency)[:4]), draw.choice((1, 1, 1, 2, 3)), draw.choice(list(Weekday))
             parts = {"bymonth": draw.sample(range(1, 13), 9)} if draw.random() < 0.3 else {}
             if frequency != Frequency.Weekly and draw.random() < 0.3:
                 parts["bymonthday"] = draw.sample([*range(1, 32), -1, -2], 12)

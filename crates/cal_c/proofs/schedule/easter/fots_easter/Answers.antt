@@ -1,4 +1,4 @@
-use Rattle.std.proofs.Common.{ap, sym, ◌∙◌}
+use Rattle.std.proofs.Common.{ap, rules, ◌∙◌, FitsSigned, w32}
 use Rattle.std.proofs.Math.Facts.{to_z-of_z}
 use Rattle.cal_time.specs.Date.{julian_day_at}
 use Rattle.cal_text.proofs.Results.{not_ok, one}
@@ -20,7 +20,9 @@ pub returns-in-Err : goal.returns-in-Err
 returns-in-Err c =
     let g = c.ranges.year in
     let every = simp to_z-of_z at c.in-Err.ensures.every in
+    let status : FitsSigned w32 c.error_status.result = search rules in
+    let error = simp to_z-of_z at c.error.ensures in
     record {
       day = λ n is easter. absurd (not_ok _ _ (every n is easter));
-      no_year = λ none. c.error.ensures ∙ ap date_error (c.error_status.ensures ∙ ap (λ e. component_status e.component) c.in-Err.ensures.error_kind);
+      no_year = λ none. error ∙ ap date_error (c.error_status.ensures ∙ ap (λ e. component_status e.component) c.in-Err.ensures.error_kind);
     }

@@ -1,8 +1,15 @@
+use Rattle.std.proofs.Common.{ap, rules, ◌∙◌, FitsSigned, w32}
+use Rattle.std.proofs.Math.Facts.{to_z-of_z}
 use Rattle.std.specs.Prelude.{Err, Ok}
+use Rattle.cal_c.specs.Intervals.{parsed_pairs_error_at}
+use Rattle.cal_c.specs.Texts.{no_position}
 use Rattle.cal_c.proofs.texts.intervals.ranges.pairs_result.Goals as goal
 
 pub returns-in-Ok : goal.returns-in-Ok
 returns-in-Ok c = (Ok c.in-Ok.range, c.in-Ok.ensures, c.ok.ensures)
 
 pub returns-in-Err : goal.returns-in-Err
-returns-in-Err c = (Err c.in-Err.error, c.in-Err.ensures, c.error_at.ensures)
+returns-in-Err c =
+    let status : FitsSigned w32 c.interval_status.result = search rules in
+    let error = simp to_z-of_z at c.error_at.ensures in
+    (Err c.in-Err.error, c.in-Err.ensures, error ∙ ap (λ s. parsed_pairs_error_at s no_position) c.interval_status.ensures)
