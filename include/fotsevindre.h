@@ -1426,6 +1426,18 @@ fots_parse_moment_result fots_pair_parse(const char *text, size_t length);
  * FOTS_UNEXPECTED_END, and "2024-02-29T24:00+26:00" FOTS_HOUR_OUT_OF_RANGE. */
 fots_parse_moment_result fots_offset_date_time_parse(const char *text, size_t length);
 
+/* Parse any format of ISO 8601, in the extended or in the basic format: a date such as "20240229",
+ * "2024060" or "2024W094"; a time of day such as "225959,25", "T2259" or "22"; both, with T, t or a
+ * space between them, where a date alone is its midnight; and both with an offset, such as "Z",
+ * "+01", "+0100" or "+01:00:30", with one space before it or none. A fraction has up to 18 digits, of
+ * which those after the ninth are zeros. The errors are as for fots_date_parse, fots_time_parse,
+ * fots_pair_parse and fots_offset_date_time_parse. "2024-0229" is FOTS_UNEXPECTED_BYTE at 8, and
+ * "20240229T10" is FOTS_UNEXPECTED_END for fots_moment_parse_iso. */
+fots_parse_date_result fots_date_parse_iso(const char *text, size_t length);
+fots_parse_time_result fots_time_parse_iso(const char *text, size_t length);
+fots_parse_moment_result fots_pair_parse_iso(const char *text, size_t length);
+fots_parse_moment_result fots_moment_parse_iso(const char *text, size_t length);
+
 /* Parses a moment of RFC 3339, such as "2024-02-29T23:59:59.25+01:00". T may be t or a space, and Z
  * may be z. Digits after the ninth of a fraction are ignored. Errors: FOTS_MONTH_OUT_OF_RANGE,
  * FOTS_DAY_OUT_OF_RANGE, FOTS_HOUR_OUT_OF_RANGE, FOTS_MINUTE_OUT_OF_RANGE, FOTS_SECOND_OUT_OF_RANGE

@@ -10,7 +10,7 @@ use std::path::{Path, PathBuf};
 use std::process::ExitCode;
 
 /// The libraries, as modules of the crate.
-const CRATES: [&str; 18] = [
+const CRATES: [&str; 19] = [
     "cal_units",
     "cal_span",
     "cal_clock",
@@ -19,6 +19,7 @@ const CRATES: [&str; 18] = [
     "cal_datetime",
     "cal_schedule",
     "cal_text",
+    "cal_iso",
     "cal_duration",
     "cal_holidays",
     "cal_format",

@@ -13,6 +13,7 @@ pub mod date_times;
 pub mod durations;
 mod formatting;
 mod intervals;
+pub mod iso;
 pub mod parsing;
 
 /// The bytes of a text: enough for the longest one and a zero byte.
