@@ -515,6 +515,32 @@ static void texts_of_times(void)
     }
 }
 
+/* Texts of ISO 8601-1, of RFC 3339, part 5.8, and as PostgreSQL prints them. */
+static void texts_of_iso(void)
+{
+    static const char *const april[] = {"1985-04-12", "19850412", "1985-102", "1985102", "1985-W15-5", "1985W155"};
+    const fots_date day = date_of(1985, 4, 12);
+    const fots_offset none = fots_pair_parse("1985-04-12T00:00", 16).offset;
+    for (int k = 0; k < COUNT(april); k++) {
+        is_parsed(fots_date_parse_iso(april[k], strlen(april[k])), day, april[k]);
+        is_moment(fots_pair_parse_iso(april[k], strlen(april[k])), day, 0, none, april[k]);
+    }
+    is_parsed(fots_date_parse_iso("1985-W15", 8), date_of(1985, 4, 8), "the Monday of a week");
+    is_parse_error(fots_date_parse_iso("1985-0412", 9), FOTS_UNEXPECTED_BYTE, 8, "a hyphen only after the year");
+    is_parse_error(fots_date_parse_iso("198504-12", 9), FOTS_UNEXPECTED_BYTE, 6, "no hyphen after the year");
+    is_parse_error(fots_date_parse_iso("1985-04", 7), FOTS_UNEXPECTED_END, 7, "a month");
+    is_moment(fots_pair_parse_iso("19850412T101530", 15), day, 36930000000000, none, "a date-time in the basic format");
+    const fots_parse_time_result time = fots_time_parse_iso("T232050,5", 9);
+    check(time.status == FOTS_OK && time.time == 84050500000000 && time.position == SIZE_MAX, "a fraction after a comma", time.status, time.time);
+    const fots_parse_time_result late = fots_time_parse_iso("24:00", 5);
+    check(late.status == FOTS_HOUR_OUT_OF_RANGE && late.time == FOTS_NO_TIME, "the hour 24", late.status, late.time);
+    const fots_parse_time_result many = fots_time_parse_iso("23:20:50.1234567890001", 22);
+    check(many.status == FOTS_UNEXPECTED_BYTE && many.position == 21, "more than a nanosecond", many.status, (long long)many.position);
+    is_moment(fots_moment_parse_iso("1985-04-12T23:20:50.52Z", 23), day, 84050520000000, offset_at(0), "a moment of RFC 3339");
+    is_moment(fots_moment_parse_iso("2024-02-29 22:59:59.25+00", 25), date_of(2024, 2, 29), 82799250000000, offset_at(0), "a moment of PostgreSQL");
+    is_moment(fots_moment_parse_iso("19850412T101530+0400", 20), day, 36930000000000, offset_at(14400), "a moment in the basic format");
+}
+
 static void texts_of_offsets(void)
 {
     static const TextRow rows[] = {
@@ -757,6 +783,7 @@ int main(void)
     texts_of_days();
     invalid_texts_of_days();
     texts_of_times();
+    texts_of_iso();
     texts_of_offsets();
     texts_of_date_times();
     texts_of_moments();

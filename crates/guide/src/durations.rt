@@ -1,21 +1,10 @@
 //! Durations and periods in text.
-ghost use Rattle.std.specs.Prelude.{◌≡◌, ℤ, Ok, Some};
-ghost use Rattle.cal_duration.specs.Values.{IsDurationText};
+ghost use Rattle.std.specs.Prelude.{◌≡◌, Ok};
 
 use cal_duration::{ParseDurationError, duration, period};
 use cal_schedule::Period;
 use cal_time::SignedDuration;
 use std::io;
-
-/// Returns the time that a line of a time sheet spells, such as `PT1H30M`.
-fn worked(line: &[u8]) -> Option<SignedDuration>
-    ensures { (v : ℤ) → IsDurationText line.now v → result ≡ Some v }
-{
-    match duration::parse(line) {
-        Ok(found) => Some(found),
-        Err(_) => None,
-    }
-}
 
 /// Prints a duration and parses it, which gives it back.
 fn read_back(value: SignedDuration) -> Result<SignedDuration, ParseDurationError>
@@ -34,7 +23,6 @@ fn period_read_back(value: Period) -> Result<Period, ParseDurationError>
 }
 
 pub fn show(rt: &impl Print) -> io::Result<()> {
-    println!(rt; "{:?} {:?}", worked(b"PT1H30M"), worked(b"90 min"))?;
     println!(rt; "{:?}", read_back(SignedDuration::minutes(-90)))?;
     match period::parse(b"P1Y2M10DT2H30M") {
         Ok(found) => println!(rt;
