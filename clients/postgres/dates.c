@@ -92,6 +92,18 @@ Datum cal_from_iso_week(PG_FUNCTION_ARGS)
     PG_RETURN_DATEADT(from_date("ISO week", fots_date_from_iso_week_date(GET_INT32(0), (uint32)GET_INT32(1), (uint32)GET_INT32(2))));
 }
 
+PG_FUNCTION_INFO_V1(cal_easter);
+Datum cal_easter(PG_FUNCTION_ARGS)
+{
+    PG_RETURN_DATEADT(from_date("Easter", fots_easter(GET_INT32(0))));
+}
+
+PG_FUNCTION_INFO_V1(cal_julian_easter);
+Datum cal_julian_easter(PG_FUNCTION_ARGS)
+{
+    PG_RETURN_DATEADT(from_date("Easter", fots_julian_easter(GET_INT32(0))));
+}
+
 /* ---- a date to a number or a text */
 
 static Datum number_of(const char *what, int32 status, int32 number)

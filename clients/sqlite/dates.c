@@ -110,6 +110,15 @@ static void from_iso_week(const sql_function *function, sqlite3_context *context
     }
 }
 
+static void easter(const sql_function *function, sqlite3_context *context, int count, sqlite3_value **values)
+{
+    int32_t year;
+    (void)count;
+    if (get_number(context, values[0], &year)) {
+        set_date(context, function->call->name, function->call->form ? fots_julian_easter(year) : fots_easter(year));
+    }
+}
+
 static void iso_year(const sql_function *function, sqlite3_context *context, int count, sqlite3_value **values)
 {
     fots_date date;
@@ -251,6 +260,8 @@ const sql_call sql_date_calls[] = {
     {"cal_add_period", 2, 2, add_period, NULL, NULL, NULL, 0, 0},
     {"cal_nth_weekday", 4, 4, nth_weekday, NULL, NULL, NULL, 0, 0},
     {"cal_from_iso_week", 3, 3, from_iso_week, NULL, NULL, NULL, 0, 0},
+    {"cal_easter", 1, 1, easter, NULL, NULL, NULL, 0, 0},
+    {"cal_julian_easter", 1, 1, easter, NULL, NULL, NULL, 1, 0},
     {"cal_iso_year", 1, 1, iso_year, NULL, NULL, NULL, 0, 0},
     {"cal_week_text", 1, 1, week_text, NULL, NULL, NULL, 0, 0},
     {"cal_age", 2, 3, age, NULL, NULL, NULL, 0, 0},
