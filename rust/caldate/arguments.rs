@@ -20,7 +20,7 @@ use caldate_answers::reading::reader::Reader;
 use caldate_answers::reading::value_format::ValueFormat;
 use caldate_answers::reading::{DateOrder, Reading};
 use caldate_answers::request::*;
-use caldate_args::args::arguments::{MAX_BYTES, join};
+use caldate_args::args::arguments::{BUFFER_BYTES, join};
 use caldate_args::args::asked_by;
 use caldate_args::command::*;
 use caldate_args::data_files::system_files::SystemFiles;
@@ -119,7 +119,7 @@ fn word(rest: &mut &[u8]) -> Vec<u8> {
 
 /// Returns the command of a call, or its status and message.
 fn answer(call: &Call<'_>) -> Vec<u8> {
-    let mut buffer = [0; MAX_BYTES];
+    let mut buffer = [0; BUFFER_BYTES];
     let joined = join(call, &mut buffer);
     let words = joined.map(|joined| joined.words);
     let mut folder = [0; MAX_PATH_BYTES];
@@ -323,20 +323,28 @@ fn unit_of_calendar(unit: CalendarUnit) -> &'static str {
 fn request_text(request: &Request<'_>) -> String {
     match request {
         Request::To(form) => format!("to {}", form_name(*form)),
+        Request::ToIso => "to iso".into(),
         Request::Print(format) => format!("print {}", printed(format)),
         Request::Move(by) => move_text(*by),
         Request::MoveAt(clock, by) => {
             format!("at {} {}", clock_text(clock), move_text(*by))
         }
-        Request::Until(own, target, unit) => format!("{}until {}", own_text(own), target_text(target, *unit)),
-        Request::Since(own, target, unit) => format!("{}since {}", own_text(own), target_text(target, *unit)),
-        Request::At(Place::Offset(offset)) => format!("at {}", offset.whole_seconds()),
-        Request::At(Place::Zone(zone)) => format!("at {}", zone_text(zone)),
+        Request::Until(own, target, measure) => format!("{}until {}", own_text(own), target_text(target, *measure)),
+        Request::Since(own, target, measure) => format!("{}since {}", own_text(own), target_text(target, *measure)),
+        Request::At(place, form) => format!("at {} to {}", place_text(place), form_name(*form)),
+        Request::PrintAt(place, format) => format!("at {} print {}", place_text(place), printed(format)),
         Request::Keep(Bounds::FromTo(first, last)) => {
             format!("keep from {} to {}", found_text(first), found_text(last))
         }
         Request::Keep(Bounds::After(bound)) => format!("keep after {}", found_text(bound)),
         Request::Keep(Bounds::Before(bound)) => format!("keep before {}", found_text(bound)),
+    }
+}
+
+fn place_text(place: &Place<'_>) -> String {
+    match place {
+        Place::Offset(offset) => format!("{}", offset.whole_seconds()),
+        Place::Zone(zone) => zone_text(zone),
     }
 }
 
@@ -364,6 +372,13 @@ fn move_text(by: Move) -> String {
         Move::Days(duration) => format!("add {}d", duration.whole_seconds()),
         Move::Add(duration) => format!("add {}s", duration.whole_seconds()),
         Move::Floor(minutes) => format!("floor {minutes}"),
+        Move::Period(period) => format!(
+            "add {} months {} days {}",
+            period.whole_months(),
+            period.whole_days(),
+            period.duration().whole_nanoseconds()
+        ),
+        Move::Round(unit) => format!("round {}s", unit.length().whole_seconds()),
     }
 }
 
@@ -390,14 +405,17 @@ fn clock_text(clock: &Clock<'_>) -> String {
     format!("{} {}", zone_text(&clock.zone), policy_name(clock.policy))
 }
 
-fn target_text(target: &Target<'_>, unit: Option<TimeUnit>) -> String {
+fn target_text(target: &Target<'_>, measure: Option<Measure>) -> String {
     let text = match target {
         Target::Text(found) => found_text(found),
         Target::Fields(numbers) => format!("field {}+{}", numbers.first, numbers.joined),
         Target::Name(name) => format!("field {}", String::from_utf8_lossy(name.as_bytes())),
     };
-    match unit {
-        Some(unit) => format!("{text} in {}", unit_name(unit)),
+    match measure {
+        Some(Measure::Units(unit)) => format!("{text} in {}", unit_name(unit)),
+        Some(Measure::Period) => format!("{text} in P"),
+        Some(Measure::Duration) => format!("{text} in PT"),
+        Some(Measure::Clock) => format!("{text} in HH:MM:SS"),
         None => text,
     }
 }

@@ -3,7 +3,7 @@
 #![tactic(auto)]
 
 use cal_time::Date;
-use caldate_args::args::arguments::{MAX_BYTES, join};
+use caldate_args::args::arguments::{BUFFER_BYTES, join};
 use caldate_args::args::asked_by;
 use caldate_args::data_files::system_files::SystemFiles;
 use caldate_args::files::Joined;
@@ -18,7 +18,7 @@ use std::process::ExitCode;
 /// Returns status 0, or another status after writing the reason to standard error.
 fn main(rt: HostRuntime) -> ExitCode {
     let now = read_clock(&rt);
-    let mut arguments = [0u8; MAX_BYTES];
+    let mut arguments = [0u8; BUFFER_BYTES];
     let joined = join(&rt, &mut arguments);
     let words = joined.map(|joined| joined.words);
     let mut folder = [0u8; MAX_PATH_BYTES];

@@ -4,6 +4,7 @@ pub mod ClockMoves
 pub mod DateShapes
 pub mod DigitBounds
 pub mod DigitStarts
+pub mod Durations
 pub mod FirstForms
 pub mod Lacks
 pub mod Laters
@@ -12,6 +13,7 @@ pub mod LocalShapes
 pub mod Marks
 pub mod OneAnswer
 pub mod Outside
+pub mod Periods
 pub mod OneCount
 pub mod OneMoment
 pub mod Printed

@@ -6,7 +6,7 @@ use Rattle.std.proofs.lemmas.List.{take_rest}
 use Rattle.cal_text.specs.declared.any.DateOrMoment.{DateOrMoment}
 use Rattle.caldate_answers.specs.Answers.{IsNotRead, IsReadAs}
 use Rattle.caldate_answers.specs.Readers.{has_form}
-use Rattle.caldate_answers.specs.Scans.{IsFirstText, IsReadWith, IsText, IsTextAt, NoneFrom, fitted, is_of_word, may_begin, part_at, with_words}
+use Rattle.caldate_answers.specs.Scans.{IsFirstText, IsReadWith, IsText, IsTextAt, NoneFrom, fitted, is_likely, is_of_word, may_begin, part_at, with_words}
 use Rattle.caldate_answers.specs.declared.request.Filter.{Filter}
 use Rattle.caldate_lines.specs.declared.no_answer.NoAnswer.{NoAnswer}
 use Rattle.caldate_lines.specs.declared.no_answer.NoAnswer.TheVariants as why
@@ -33,12 +33,12 @@ read_so filter bytes (Err any) is not = not
 
 -- whether bytes of the line are a text, by what their reading gives
 pub read_there : (filter : Filter) (line : List ℕ) (k n : ℕ) (bytes : List ℕ) (r : Option (Result DateOrMoment NoAnswer)) → k + n ≤ length line
-    → may_begin line k ≡ true → is_of_word (slice_index line (k + n)) ≡ false → bytes ≡ part_at line k n
+    → may_begin line k ≡ true → is_of_word (slice_index line (k + n)) ≡ false → bytes ≡ part_at line k n → is_likely filter bytes ≡ true
     → MatchOption r (¬ IsText filter bytes) (λ read. IsText filter bytes × IsReadWith filter bytes read)
     → MatchOption r (¬ IsTextAt filter line k n) (λ read. IsTextAt filter line k n × IsReadWith filter (part_at line k n) read)
-read_there filter line k n bytes None within before after e none = λ h. none (subst (IsText filter) (sym e) h.is)
-read_there filter line k n bytes (Some read) within before after e some = (
-  record { within = within; is = subst (IsText filter) e some.0; before = before; after = after },
+read_there filter line k n bytes None within before after e likely none = λ h. none (subst (IsText filter) (sym e) h.is)
+read_there filter line k n bytes (Some read) within before after e likely some = (
+  record { within = within; is = subst (IsText filter) e some.0; before = before; after = after; likely = subst (λ b. is_likely filter b ≡ true) e likely },
   subst (λ b. IsReadWith filter b read) e some.1,
 )
 

@@ -7,6 +7,9 @@ use Rattle.cal_time.specs.SignedDuration.{whole_days}
 use Rattle.cal_time.specs.SignedDuration as duration
 use Rattle.cal_datetime.specs.DateTime.{IsDateTime, date_time}
 use Rattle.cal_datetime.specs.OffsetDateTime.{LocalAndOffset, instant, local_at, unix_seconds}
+use Rattle.cal_duration.specs.DurationText.{duration_text}
+use Rattle.cal_format.specs.declared.item.Item.{Item}
+use Rattle.cal_schedule.specs.Period.{Parts}
 use Rattle.cal_text.specs.declared.any.DateOrMoment.{DateOrMoment}
 use Rattle.cal_text.specs.declared.any.DateOrMoment.TheVariants as read
 use Rattle.cal_text.specs.declared.any.MomentForm.TheVariants.{Rfc3339}
@@ -21,22 +24,25 @@ use Rattle.caldate_answers.specs.Counts.{IsCount}
 use Rattle.caldate_answers.specs.ClockCounts.{IsCountOn}
 use Rattle.caldate_answers.specs.Bounds.{lies_in}
 use Rattle.caldate_answers.specs.Forms.{IsInForm, format_text}
-pub use Rattle.caldate_answers.specs.Found.{day_of, form_read, is_date, moment_of}
+pub use Rattle.caldate_answers.specs.Found.{day_of, form_iso, form_read, is_date, moment_of}
 use Rattle.caldate_answers.specs.ClockMoves.{IsMovedOn}
 pub use Rattle.caldate_answers.specs.Moves.{floored, on_day}
-use Rattle.caldate_answers.specs.Moves.{MovesTo}
+use Rattle.caldate_answers.specs.Moves.{IsNearest, MovesTo}
+use Rattle.caldate_answers.specs.Periods.{IsAfter, IsPeriodBetween, IsPeriodOn, IsPeriodText, duration_from, hours_text}
 use Rattle.caldate_answers.specs.Readers.{IsFoundBy, IsUnread}
 use Rattle.caldate_answers.specs.declared.request.Clock.{Clock}
 use Rattle.caldate_answers.specs.declared.request.DayMove.{DayMove}
 use Rattle.caldate_answers.specs.declared.request.Filter.{Filter}
 use Rattle.caldate_answers.specs.declared.request.Form.{Form}
 use Rattle.caldate_answers.specs.declared.request.Form.TheVariants.{Moment}
+use Rattle.caldate_answers.specs.declared.request.Measure.{Measure}
+use Rattle.caldate_answers.specs.declared.request.Measure.TheVariants as measure
 use Rattle.caldate_answers.specs.declared.request.Move.{Move as AnyMove}
 use Rattle.caldate_answers.specs.declared.request.Move.TheVariants as move
 use Rattle.caldate_answers.specs.declared.request.Place.{Place}
 use Rattle.caldate_answers.specs.declared.request.Place.TheVariants as place
 use Rattle.caldate_answers.specs.declared.request.Request.{Request}
-use Rattle.caldate_answers.specs.declared.request.Request.TheVariants.{To, Print, Move, MoveAt, Until, Since, At, Keep}
+use Rattle.caldate_answers.specs.declared.request.Request.TheVariants.{To, ToIso, Print, Move, MoveAt, Until, Since, At, PrintAt, Keep}
 use Rattle.caldate_answers.specs.declared.request.Target.TheVariants as target
 use Rattle.caldate_answers.specs.declared.request.TimeUnit.{TimeUnit}
 
@@ -61,10 +67,17 @@ until_text from to =
     if is_date from && is_date to then signed_decimal (julian_day_at (day_of to) -ℤ julian_day_at (day_of from))
     else duration.text (instant (moment_of to) -ℤ instant (moment_of from))
 
--- With a unit, the text is the number of whole units, truncated toward zero.
-abbrev pub IsBetween : WorkWeek → Option TimeUnit → DateOrMoment → DateOrMoment → List ℕ → Type 0
+-- With a unit, the text is the number of whole units, truncated toward zero. Otherwise it is a period
+-- or a duration.
+abbrev pub IsMeasured : WorkWeek → Measure → DateOrMoment → DateOrMoment → List ℕ → Type 0
+IsMeasured workdays (measure.Units unit) from to words = (z : ℤ) × IsCount workdays unit (moment_of from) (moment_of to) z × (words ≡ signed_decimal z)
+IsMeasured workdays measure.Period from to words = IsPeriodText (IsPeriodBetween (moment_of from) (moment_of to)) words
+IsMeasured workdays measure.Duration from to words = words ≡ duration_text (duration_from from to)
+IsMeasured workdays measure.Clock from to words = words ≡ hours_text (duration_from from to)
+
+abbrev pub IsBetween : WorkWeek → Option Measure → DateOrMoment → DateOrMoment → List ℕ → Type 0
 IsBetween workdays None from to words = words ≡ until_text from to
-IsBetween workdays (Some unit) from to words = (z : ℤ) × IsCount workdays unit (moment_of from) (moment_of to) z × (words ≡ signed_decimal z)
+IsBetween workdays (Some measure) from to words = IsMeasured workdays measure from to words
 
 -- Moment m is the moment `from` at the offset.
 pub record IsShownAt (offset : ℤ) (from m : LocalAndOffset) : Type 0 where
@@ -76,9 +89,12 @@ abbrev pub offset_in : Place → LocalAndOffset → ℤ
 offset_in (place.Offset offset) from = offset
 offset_in (place.Zone zone) from = offset_at zone (unix_seconds (instant from))
 
--- The words are the moment in RFC 3339, at the offset of the place.
-abbrev pub IsAt : Place → LocalAndOffset → List ℕ → Type 0
-IsAt place from words = (m : LocalAndOffset) × IsShownAt (offset_in place from) from m × IsInForm (Moment Rfc3339) m words
+-- The words are the moment in a form or a format, at the offset of the place.
+abbrev pub IsAt : Place → Form → LocalAndOffset → List ℕ → Type 0
+IsAt place form from words = (m : LocalAndOffset) × IsShownAt (offset_in place from) from m × IsInForm form m words
+
+abbrev pub IsPrintedAt : Place → List Item → LocalAndOffset → List ℕ → Type 0
+IsPrintedAt place items from words = (m : LocalAndOffset) × IsShownAt (offset_in place from) from m × (words ≡ format_text items m)
 
 -- The words are the moved day in the form that was read, at the same time of day.
 abbrev pub IsOnMovedDay : WorkWeek → DayMove → DateOrMoment → List ℕ → Type 0
@@ -88,12 +104,22 @@ IsOnMovedDay workdays by found words = (n : ℕ) × MovesTo workdays by (day_of 
 abbrev pub IsAnswerLater : ℤ → DateOrMoment → List ℕ → Type 0
 IsAnswerLater d found words = (m : LocalAndOffset) × IsLater found d m × IsInForm (form_read found) m words
 
+-- The words are the date or moment after a period, in the form that was read.
+abbrev pub IsAnswerAfter : Parts → DateOrMoment → List ℕ → Type 0
+IsAnswerAfter p found words = (m : LocalAndOffset) × IsAfter found p m × IsInForm (form_read found) m words
+
+-- The words are the rounded date or moment in the form that was read.
+abbrev pub IsAnswerNearest : ℕ → DateOrMoment → List ℕ → Type 0
+IsAnswerNearest n found words = (m : LocalAndOffset) × IsNearest n (moment_of found) m × IsInForm (form_read found) m words
+
 -- The words are the moved date or moment in the form that was read. A moment keeps its offset.
 abbrev pub IsMoved : WorkWeek → AnyMove → DateOrMoment → List ℕ → Type 0
 IsMoved workdays (move.Day by) found words = IsOnMovedDay workdays by found words
 IsMoved workdays (move.Days d) found words = IsAnswerLater d found words
 IsMoved workdays (move.Add d) found words = IsAnswerLater d found words
 IsMoved workdays (move.Floor n) found words = IsInForm (form_read found) (floored n (moment_of found)) words
+IsMoved workdays (move.Period p) found words = IsAnswerAfter p found words
+IsMoved workdays (move.Round n) found words = IsAnswerNearest n found words
 
 -- The words are the moment in a form, moved by the clocks of a zone.
 abbrev pub IsMovedAt : Clock → WorkWeek → AnyMove → Form → LocalAndOffset → List ℕ → Type 0
@@ -104,26 +130,44 @@ abbrev pub IsMovedBy : Option Clock → WorkWeek → AnyMove → DateOrMoment �
 IsMovedBy (Some clock) workdays by (read.Moment form m) words = IsMovedAt clock workdays by (Moment form) m words
 IsMovedBy clock workdays by found words = IsMoved workdays by found words
 
--- With a clock, whole units go by it.
-abbrev pub IsBetweenBy : Option Clock → WorkWeek → Option TimeUnit → DateOrMoment → DateOrMoment → List ℕ → Type 0
-IsBetweenBy (Some clock) workdays (Some unit) from to words = (z : ℤ) × IsCountOn clock.zone workdays unit from to z × (words ≡ signed_decimal z)
-IsBetweenBy clock workdays unit from to words = IsBetween workdays unit from to words
+-- With a clock, whole units and periods go by it. A duration is the same by all clocks.
+abbrev pub IsMeasuredOn : Clock → WorkWeek → Measure → DateOrMoment → DateOrMoment → List ℕ → Type 0
+IsMeasuredOn clock workdays (measure.Units unit) from to words = (z : ℤ) × IsCountOn clock.zone workdays unit from to z × (words ≡ signed_decimal z)
+IsMeasuredOn clock workdays measure.Period from to words = IsPeriodText (IsPeriodOn clock from to) words
+IsMeasuredOn clock workdays other from to words = IsMeasured workdays other from to words
+
+abbrev pub IsBetweenOn : Clock → WorkWeek → Option Measure → DateOrMoment → DateOrMoment → List ℕ → Type 0
+IsBetweenOn clock workdays None from to words = IsBetween workdays None from to words
+IsBetweenOn clock workdays (Some measure) from to words = IsMeasuredOn clock workdays measure from to words
+
+abbrev pub IsBetweenBy : Option Clock → WorkWeek → Option Measure → DateOrMoment → DateOrMoment → List ℕ → Type 0
+IsBetweenBy None workdays measure from to words = IsBetween workdays measure from to words
+IsBetweenBy (Some clock) workdays measure from to words = IsBetweenOn clock workdays measure from to words
 
 -- The clock of a request goes before that of the filter.
 abbrev pub own_clock : Option Clock → Option Clock → Option Clock
 own_clock None clock = clock
 own_clock (Some own) clock = Some own
 
+-- The clock of a request, after `at`.
+abbrev pub clock_of : Request → Option Clock
+clock_of (MoveAt clock by) = Some clock
+clock_of (Until own target measure) = own
+clock_of (Since own target measure) = own
+clock_of other = None
+
 -- The words replace the text that was read. `keep` leaves it as it is. TEXT of `until` and `since`
 -- must be given: if other fields have it, it is put in at each line.
 abbrev pub IsAnswerTo : Option Clock → WorkWeek → Request → List ℕ → DateOrMoment → List ℕ → Type 0
 IsAnswerTo clock workdays (To form) text found words = IsInForm form (moment_of found) words
+IsAnswerTo clock workdays ToIso text found words = IsInForm (form_iso found) (moment_of found) words
 IsAnswerTo clock workdays (Print items) text found words = words ≡ format_text items (moment_of found)
 IsAnswerTo clock workdays (Move by) text found words = IsMovedBy clock workdays by found words
 IsAnswerTo clock workdays (MoveAt other by) text found words = IsMovedAt other workdays by (Moment Rfc3339) (moment_of found) words
 IsAnswerTo clock workdays (Until own (target.Text to) unit) text found words = IsBetweenBy (own_clock own clock) workdays unit found to words
 IsAnswerTo clock workdays (Since own (target.Text from) unit) text found words = IsBetweenBy (own_clock own clock) workdays unit from found words
-IsAnswerTo clock workdays (At place) text found words = IsAt place (moment_of found) words
+IsAnswerTo clock workdays (At place form) text found words = IsAt place form (moment_of found) words
+IsAnswerTo clock workdays (PrintAt place items) text found words = IsPrintedAt place items (moment_of found) words
 IsAnswerTo clock workdays (Keep bounds) text found words = (lies_in bounds found ≡ Some true) × (words ≡ text)
 IsAnswerTo clock workdays other text found words = ⊥
 

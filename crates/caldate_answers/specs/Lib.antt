@@ -9,6 +9,7 @@ pub mod Forms
 pub mod Found
 pub mod Moves
 pub mod Offsets
+pub mod Periods
 pub mod Readers
 pub mod Readings
 pub mod Scans

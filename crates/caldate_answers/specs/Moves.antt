@@ -6,6 +6,8 @@ use Rattle.cal_time.specs.SignedDuration as duration
 use Rattle.cal_time.specs.Time.{hour_of, minute_of}
 use Rattle.cal_datetime.specs.DateTime.{date_at, date_time, time_at}
 use Rattle.cal_datetime.specs.OffsetDateTime.{LocalAndOffset}
+use Rattle.cal_rounding.specs.Rounding.{RoundsTimeOf}
+use Rattle.cal_rounding.specs.declared.rounding_mode.RoundingMode.TheVariants.{HalfCeil}
 use Rattle.cal_time.specs.Weekday.{index}
 use Rattle.cal_schedule.specs.Months.{IsMonthsLater}
 use Rattle.cal_schedule.specs.Units.{IsFirstOf, IsLastOf}
@@ -30,6 +32,11 @@ abbrev pub floored : ℕ → LocalAndOffset → LocalAndOffset
 floored n m =
     let minutes = hour_of (time_at m.local) * 60 + minute_of (time_at m.local) in
     record { local = date_time (date_at m.local) ((minutes - minutes % max n 1) * duration.minute); offset = m.offset }
+
+-- The time of day is rounded to the nearest multiple of n nanoseconds after midnight, and up between
+-- two. 24:00 is the midnight after it.
+abbrev pub IsNearest : ℕ → LocalAndOffset → LocalAndOffset → Type 0
+IsNearest n from m = RoundsTimeOf HalfCeil n from.local (λ z. record { local = z; offset = from.offset }) (Some m)
 
 -- The move goes from day n to day r, with these working days.
 abbrev pub MovesTo : WorkWeek → DayMove → ℕ → ℕ → Type 0

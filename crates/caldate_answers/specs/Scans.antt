@@ -1,5 +1,5 @@
 -- The answer to a line with --scan: its texts in a form that the run reads are answered in place.
-use Rattle.std.specs.Prelude.{◌≡◌, ◌⊎◌, ℕ, suc, ◌+◌, ◌-◌, ◌==◌, ◌&&◌, ◌||◌, not, ◌<◌, ◌≤◌, nat_lt, Bool, true, false, MatchBool, List, [], ◌∷◌, ◌++◌, length, take, drop, slice_index, Some, None, Result, Ok, Err, if◌then◌else◌}
+use Rattle.std.specs.Prelude.{◌≡◌, ◌⊎◌, ℕ, suc, ◌+◌, ◌-◌, ◌==◌, ◌&&◌, ◌||◌, not, ◌<◌, ◌≤◌, nat_lt, Bool, true, false, MatchBool, List, [], ◌∷◌, ◌++◌, length, take, drop, slice_index, Option, Some, None, Result, Ok, Err, if◌then◌else◌}
 use Rattle.cal_text.specs.Position.{Begins}
 use Rattle.cal_text.specs.declared.any.DateOrMoment.{DateOrMoment}
 use Rattle.caldate_answers.specs.Answers.{Answer, IsAnswer, IsNotRead, IsReadAs, keeps}
@@ -9,6 +9,7 @@ use Rattle.caldate_lines.specs.Room.{longest_text}
 use Rattle.caldate_answers.specs.Spellings.{is_sign}
 use Rattle.caldate_answers.specs.Offsets.{is_letter}
 use Rattle.caldate_lines.specs.declared.on_invalid.OnInvalid.TheVariants as invalid
+use Rattle.caldate_answers.specs.declared.request.DigitCounts.{DigitCounts}
 use Rattle.caldate_answers.specs.declared.request.Filter.{Filter}
 use Rattle.caldate_lines.specs.declared.no_answer.NoAnswer.{NoAnswer}
 use Rattle.caldate_lines.specs.declared.no_answer.NoAnswer.TheVariants as why
@@ -49,12 +50,46 @@ has_short_year bytes = is_sign (slice_index bytes 0) && (slice_index bytes 5 == 
 abbrev pub may_begin : List ℕ → ℕ → Bool
 may_begin line k = not (is_of_word (byte_before line k) || has_short_year (drop k line))
 
+-- The number of digits at the front.
+abbrev pub digits_at_front : List ℕ → ℕ
+digits_at_front [] = 0
+digits_at_front (byte ∷ bytes) = if is_digit byte then suc (digits_at_front bytes) else 0
+
+-- Digits, perhaps with a point and digits after them.
+abbrev pub is_decimal_part : List ℕ → Bool
+is_decimal_part bytes = slice_index bytes 0 == 46 && suc (digits_at_front (drop 1 bytes)) == length bytes
+
+abbrev pub is_number : List ℕ → Bool
+is_number bytes = digits_at_front bytes == length bytes || is_decimal_part (drop (digits_at_front bytes) bytes)
+
+-- A Unix time of this century has 9 or 10 digits in seconds, 12 or 13 in milliseconds, 15 or 16 in
+-- microseconds, and 18 or 19 in nanoseconds.
+abbrev pub is_likely_count : DigitCounts → ℕ → Bool
+is_likely_count counts n =
+    (counts.seconds && (n == 9 || n == 10)) || ((counts.milliseconds && (n == 12 || n == 13))
+    || ((counts.microseconds && (n == 15 || n == 16)) || (counts.nanoseconds && (n == 18 || n == 19))))
+
+abbrev pub without_minus : List ℕ → List ℕ
+without_minus bytes = if slice_index bytes 0 == 45 then drop 1 bytes else bytes
+
+abbrev pub is_likely_number : DigitCounts → List ℕ → Bool
+is_likely_number counts bytes = not (is_number bytes) || is_likely_count counts (digits_at_front bytes)
+
+-- A run that reads Unix times takes no number of another length for one.
+abbrev pub is_likely_by : Option DigitCounts → List ℕ → Bool
+is_likely_by None bytes = true
+is_likely_by (Some counts) bytes = is_likely_number counts (without_minus bytes)
+
+abbrev pub is_likely : Filter → List ℕ → Bool
+is_likely filter bytes = is_likely_by filter.numbers bytes
+
 -- These n bytes are a text, and no letter or digit is beside them.
 pub record IsTextAt (filter : Filter) (line : List ℕ) (k n : ℕ) : Type 0 where
   pub within : k + n ≤ length line
   pub is : IsText filter (part_at line k n)
   pub before : may_begin line k ≡ true
   pub after : is_of_word (slice_index line (k + n)) ≡ false
+  pub likely : is_likely filter (part_at line k n) ≡ true
 
 -- The text at place k is the longest there, and is read so.
 pub record IsLongestText (filter : Filter) (line : List ℕ) (k : ℕ) (text : FoundText) : Type 0 where
@@ -112,11 +147,6 @@ has_usual_length n = n == 8 || (n == 10 || nat_lt 19 n)
 
 abbrev pub is_usual_end : List ℕ → ℕ → Bool
 is_usual_end bytes n = is_last (slice_index bytes (n - 1)) && (if is_digit (slice_index bytes 0) then has_usual_length n else true)
-
--- The number of digits at the front.
-abbrev pub digits_at_front : List ℕ → ℕ
-digits_at_front [] = 0
-digits_at_front (byte ∷ bytes) = if is_digit byte then suc (digits_at_front bytes) else 0
 
 -- The index of the byte after the seconds of a moment, or after the digits that follow a point or a
 -- comma there.

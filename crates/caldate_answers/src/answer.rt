@@ -2,13 +2,15 @@
 ghost use Rattle.std.specs.Prelude.{◌≡◌, ◌+◌, ◌≤◌, ◌++◌, ◌∷◌, ℕ, ℤ, List, None, Some, Ok, Err, IfOk, IfErr, false, true, length, MatchOption};
 ghost use Rattle.std.specs.Fmt.{signed_decimal};
 ghost use Rattle.cal_datetime.specs.OffsetDateTime.{LocalAndOffset};
+ghost use Rattle.cal_schedule.specs.Period.{Parts};
 ghost use Rattle.cal_text.specs.declared.any.DateOrMoment.{DateOrMoment};
 ghost use Rattle.caldate_lines.specs.Room.{HasRoom, longest_answer};
 ghost use Rattle.caldate_lines.specs.declared.no_answer.NoAnswer.{NoAnswer};
-ghost use Rattle.caldate_answers.specs.Answers.{IsAnswer, IsAnswerLater, IsAnswerTo, IsAt, IsBetween, IsBetweenBy, IsDayLater, IsLater, IsMomentLater, IsMoved, IsMovedAt, IsMovedBy, IsNotRead, IsOnMovedDay, IsReadAs, compares, floored, form_read, is_date, keeps, moment_of, offset_in, on_day, own_clock, until_text};
+ghost use Rattle.caldate_answers.specs.Answers.{IsAnswer, IsAnswerAfter, IsAnswerLater, IsAnswerNearest, IsAnswerTo, IsAt, IsBetween, IsBetweenBy, IsBetweenOn, IsMeasured, IsMeasuredOn, IsPrintedAt, form_iso, IsDayLater, IsLater, IsMomentLater, IsMoved, IsMovedAt, IsMovedBy, IsNotRead, IsOnMovedDay, IsReadAs, compares, floored, form_read, is_date, keeps, moment_of, offset_in, on_day, own_clock, until_text};
 ghost use Rattle.caldate_answers.specs.Bounds.{lies_in};
 ghost use Rattle.caldate_answers.specs.ClockCounts.{IsCountOn};
 ghost use Rattle.caldate_answers.specs.Forms.{IsInForm, format_text};
+ghost use Rattle.caldate_answers.specs.Periods.{IsPeriodBetween, IsPeriodOn, IsPeriodText};
 ghost use Rattle.caldate_answers.specs.Readers.{IsUnreadIn};
 ghost use Rattle.caldate_answers.specs.Readings.{IsTextIn};
 ghost use Rattle.caldate_answers.specs.Appends.{AppendsSome, AppendsAnswer};
@@ -22,8 +24,10 @@ pub(crate) mod clock;
 pub(crate) mod clock_counts;
 pub mod clock_moves;
 pub(crate) mod counts;
+pub(crate) mod durations;
 pub(crate) mod forms;
 pub mod moves;
+pub(crate) mod periods;
 pub(crate) mod reasons;
 pub(crate) mod signed;
 pub(crate) mod texts;
@@ -33,7 +37,9 @@ use crate::answer::clock::placed;
 use crate::answer::clock_counts::count_on;
 use crate::answer::clock_moves::moved_on;
 use crate::answer::counts::count_between;
+use crate::answer::durations::{push_duration, push_hours, push_period};
 use crate::answer::moves::moved_day;
+use crate::answer::periods::{after, nearest, period_between, period_on};
 use crate::answer::reasons::why_unanswered;
 use crate::answer::texts::{
     push_basic, push_date, push_month, push_quarter, push_rfc3339, push_signed, push_unix,
@@ -42,12 +48,13 @@ use crate::answer::texts::{
 use crate::reading::reader::Reader;
 use crate::reading::{Reading, first_reason, read, read_in, reason_of};
 use crate::request::{
-    Bounds, Clock, DayMove, Filter, Form, Move, Place, Request, Target, TimeUnit,
+    Bounds, Clock, DayMove, Filter, Form, Measure, Move, Place, Request, Target, TimeUnit,
 };
 use cal_datetime::OffsetDateTime;
 use cal_format::Format;
-use cal_schedule::Workdays;
-use cal_text::{DateOrMoment, MomentForm};
+use cal_rounding::RoundingUnit;
+use cal_schedule::{Period, Workdays};
+use cal_text::{DateForm, DateOrMoment, MomentForm};
 use cal_time::{Date, ShortText, SignedDuration, Time, UtcOffset};
 use cal_zone::Zone;
 use cal_zone::laws::one_local;
@@ -228,6 +235,7 @@ fn push_answer_to(
 {
     match request {
         Request::To(form) => push_in_form(buffer, *form, moment_of(found)),
+        Request::ToIso => push_in_form(buffer, form_iso(found), moment_of(found)),
         Request::Print(format) => {
             push_printed(buffer, format, moment_of(found));
             true
@@ -247,7 +255,10 @@ fn push_answer_to(
         Request::Until(_, Target::Name(_), _) => false,
         Request::Since(_, Target::Fields(_), _) => false,
         Request::Since(_, Target::Name(_), _) => false,
-        Request::At(place) => push_at(buffer, place, moment_of(found)),
+        Request::At(place, form) => push_at(buffer, place, *form, moment_of(found)),
+        Request::PrintAt(place, format) => {
+            push_printed_at(buffer, place, format, moment_of(found))
+        }
         Request::Keep(bounds) => push_kept(buffer, bounds, text, found),
     }
 }
@@ -298,6 +309,16 @@ fn form_read(found: &DateOrMoment) -> Form
     match found {
         DateOrMoment::Date(form, _) => Form::Date(*form),
         DateOrMoment::Moment(form, _) => Form::Moment(*form),
+    }
+}
+
+/// Returns the form of ISO 8601 for a date or a moment: a calendar date, or RFC 3339.
+fn form_iso(found: &DateOrMoment) -> Form
+    ensures { result ≡ form_iso found.now }
+{
+    match found {
+        DateOrMoment::Date(_, _) => Form::Date(DateForm::Calendar),
+        DateOrMoment::Moment(_, _) => Form::Moment(MomentForm::Rfc3339),
     }
 }
 
@@ -457,6 +478,8 @@ fn push_moved(buffer: &mut Buffer, workdays: &Workdays<'_>, by: &Move, found: &D
             let floor = floored(*minutes, moment_of(found));
             push_in_form(buffer, form_read(found), floor)
         }
+        Move::Period(period) => push_after(buffer, *period, found),
+        Move::Round(unit) => push_nearest(buffer, *unit, found),
     }
 }
 
@@ -472,6 +495,38 @@ fn push_later(buffer: &mut Buffer, duration: SignedDuration, found: &DateOrMomen
 {
     match later(found, duration) {
         Some(later) => push_in_form(buffer, form_read(found), later),
+        None => false,
+    }
+}
+
+/// Appends the date or moment a period later, or nothing. Returns whether there is one.
+#[inline(never)]
+fn push_after(buffer: &mut Buffer, period: Period, found: &DateOrMoment) -> bool
+    requires { HasRoom longest_answer buffer.old }
+    ensures has { result ≡ true → AppendsSome (IsAnswerAfter period found.now)
+        buffer.old buffer.new }
+    ensures none { result ≡ false → (buffer.new ≡ buffer.old)
+        × ((words : List ℕ) → ¬ IsAnswerAfter period found.now words) }
+    ensures short { length buffer.new ≤ length buffer.old + longest_answer }
+{
+    match after(found, period) {
+        Some(later) => push_in_form(buffer, form_read(found), later),
+        None => false,
+    }
+}
+
+/// Appends the rounded date or moment, or nothing. Returns whether there is one.
+#[inline(never)]
+fn push_nearest(buffer: &mut Buffer, unit: RoundingUnit, found: &DateOrMoment) -> bool
+    requires { HasRoom longest_answer buffer.old }
+    ensures has { result ≡ true → AppendsSome (IsAnswerNearest unit found.now)
+        buffer.old buffer.new }
+    ensures none { result ≡ false → (buffer.new ≡ buffer.old)
+        × ((words : List ℕ) → ¬ IsAnswerNearest unit found.now words) }
+    ensures short { length buffer.new ≤ length buffer.old + longest_answer }
+{
+    match nearest(moment_of(found), unit) {
+        Some(rounded) => push_in_form(buffer, form_read(found), rounded),
         None => false,
     }
 }
@@ -498,16 +553,40 @@ fn push_on_moved_day(
     }
 }
 
-/// Appends the moment in the place, or nothing. Returns whether it has a text.
-fn push_at(buffer: &mut Buffer, place: &Place<'_>, moment: OffsetDateTime) -> bool
+/// Appends the moment in the place in a form, or nothing. Returns whether it has a text.
+fn push_at(buffer: &mut Buffer, place: &Place<'_>, form: Form, moment: OffsetDateTime) -> bool
     requires { HasRoom longest_answer buffer.old }
-    ensures has { result ≡ true → AppendsSome (IsAt place.now moment) buffer.old buffer.new }
+    ensures has { result ≡ true → AppendsSome (IsAt place.now form moment) buffer.old buffer.new }
     ensures none { result ≡ false → (buffer.new ≡ buffer.old)
-        × ((words : List ℕ) → ¬ IsAt place.now moment words) }
+        × ((words : List ℕ) → ¬ IsAt place.now form moment words) }
     ensures short { length buffer.new ≤ length buffer.old + longest_answer }
 {
     match moment.checked_to_offset(offset_in(place, moment)) {
-        Some(there) => push_in_form(buffer, Form::Moment(MomentForm::Rfc3339), there),
+        Some(there) => push_in_form(buffer, form, there),
+        None => false,
+    }
+}
+
+/// Appends the moment in the place in a format, or nothing. Returns whether it is in range there.
+#[inline(never)]
+fn push_printed_at(
+    buffer: &mut Buffer,
+    place: &Place<'_>,
+    format: &Format,
+    moment: OffsetDateTime,
+) -> bool
+    requires { HasRoom longest_answer buffer.old }
+    ensures has { result ≡ true
+        → AppendsSome (IsPrintedAt place.now format.now moment) buffer.old buffer.new }
+    ensures none { result ≡ false → (buffer.new ≡ buffer.old)
+        × ((words : List ℕ) → ¬ IsPrintedAt place.now format.now moment words) }
+    ensures short { length buffer.new ≤ length buffer.old + longest_answer }
+{
+    match moment.checked_to_offset(offset_in(place, moment)) {
+        Some(there) => {
+            push_printed(buffer, format, there);
+            true
+        }
         None => false,
     }
 }
@@ -522,62 +601,107 @@ fn offset_in(place: &Place<'_>, moment: OffsetDateTime) -> UtcOffset
     }
 }
 
-/// Appends the number of units by the clocks of the request, or by the others if it has none.
-/// Returns whether there is one.
+/// Appends the measure by the clocks of the request, or by the others if it has none. Returns
+/// whether there is one.
 #[inline(always)]
 pub fn push_between_at(
     buffer: &mut Buffer,
     own: &Option<Clock<'_>>,
     clock: &Option<Clock<'_>>,
     workdays: &Workdays<'_>,
-    unit: Option<TimeUnit>,
+    measure: Option<Measure>,
     from: &DateOrMoment,
     to: &DateOrMoment,
 ) -> bool
     requires { HasRoom longest_answer buffer.old }
     ensures has { result ≡ true → AppendsSome
-        (IsBetweenBy (own_clock own.now clock.now) workdays.now unit from.now to.now) buffer.old buffer.new }
+        (IsBetweenBy (own_clock own.now clock.now) workdays.now measure from.now to.now) buffer.old buffer.new }
     ensures none { result ≡ false → (buffer.new ≡ buffer.old) × ((words : List ℕ)
-        → ¬ IsBetweenBy (own_clock own.now clock.now) workdays.now unit from.now to.now words) }
+        → ¬ IsBetweenBy (own_clock own.now clock.now) workdays.now measure from.now to.now words) }
     ensures short { length buffer.new ≤ length buffer.old + longest_answer }
 {
     match own {
-        Some(_) => push_between_by(buffer, own, workdays, unit, from, to),
-        None => push_between_by(buffer, clock, workdays, unit, from, to),
+        Some(_) => push_between_by(buffer, own, workdays, measure, from, to),
+        None => push_between_by(buffer, clock, workdays, measure, from, to),
     }
 }
 
-/// Appends the number of units, or without a unit the days or the duration. Returns whether there
-/// is one: `false` only with a clock, if what it shows is out of range.
+/// Appends the measure, or without one the days or the duration. Returns whether there is one:
+/// `false` only if what a clock shows is out of range.
 #[inline(always)]
 fn push_between_by(
     buffer: &mut Buffer,
     clock: &Option<Clock<'_>>,
     workdays: &Workdays<'_>,
-    unit: Option<TimeUnit>,
+    measure: Option<Measure>,
     from: &DateOrMoment,
     to: &DateOrMoment,
 ) -> bool
     requires { HasRoom longest_answer buffer.old }
     ensures has { result ≡ true → AppendsSome
-        (IsBetweenBy clock.now workdays.now unit from.now to.now) buffer.old buffer.new }
+        (IsBetweenBy clock.now workdays.now measure from.now to.now) buffer.old buffer.new }
     ensures none { result ≡ false → (buffer.new ≡ buffer.old)
-        × ((words : List ℕ) → ¬ IsBetweenBy clock.now workdays.now unit from.now to.now words) }
+        × ((words : List ℕ) → ¬ IsBetweenBy clock.now workdays.now measure from.now to.now words) }
     ensures short { length buffer.new ≤ length buffer.old + longest_answer }
 {
-    match (clock, unit) {
-        (Some(clock), Some(unit)) => {
-            push_count_on(buffer, &clock.zone, workdays, unit, from, to)
-        }
-        _ => {
-            push_between(buffer, workdays, unit, from, to);
+    match clock {
+        Some(clock) => push_between_on(buffer, clock, workdays, measure, from, to),
+        None => push_between(buffer, workdays, measure, from, to),
+    }
+}
+
+/// Appends the measure by the clocks of a zone, or without one the days or the duration. Returns
+/// whether there is one.
+#[inline(never)]
+fn push_between_on(
+    buffer: &mut Buffer,
+    clock: &Clock<'_>,
+    workdays: &Workdays<'_>,
+    measure: Option<Measure>,
+    from: &DateOrMoment,
+    to: &DateOrMoment,
+) -> bool
+    requires { HasRoom longest_answer buffer.old }
+    ensures has { result ≡ true → AppendsSome
+        (IsBetweenOn clock.now workdays.now measure from.now to.now) buffer.old buffer.new }
+    ensures none { result ≡ false → (buffer.new ≡ buffer.old)
+        × ((words : List ℕ) → ¬ IsBetweenOn clock.now workdays.now measure from.now to.now words) }
+    ensures short { length buffer.new ≤ length buffer.old + longest_answer }
+{
+    match measure {
+        Some(measure) => push_measured_on(buffer, clock, workdays, measure, from, to),
+        None => {
+            push_until(buffer, from, to);
             true
         }
     }
 }
 
+/// Appends the measure by the clocks of a zone, or nothing. Returns whether there is one.
+fn push_measured_on(
+    buffer: &mut Buffer,
+    clock: &Clock<'_>,
+    workdays: &Workdays<'_>,
+    measure: Measure,
+    from: &DateOrMoment,
+    to: &DateOrMoment,
+) -> bool
+    requires { HasRoom longest_answer buffer.old }
+    ensures has { result ≡ true → AppendsSome
+        (IsMeasuredOn clock.now workdays.now measure from.now to.now) buffer.old buffer.new }
+    ensures none { result ≡ false → (buffer.new ≡ buffer.old)
+        × ((words : List ℕ) → ¬ IsMeasuredOn clock.now workdays.now measure from.now to.now words) }
+    ensures short { length buffer.new ≤ length buffer.old + longest_answer }
+{
+    match measure {
+        Measure::Units(unit) => push_count_on(buffer, &clock.zone, workdays, unit, from, to),
+        Measure::Period => push_period_on(buffer, clock, from, to),
+        Measure::Duration => push_measured(buffer, workdays, Measure::Duration, from, to),
+        Measure::Clock => push_measured(buffer, workdays, Measure::Clock, from, to),
+    }
+}
+
 /// Appends the number of units by the clocks of a zone, or nothing. Returns whether there is one.
-#[inline(never)]
 fn push_count_on(
     buffer: &mut Buffer,
     zone: &Zone<'_>,
@@ -603,25 +727,103 @@ fn push_count_on(
     }
 }
 
-/// Appends the number of units, or without a unit the days or the duration, by no clock.
+/// Appends the period by the clocks of a zone, or nothing. Returns whether there is one.
+fn push_period_on(
+    buffer: &mut Buffer,
+    clock: &Clock<'_>,
+    from: &DateOrMoment,
+    to: &DateOrMoment,
+) -> bool
+    requires { HasRoom longest_answer buffer.old }
+    ensures has { result ≡ true → AppendsSome
+        (IsPeriodText (IsPeriodOn clock.now from.now to.now)) buffer.old buffer.new }
+    ensures none { result ≡ false → (buffer.new ≡ buffer.old)
+        × ((p : Parts) → ¬ IsPeriodOn clock.now from.now to.now p) }
+    ensures short { length buffer.new ≤ length buffer.old + longest_answer }
+{
+    match period_on(clock, from, to) {
+        Some(period) => {
+            push_period(buffer, period);
+            true
+        }
+        None => false,
+    }
+}
+
+/// Appends the measure, or without one the days or the duration, by no clock. Returns whether there
+/// is one.
 pub fn push_between(
     buffer: &mut Buffer,
     workdays: &Workdays<'_>,
-    unit: Option<TimeUnit>,
+    measure: Option<Measure>,
     from: &DateOrMoment,
     to: &DateOrMoment,
-)
+) -> bool
     requires { HasRoom longest_answer buffer.old }
-    ensures text { AppendsSome (IsBetween workdays.now unit from.now to.now)
+    ensures has { result ≡ true → AppendsSome (IsBetween workdays.now measure from.now to.now)
         buffer.old buffer.new }
+    ensures none { result ≡ false → (buffer.new ≡ buffer.old)
+        × ((words : List ℕ) → ¬ IsBetween workdays.now measure from.now to.now words) }
     ensures short { length buffer.new ≤ length buffer.old + longest_answer }
 {
-    match unit {
-        Some(unit) => {
+    match measure {
+        Some(measure) => push_measured(buffer, workdays, measure, from, to),
+        None => {
+            push_until(buffer, from, to);
+            true
+        }
+    }
+}
+
+/// Appends the measure by no clock, or nothing. Returns whether there is one: `false` only if a
+/// moment is out of range at the offset of the first.
+fn push_measured(
+    buffer: &mut Buffer,
+    workdays: &Workdays<'_>,
+    measure: Measure,
+    from: &DateOrMoment,
+    to: &DateOrMoment,
+) -> bool
+    requires { HasRoom longest_answer buffer.old }
+    ensures has { result ≡ true → AppendsSome (IsMeasured workdays.now measure from.now to.now)
+        buffer.old buffer.new }
+    ensures none { result ≡ false → (buffer.new ≡ buffer.old)
+        × ((words : List ℕ) → ¬ IsMeasured workdays.now measure from.now to.now words) }
+    ensures short { length buffer.new ≤ length buffer.old + longest_answer }
+{
+    match measure {
+        Measure::Units(unit) => {
             let count = count_between(workdays, unit, moment_of(from), moment_of(to));
             push_signed(buffer, count);
+            true
         }
-        None => push_until(buffer, from, to),
+        Measure::Period => push_period_between(buffer, moment_of(from), moment_of(to)),
+        Measure::Duration => {
+            push_duration(buffer, moment_of(to) - moment_of(from));
+            true
+        }
+        Measure::Clock => {
+            push_hours(buffer, moment_of(to) - moment_of(from));
+            true
+        }
+    }
+}
+
+/// Appends the period between two moments, or nothing. Returns whether there is one.
+fn push_period_between(buffer: &mut Buffer, from: OffsetDateTime, to: OffsetDateTime) -> bool
+    requires { HasRoom longest_answer buffer.old }
+    ensures has { result ≡ true
+        → AppendsSome (IsPeriodText (IsPeriodBetween from to)) buffer.old buffer.new }
+    ensures none { result ≡ false → (buffer.new ≡ buffer.old)
+        × ((p : Parts) → ¬ IsPeriodBetween from to p) }
+    ensures short { length buffer.new ≤ length buffer.old + longest_answer }
+{
+    match period_between(from, to) {
+        Some(period) => {
+            push_period(buffer, period);
+            true
+        }
+        None => false,
     }
 }
 

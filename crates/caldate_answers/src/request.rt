@@ -1,12 +1,13 @@
 //! Requests, and how they apply to the lines.
 ghost use Rattle.std.specs.Prelude.{◌≡◌, MatchOption, None, Some};
-ghost use Rattle.caldate_answers.specs.Answers.{keeps};
+ghost use Rattle.caldate_answers.specs.Answers.{clock_of, keeps};
 ghost use Rattle.caldate_answers.specs.Targets.{target_fields, target_name};
 
 use crate::reading::Readers;
 use crate::reading::reader::Assumptions;
 use cal_format::Format;
-use cal_schedule::{CalendarUnit, Workdays};
+use cal_rounding::RoundingUnit;
+use cal_schedule::{CalendarUnit, Period, Workdays};
 use cal_text::{DateForm, DateOrMoment, MomentForm};
 use cal_time::{SignedDuration, UtcOffset, Weekday};
 use cal_zone::{Policy, Zone};
@@ -60,6 +61,19 @@ pub enum TimeUnit {
     Seconds,
 }
 
+/// What `until` and `since` write.
+#[derive(Clone, Copy)]
+pub enum Measure {
+    /// `in UNIT`: the whole units.
+    Units(TimeUnit),
+    /// `in P`: years, months, days and an exact rest, such as `P1Y2M3DT4H`.
+    Period,
+    /// `in PT`: an exact duration, such as `PT36H`.
+    Duration,
+    /// `in HH:MM:SS`: an exact duration, such as `36:00:00`.
+    Clock,
+}
+
 /// A move from one day to another.
 #[derive(Clone, Copy)]
 pub enum DayMove {
@@ -95,6 +109,10 @@ pub enum Move {
     /// `start day`, `start hour`, `start minute` or `start N minutes`: the time of day rounded down
     /// to a multiple of a number of minutes, from 1 to 1440.
     Floor(u16),
+    /// `add PERIOD`: by years, months, weeks and days, and then by an exact duration.
+    Period(Period),
+    /// `round N UNIT`: to the nearest multiple of a unit since midnight, and up between two.
+    Round(RoundingUnit),
 }
 
 /// A range for dates and moments. A date bound compares local dates, a moment bound instants.
@@ -142,20 +160,25 @@ pub enum Target<'a> {
 pub enum Request<'a> {
     /// `to FORM`: the same date or moment in this form.
     To(Form),
+    /// `to iso`: a date as a calendar date, a moment in RFC 3339.
+    ToIso,
     /// `to FORMAT`: the same date or moment in this format.
     Print(Format),
     /// The moved date or moment, such as `add N UNIT`.
     Move(Move),
     /// `at ZONE` or `at OFFSET`, and a move: the moment moved by these clocks, at their offset.
     MoveAt(Clock<'a>, Move),
-    /// `until TEXT [in UNIT]`: the days or the duration to TEXT, or the whole units, by these clocks
-    /// if it is after `at`.
-    Until(Option<Clock<'a>>, Target<'a>, Option<TimeUnit>),
-    /// `since TEXT [in UNIT]`: the days or the duration from TEXT, or the whole units, by these clocks
-    /// if it is after `at`.
-    Since(Option<Clock<'a>>, Target<'a>, Option<TimeUnit>),
-    /// `at OFFSET` or `at ZONE`: the moment at this offset, or at the offset of the zone.
-    At(Place<'a>),
+    /// `until TEXT [in UNIT]`: the days or the duration to TEXT, or its measure, by these clocks if
+    /// it is after `at`.
+    Until(Option<Clock<'a>>, Target<'a>, Option<Measure>),
+    /// `since TEXT [in UNIT]`: the days or the duration from TEXT, or its measure, by these clocks if
+    /// it is after `at`.
+    Since(Option<Clock<'a>>, Target<'a>, Option<Measure>),
+    /// `at OFFSET` or `at ZONE`, perhaps with `to FORM`: the moment at this offset, or at the offset
+    /// of the zone, in this form.
+    At(Place<'a>, Form),
+    /// `at OFFSET` or `at ZONE`, and `to FORMAT`: the same in this format.
+    PrintAt(Place<'a>, Format),
     /// `keep BOUNDS`: the line itself if it lies within the bounds, otherwise nothing.
     Keep(Bounds),
 }
@@ -194,6 +217,19 @@ impl<'a> Request<'a> {
         }
     }
 
+    /// Returns the clocks of the request after `at`, if it goes by clocks.
+    pub fn clock(&self) -> Option<&Clock<'a>>
+        ensures { MatchOption result (clock_of self.now ≡ None)
+            (λ clock. clock_of self.now ≡ Some clock.now) }
+    {
+        match self {
+            Request::MoveAt(clock, _) => Some(clock),
+            Request::Until(Some(clock), _, _) => Some(clock),
+            Request::Since(Some(clock), _, _) => Some(clock),
+            _ => None,
+        }
+    }
+
     /// Returns whether the field that has TEXT has a name.
     pub fn names_other(&self) -> bool {
         match self.target_name() {
@@ -223,11 +259,25 @@ impl<'a> Request<'a> {
         match self {
             Request::Move(Move::Day(DayMove::Workdays(_))) => true,
             Request::MoveAt(_, Move::Day(DayMove::Workdays(_))) => true,
-            Request::Until(_, _, Some(TimeUnit::Workdays)) => true,
-            Request::Since(_, _, Some(TimeUnit::Workdays)) => true,
+            Request::Until(_, _, Some(Measure::Units(TimeUnit::Workdays))) => true,
+            Request::Since(_, _, Some(Measure::Units(TimeUnit::Workdays))) => true,
             _ => false,
         }
     }
+}
+
+/// The units of Unix times. One of this century has as many digits as its unit says: 9 or 10 in
+/// seconds, and 3, 6 or 9 more in smaller units.
+#[derive(Clone, Copy)]
+pub struct DigitCounts {
+    /// `true` for 9 and 10 digits.
+    pub seconds: bool,
+    /// `true` for 12 and 13 digits.
+    pub milliseconds: bool,
+    /// `true` for 15 and 16 digits.
+    pub microseconds: bool,
+    /// `true` for 18 and 19 digits.
+    pub nanoseconds: bool,
 }
 
 /// A request with its options.
@@ -251,6 +301,8 @@ pub struct Filter<'a> {
     pub several: SeveralFields,
     /// `true` if each text in the line that has a form is answered, and not the whole line.
     pub scans: bool,
+    /// The lengths of numbers in a line that may be Unix times, or `None` if all may.
+    pub numbers: Option<DigitCounts>,
     /// The names of the fields to answer whose numbers aren't known yet.
     pub names: FieldNames<'a>,
     /// The name that the header, the first line, gets for a new last field.

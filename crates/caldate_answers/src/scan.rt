@@ -7,6 +7,7 @@ pub(crate) mod bound;
 pub(crate) mod digit_bound;
 pub(crate) mod digit_start;
 pub(crate) mod found_text;
+pub(crate) mod likely;
 pub mod push;
 pub(crate) mod start;
 
@@ -17,6 +18,7 @@ use crate::scan::bound::bound_of;
 use crate::scan::digit_bound::digit_bound;
 use crate::scan::digit_start::{digits_place, start_with_digits};
 use crate::scan::found_text::FoundText;
+use crate::scan::likely::is_likely;
 use crate::scan::start::{all_usual, has_short_year, is_usual_end, usual_place};
 use cal_text::DateOrMoment;
 use caldate_lines::no_answer::NoAnswer;
@@ -117,7 +119,12 @@ fn read_at(
     if is_of_word(byte_at(line, place + count)) {
         return None;
     }
-    read_text(filter, part_at(line, place, count))
+    let bytes = part_at(line, place, count);
+    if is_likely(filter, bytes) {
+        read_text(filter, bytes)
+    } else {
+        None
+    }
 }
 
 /// Returns the bytes from a place of the line on.

@@ -1,3 +1,2 @@
-pub mod DayLists
 pub mod HolidayLines
 pub mod Joins

@@ -5,10 +5,12 @@ ghost use Rattle.caldate_args.specs.Lists.{HasValidStep};
 pub mod arguments;
 pub(crate) mod bounds;
 pub mod clock_words;
+pub(crate) mod extent;
 pub(crate) mod formats;
 pub(crate) mod listing;
 pub(crate) mod messages;
 pub(crate) mod names;
+pub(crate) mod numbers;
 pub(crate) mod offset;
 pub(crate) mod options;
 pub mod requirement;
@@ -19,18 +21,19 @@ pub mod usage_message;
 pub mod words;
 
 use crate::args::bounds::bounds_at;
-use crate::args::clock_words::{now_in, now_on};
-use crate::args::formats::to_of;
+use crate::args::clock_words::{is_day_word, now_in, now_on};
+use crate::args::formats::{to_at_place_of, to_of};
 use crate::args::listing::list_of;
 use crate::args::names::{CommandName, MoveVerb, Verb};
+use crate::args::numbers::counts_of;
 use crate::args::offset::offset_of;
 use crate::args::options::{
     Options, assumptions_in, field_of, options_of, readers_in, unmet_in, zone_of,
 };
 use crate::args::requirement::Requirement;
 use crate::args::spelling::{
-    command_of, minutes_of, minutes_word, parse_i64, parse_u8, period_of, start_of, unit_of,
-    verb_of, weekday_of,
+    command_of, is_period_like, iso_period_of, minutes_of, minutes_word, parse_i64, parse_u8,
+    period_of, rounded_unit_of, rounding_of, start_of, unit_of, verb_of, weekday_of,
 };
 use crate::args::target::target_at;
 use crate::args::usage_error::{Expected, UsageError, requirement_at, usage_error_at};
@@ -40,10 +43,11 @@ use crate::data_files::DataFiles;
 use crate::zones::{is_zone_like, zone_with};
 use cal_datetime::{OffsetDateTime, PlainDateTime};
 use cal_schedule::Workdays;
+use cal_text::MomentForm;
 use cal_time::{SignedDuration, Weekday};
 use cal_zone::{Policy, Zone};
 use caldate_answers::answer::moves;
-use caldate_answers::request::{Clock, DayMove, Filter, Move, Place, Request, TimeUnit};
+use caldate_answers::request::{Clock, DayMove, Filter, Form, Move, Place, Request, TimeUnit};
 use caldate_lines::field::Field;
 use caldate_lines::field_name::FieldName;
 use caldate_lines::field_names::MAX_FIELDS;
@@ -93,7 +97,7 @@ pub fn parse_args<'a, D: DataFiles<'a>>(
             ended(words, 1, ())?;
             Ok(Command::Version)
         }
-        None => Ok(lines_command(filter_at(words, Some(words), 0, now, files)?)),
+        None => Ok(lines_command(filter_at(words, Some(words), (0, false), now, files)?)),
     }
 }
 
@@ -112,7 +116,7 @@ fn once_of<'a, D: DataFiles<'a>>(
     if text == b"".as_slice() {
         return Err(usage_error_at(1, Expected::Target));
     }
-    let filter = filter_at(words, rest, 2, now, files)?;
+    let filter = filter_at(words, rest, (2, is_day_word(text)), now, files)?;
     if has_more_lines(filter.field, text) {
         return Err(usage_error_at(1, Expected::Target));
     }
@@ -156,18 +160,20 @@ fn named_field(filter: &Filter<'_>) -> Option<Field> {
     }
 }
 
-/// Parses options and a request from the word at an index on, where `rest` is.
+/// Parses options and a request from the word at an index on, where `rest` is. With the index comes
+/// whether the only text is the date of a clock, such as `today`.
 fn filter_at<'a, D: DataFiles<'a>>(
     words: &'a [u8],
     rest: Option<&'a [u8]>,
-    at: usize,
+    start: (usize, bool),
     now: Option<PlainDateTime>,
     files: &mut D,
 ) -> Result<Filter<'a>, UsageError<'a>>
-    requires few { at ≤ 2 }
+    requires few { start.0 ≤ 2 }
 {
+    let (at, is_day) = start;
     let (options, at) = options_of(rest, at, files)?;
-    if let Some(requirement) = unmet_in(&options) {
+    if let Some(requirement) = unmet_in(&options, is_day) {
         return Err(requirement_at(at, requirement));
     }
     let now = now_in(&options.zone, now);
@@ -217,6 +223,7 @@ fn filter_of<'a>(options: Options<'a>, request: Request<'a>) -> Filter<'a> {
         request,
         field: field_of(&options),
         scans: options.scan,
+        numbers: counts_of(options.scan, options.readers.as_slice()),
         skip: skip_in(&options),
         assumptions: assumptions_in(&options),
         workdays: options.workdays.unwrap_or(moves::workdays()),
@@ -317,6 +324,7 @@ fn move_of(verb: MoveVerb, words: &[u8], at: usize) -> Result<Move, UsageError<'
         MoveVerb::End => end_at(words, at),
         MoveVerb::OnOrAfter => Ok(Move::Day(DayMove::OnOrAfter(weekday_at(words, at)?))),
         MoveVerb::OnOrBefore => Ok(Move::Day(DayMove::OnOrBefore(weekday_at(words, at)?))),
+        MoveVerb::Round => round_at(words, at),
     }
 }
 
@@ -354,6 +362,30 @@ fn floor_at(words: &[u8], at: usize, minutes: u16) -> Result<Move, UsageError<'s
     Ok(Move::Floor(minutes))
 }
 
+/// Parses `UNIT` or `N UNIT`, which divides a day.
+fn round_at(words: &[u8], at: usize) -> Result<Move, UsageError<'static>>
+    requires { at + 2 < 2 ^ 64 }
+{
+    match word_at(words, at).and_then(parse_i64) {
+        Some(number) => {
+            let seconds = only_at(words, at + 1, rounded_unit_of, Expected::RoundedUnit)?;
+            rounded_by(number, seconds, at)
+        }
+        None => {
+            let seconds = only_at(words, at, rounded_unit_of, Expected::Rounding)?;
+            rounded_by(1, seconds, at)
+        }
+    }
+}
+
+/// Returns the rounding to `number` units of `seconds` seconds. The number has this index.
+fn rounded_by(number: i64, seconds: u32, at: usize) -> Result<Move, UsageError<'static>> {
+    match rounding_of(number, seconds) {
+        Some(unit) => Ok(Move::Round(unit)),
+        None => Err(usage_error_at(at, Expected::RoundedNumber)),
+    }
+}
+
 /// Parses `PERIOD`.
 fn end_at(words: &[u8], at: usize) -> Result<Move, UsageError<'static>>
     requires { at + 1 < 2 ^ 64 }
@@ -374,8 +406,15 @@ fn at_place<'a, D: DataFiles<'a>>(
 {
     let place = place_at(words, at, files)?;
     let Some(verb) = word_at(words, at + 1).and_then(verb_of) else {
-        return ended(words, at + 1, Request::At(place));
+        return ended(
+            words,
+            at + 1,
+            Request::At(place, Form::Moment(MomentForm::Rfc3339)),
+        );
     };
+    if let Verb::To = verb {
+        return to_at_place(words, at + 2, place);
+    }
     let Some(clock) = clock_in(place, policy) else {
         return Err(usage_error_at(at, Expected::Place));
     };
@@ -385,6 +424,22 @@ fn at_place<'a, D: DataFiles<'a>>(
         Verb::Until => until_at(words, at + 2, Some(clock), now),
         Verb::Since => since_at(words, at + 2, Some(clock), now),
         Verb::To | Verb::At | Verb::Keep => Err(usage_error_at(at + 1, Expected::End)),
+    }
+}
+
+/// Parses `FORM` or `FORMAT` after a place and `to`.
+fn to_at_place<'a>(
+    words: &'a [u8],
+    at: usize,
+    place: Place<'a>,
+) -> Result<Request<'a>, UsageError<'a>>
+    requires { at + 1 < 2 ^ 64 }
+{
+    let usage_error = usage_error_at(at, Expected::Form);
+    let word = word_at(words, at).ok_or(usage_error)?;
+    match to_at_place_of(word, place) {
+        Some(request) => ended(words, at + 1, request),
+        None => Err(usage_error),
     }
 }
 
@@ -477,15 +532,27 @@ fn expected_verb(at: usize) -> Expected {
     }
 }
 
-/// Parses `N` or `N UNIT`. The default unit is days.
+/// Parses `PERIOD`, `N` or `N UNIT`. The default unit is days.
 fn amount_at(words: &[u8], at: usize) -> Result<Move, UsageError<'static>>
     requires { at + 2 < 2 ^ 64 }
 {
+    if has_period(words, at) {
+        let period = only_at(words, at, iso_period_of, Expected::IsoPeriod)?;
+        return Ok(Move::Period(period));
+    }
     let number = word_as(words, at, parse_i64, Expected::Number)?;
     let unit = unit_at(words, at + 1)?;
     match amount_of(number, unit) {
         Some(by) => Ok(by),
         None => Err(usage_error_at(at, Expected::Amount)),
+    }
+}
+
+/// Returns whether the word at an index begins as a period does.
+pub(crate) fn has_period(words: &[u8], at: usize) -> bool {
+    match word_at(words, at) {
+        Some(word) => is_period_like(word),
+        None => false,
     }
 }
 

@@ -5,12 +5,12 @@ ghost use Rattle.cal_time.specs.Date.{julian_day_at};
 ghost use Rattle.caldate_lines.specs.Lines.{lines_of};
 ghost use Rattle.caldate_args.specs.Holidays.{AreHolidays, AreReadHolidays, IsFirstInvalid, IsInvalidLine, is_left_out};
 
-pub(crate) mod day_list;
+pub(crate) mod calendar_holidays;
 pub mod read_holidays_error;
 
-use crate::holidays::day_list::insert_date;
 use crate::holidays::read_holidays_error::ReadHolidaysError;
 use crate::zones::zone_source::read_whole;
+use cal_holidays::day_list::insert_date;
 use cal_text::ParseError;
 use cal_text::date::parse;
 use cal_time::Date;

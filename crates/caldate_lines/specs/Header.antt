@@ -1,5 +1,5 @@
 -- The header, the first line of an input, and fields by their names in it.
-use Rattle.std.specs.Prelude.{◌⊎◌, ℕ, ◌+◌, ◌<◌, nat_lt, Bool, List, [], ◌∷◌, bytes_eq, length, Option, Some, None, Result, Ok, Err, if◌then◌else◌}
+use Rattle.std.specs.Prelude.{◌⊎◌, ℕ, ◌+◌, ◌<◌, ◌==◌, ◌&&◌, nat_lt, Bool, List, [], ◌∷◌, bytes_eq, drop, length, slice_index, Option, Some, None, Result, Ok, Err, if◌then◌else◌}
 use Rattle.std.specs.Option.{option_map_or}
 use Rattle.std.specs.Io.KnownBytes.{IsAtEnd}
 use Rattle.caldate_lines.specs.Fields.{field_text, fields_of}
@@ -33,9 +33,17 @@ abbrev pub name_number : ℕ → Field → List ℕ → List (List ℕ) → Opti
 name_number n field name [] = None
 name_number n field name (part ∷ parts) = if has_name field name part then Some n else name_number (n + 1) field name parts
 
+-- The header without the byte order mark of UTF-8 at its front, the bytes EF BB BF.
+abbrev pub has_mark : List ℕ → Bool
+has_mark header = slice_index header 0 == 239 && (slice_index header 1 == 187 && slice_index header 2 == 191)
+
+abbrev pub without_mark : List ℕ → List ℕ
+without_mark header = if has_mark header then drop 3 header else header
+
 -- The number that the header gives the name. A header that is too long gives none.
 abbrev pub number_of : Field → List ℕ → List ℕ → Option ℕ
-number_of field name header = if nat_lt longest_text (length header) then None else name_number 1 field name (fields_of field header)
+number_of field name header =
+    if nat_lt longest_text (length header) then None else name_number 1 field name (fields_of field (without_mark header))
 
 -- ---- a run with names of fields
 -- The number that the header gives a name, if there is a name. A name that the header lacks is an

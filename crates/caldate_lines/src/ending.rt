@@ -28,22 +28,34 @@ pub fn end<W: Sink>(outcome: Result<(), RunError>, writer: &mut W) -> Ending
     ensures reports { ReportsOutcome outcome result (W.contents writer.old) (W.contents writer.new) }
     ensures writes { Writes W.write_gives writer.old (write_failure result.reported) writer.new }
 {
+    end_after(outcome, 0, writer)
+}
+
+/// Does the same for a run whose first `skipped` lines, such as a header, count for none.
+pub fn end_after<W: Sink>(outcome: Result<(), RunError>, skipped: u64, writer: &mut W) -> Ending
+    ensures reports { ReportsOutcome outcome result (W.contents writer.old) (W.contents writer.new) }
+    ensures writes { Writes W.write_gives writer.old (write_failure result.reported) writer.new }
+{
     Ending {
         status: status_of(&outcome),
-        reported: report(&outcome, writer),
+        reported: report(&outcome, skipped, writer),
     }
 }
 
 /// Writes why the run failed, in one line. After an error, a beginning of the line was written, and
 /// never all of it.
 #[tactic(auto, using(crate::proofs::Calls::sent_all))]
-fn report<W: Sink>(outcome: &Result<(), RunError>, writer: &mut W) -> Result<(), RunError>
+fn report<W: Sink>(
+    outcome: &Result<(), RunError>,
+    skipped: u64,
+    writer: &mut W,
+) -> Result<(), RunError>
     ensures message { (words : List ℕ) × Says (status_of outcome.now) words
         × WritesPage words result (W.contents writer.old) (W.contents writer.new) }
     ensures writes { Writes W.write_gives writer.old (write_failure result) writer.new }
 {
     let mut words = Buffer::new();
-    push_words(&mut words, outcome);
+    push_words(&mut words, outcome, skipped);
     write_all(writer, words.as_bytes())
 }
 
@@ -60,7 +72,7 @@ fn status_of(outcome: &Result<(), RunError>) -> u8
 }
 
 /// Appends the words about a run.
-fn push_words(words: &mut Buffer, outcome: &Result<(), RunError>)
+fn push_words(words: &mut Buffer, outcome: &Result<(), RunError>, skipped: u64)
     requires { words.old ≡ [] }
     ensures { Says (status_of outcome.now) words.new }
 {
@@ -76,7 +88,7 @@ fn push_words(words: &mut Buffer, outcome: &Result<(), RunError>)
         }
         Err(RunError::Unanswered(tally)) => {
             words.push(b"caldate: ");
-            push_summary(words, tally);
+            push_summary(words, tally, skipped);
             words.push(b"\n");
         }
     }
@@ -96,15 +108,25 @@ fn push_description(words: &mut Buffer, line: &UnansweredLine)
     words.push(line.text.as_bytes());
 }
 
+/// Returns the number of lines without those that were skipped, or of all if one of these has no
+/// answer.
+fn lines_after(tally: &Tally, skipped: u64) -> u64 {
+    match &tally.first {
+        Some(line) if line.number <= skipped => tally.lines,
+        _ => tally.lines.saturating_sub(skipped),
+    }
+}
+
 /// Appends a summary such as `3 of 900 lines have no answer; first: line 2: unreadable at 0: x`.
-fn push_summary(words: &mut Buffer, tally: &Tally)
+/// The lines that were skipped don't count, unless one of them has no answer.
+fn push_summary(words: &mut Buffer, tally: &Tally, skipped: u64)
     requires { length words.old ≤ 100 }
     ensures short { length words.new ≤ 1_000 }
     ensures longer { length words.old ≤ length words.new }
 {
     words.push_number(tally.unanswered);
     words.push(b" of ");
-    words.push_number(tally.lines);
+    words.push_number(lines_after(tally, skipped));
     if tally.unanswered == 1 {
         words.push(b" lines has no answer");
     } else {

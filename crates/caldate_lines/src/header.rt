@@ -1,8 +1,8 @@
 //! Fields by their names in a header.
-ghost use Rattle.std.specs.Prelude.{ℕ, List, ◌≡◌, ◌+◌, ◌<◌, ◌≤◌, ◌++◌, ◌∷◌, [], Err, Ok, Some, IsTrue, MatchResult, length};
+ghost use Rattle.std.specs.Prelude.{ℕ, List, true, ◌≡◌, ◌+◌, ◌<◌, ◌≤◌, ◌++◌, ◌∷◌, [], Err, Ok, Some, IsTrue, MatchResult, length};
 ghost use Rattle.caldate_lines.specs.Calls.{Writes, write_failure};
 ghost use Rattle.caldate_lines.specs.Fields.{fields_of};
-ghost use Rattle.caldate_lines.specs.Header.{has_name, header_of, name_number, number_in, number_of};
+ghost use Rattle.caldate_lines.specs.Header.{has_mark, has_name, header_of, name_number, number_in, number_of, without_mark};
 ghost use Rattle.caldate_lines.specs.Room.{HasRoom, longest_text};
 ghost use Rattle.caldate_lines.specs.Outputs.{WritesPage};
 
@@ -35,7 +35,27 @@ pub(crate) fn number_of(field: Field, name: &[u8], header: &[u8]) -> Option<u16>
     if header.len() > LONGEST_TEXT {
         return None;
     }
-    name_number(field, name, header)
+    name_number(field, name, without_mark(header))
+}
+
+/// Returns the header without the byte order mark of UTF-8 at its front.
+fn without_mark(header: &[u8]) -> &[u8]
+    ensures value { result.now ≡ without_mark header.now }
+    ensures few { length result.now ≤ length header.now }
+{
+    if has_mark(header) {
+        &header[3..]
+    } else {
+        header
+    }
+}
+
+/// Returns whether the bytes begin with a byte order mark.
+fn has_mark(header: &[u8]) -> bool
+    ensures value { result ≡ has_mark header.now }
+    ensures room { result ≡ true → 3 ≤ length header.now }
+{
+    header.len() >= 3 && header[0] == 0xef && header[1] == 0xbb && header[2] == 0xbf
 }
 
 /// Returns the number that the header gives the name, or the name if the header lacks it.
@@ -144,7 +164,7 @@ fn push_expected_names(words: &mut Buffer, field: Field, header: &[u8])
         return;
     }
     words.push(b"; expected ");
-    push_names(words, field, header);
+    push_names(words, field, without_mark(header));
 }
 
 /// Appends the names of the header, with commas between them.

@@ -9,10 +9,8 @@ ghost use Rattle.caldate_lines.specs.Lines.{all_lines};
 ghost use Rattle.caldate_lines.specs.Records.{IsField, IsRecord, records_text};
 ghost use Rattle.caldate_lines.specs.declared.quoting.Quoting.TheVariants.{Ready};
 ghost use Rattle.caldate_lines.specs.declared.run_error.RunError.{RunError};
-ghost use Rattle.caldate_answers.specs.Answers.{Answer, IsAnswer};
+ghost use Rattle.caldate_answers.specs.Answers.{Answer, IsAnswer, clock_of};
 ghost use Rattle.caldate_answers.specs.declared.request.Clock.{Clock};
-ghost use Rattle.caldate_answers.specs.declared.request.Move.{Move};
-ghost use Rattle.caldate_answers.specs.declared.request.Request.TheVariants.{MoveAt};
 ghost use Rattle.caldate_run.specs.Recurring.{ListsOccurrences};
 ghost use Rattle.caldate_run.specs.Steps.{ListsSteps};
 
@@ -44,13 +42,12 @@ fn one_clock(given: &Option<Clock<'_>>)
     }
 }
 
-/// Proves that a reading has one meaning in the zone of `at ZONE` and a move.
+/// Proves that a reading has one meaning in the zone of `at ZONE`.
 fn one_place(request: &Request<'_>)
-    ensures { (clock : Clock) (by : Move) → request.now ≡ MoveAt clock by
-        → (reading : ℤ) (a b : Local) → IsLocalOf clock.zone reading a
-        → IsLocalOf clock.zone reading b → a ≡ b }
+    ensures { (clock : Clock) → clock_of request.now ≡ Some clock → (reading : ℤ) (a b : Local)
+        → IsLocalOf clock.zone reading a → IsLocalOf clock.zone reading b → a ≡ b }
 {
-    if let Request::MoveAt(clock, _) = request {
+    if let Some(clock) = request.clock() {
         one_local(&clock.zone);
     }
 }

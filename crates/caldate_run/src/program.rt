@@ -34,7 +34,7 @@ use caldate_args::args::words::word_at;
 use caldate_args::command::Command;
 use caldate_args::files::Joined;
 use caldate_args::files::named_files::NamedFiles;
-use caldate_lines::ending::{Ending, end};
+use caldate_lines::ending::{Ending, end, end_after};
 use caldate_lines::field::Field;
 use caldate_lines::output::write_all;
 use caldate_lines::run_error::RunError;
@@ -119,13 +119,15 @@ pub fn perform<R: Source, W: Sink, E: Sink>(
 {
     match asked {
         Ok(Command::Lines(filter)) => {
+            let skipped = filter.skip;
             let outcome = run(filter, reader, writer);
-            end(outcome, errors)
+            end_after(outcome, skipped, errors)
         }
         Ok(Command::Named(filter, field)) => run_named(filter, field, reader, writer, errors),
         Ok(Command::Once(filter)) => {
+            let skipped = filter.skip;
             let outcome = run_once(filter, arguments, *now, writer);
-            end(outcome, errors)
+            end_after(outcome, skipped, errors)
         }
         Ok(Command::NamedOnce(filter, field)) => {
             run_named_once(filter, field, arguments, *now, writer, errors)

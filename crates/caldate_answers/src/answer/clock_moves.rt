@@ -1,16 +1,18 @@
 //! Moments moved by the clocks of a zone.
-ghost use Rattle.std.specs.Prelude.{◌≡◌, ◌+ℤ◌, pos};
+ghost use Rattle.std.specs.Prelude.{◌≡◌, ◌==◌, ◌+ℤ◌, pos};
 ghost use Rattle.cal_time.specs.Date.{IsDate};
 ghost use Rattle.cal_time.specs.SignedDuration.{whole_days};
+ghost use Rattle.cal_time.specs.SignedDuration as duration;
 ghost use Rattle.cal_datetime.specs.OffsetDateTime.{instant};
 ghost use Rattle.cal_zoned.specs.Zoned.{IsSeen, instant_in};
-ghost use Rattle.caldate_answers.specs.ClockMoves.{IsDayWith, IsMovedIn, IsMovedOn, IsOnDay, IsRounded};
+ghost use Rattle.caldate_answers.specs.ClockMoves.{IsDayWith, IsKeptAt, IsMovedIn, IsMovedOn, IsNearestOn, IsOnDay, IsPeriodOnDay, IsRounded};
 
 use crate::answer::floored;
 use crate::answer::moves::moved_day;
 use crate::request::{Clock, Move};
-use cal_datetime::OffsetDateTime;
-use cal_schedule::Workdays;
+use cal_datetime::{OffsetDateTime, PlainDateTime};
+use cal_rounding::{RoundingMode, RoundingUnit, round_date_time, round_zoned};
+use cal_schedule::{Period, Workdays, date_after};
 use cal_time::{Date, SignedDuration};
 use cal_zone::{LocalTimeError, Policy, Zone};
 use cal_zoned::ZonedDateTime;
@@ -67,6 +69,8 @@ fn moved_in<'z>(
         Move::Days(duration) => on_day(policy, days_later(from.date(), duration), from),
         Move::Add(duration) => later(duration, from),
         Move::Floor(minutes) => rounded_down(policy, minutes, from),
+        Move::Period(period) => period_later(policy, period, from),
+        Move::Round(unit) => rounded(policy, unit, from),
     }
 }
 
@@ -123,4 +127,54 @@ fn rounded_down<'z>(
         };
     }
     from.with_local(floored(minutes, from.to_offset_date_time()).local(), policy)
+}
+
+/// Adds a period to a date-time in a zone.
+fn period_later<'z>(
+    policy: Policy,
+    period: Period,
+    from: &ZonedDateTime<'z>,
+) -> Result<ZonedDateTime<'z>, LocalTimeError>
+    ensures { IsPeriodOnDay policy period from.now result }
+{
+    // It states which day the months and the days of the period give.
+    let _ = date_after(from.date(), period);
+    from.checked_add_period(period, policy)
+}
+
+/// Rounds what the clocks show to the nearest multiple of a unit, and up between two, or for a day to
+/// the nearer of two starts.
+fn rounded<'z>(
+    policy: Policy,
+    unit: RoundingUnit,
+    from: &ZonedDateTime<'z>,
+) -> Result<ZonedDateTime<'z>, LocalTimeError>
+    ensures { IsNearestOn policy unit from.now result }
+{
+    if is_day(unit) {
+        return round_zoned(from, unit, RoundingMode::HalfCeil);
+    }
+    let local = round_date_time(from.local(), unit, RoundingMode::HalfCeil);
+    kept_at(policy, local, from)
+}
+
+/// Returns whether the unit is a day.
+fn is_day(unit: RoundingUnit) -> bool
+    ensures { result ≡ (unit == duration.day) }
+{
+    unit.length() == SignedDuration::DAY
+}
+
+/// Moves a date-time in a zone to another local time, if there is one.
+fn kept_at<'z>(
+    policy: Policy,
+    local: Option<PlainDateTime>,
+    from: &ZonedDateTime<'z>,
+) -> Result<ZonedDateTime<'z>, LocalTimeError>
+    ensures { IsKeptAt policy from.now local result }
+{
+    match local {
+        Some(local) => from.with_local(local, policy),
+        None => Err(LocalTimeError::OutOfRange),
+    }
 }

@@ -26,10 +26,12 @@ pub fn why_unanswered(
         Request::Move(by) => why_not_moved(clock, workdays, *by, found),
         Request::MoveAt(own, by) => why_unmoved(own, workdays, *by, moment_of(found)),
         Request::To(_)
+        | Request::ToIso
         | Request::Print(_)
         | Request::Until(_, _, _)
         | Request::Since(_, _, _)
-        | Request::At(_)
+        | Request::At(_, _)
+        | Request::PrintAt(_, _)
         | Request::Keep(_) => NoAnswer::None,
     }
 }

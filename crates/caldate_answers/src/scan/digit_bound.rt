@@ -41,7 +41,7 @@ fn offset_index(bytes: &[u8]) -> usize
 }
 
 /// Returns the number of digits at the front of the bytes.
-fn digits_at_front(bytes: &[u8]) -> usize
+pub(crate) fn digits_at_front(bytes: &[u8]) -> usize
     ensures value { result ≡ digits_at_front bytes.now }
     ensures within { result ≤ length bytes.now }
 {

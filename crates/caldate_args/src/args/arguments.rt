@@ -1,8 +1,7 @@
 //! The arguments of the program.
 ghost use Rattle.std.specs.Prelude.{◌≤◌, IfSome, length};
 
-use crate::args::spelling::command_of;
-use crate::args::words::cut;
+use crate::args::extent::{Extent, Part};
 use std::env::{Env, FillError};
 
 /// The maximum length of all arguments together, in bytes.
@@ -17,53 +16,66 @@ pub struct Arguments<'a> {
     pub first_file: Option<usize>,
 }
 
+/// The length of a buffer for the words, each with a zero byte after it.
+pub const BUFFER_BYTES: usize = MAX_BYTES + 1;
+
 /// Writes the words of the arguments to the front of the buffer, with a zero byte between two, and
-/// returns them. Returns `None` if they don't fit. Words after a `--` name files, and aren't written.
+/// returns them. The options come before the words of the command. Returns `None` if they don't fit.
+/// Words after a `--` or after the command name files, and aren't written.
 ///
-/// `add 1 day` takes nine bytes. `to week -- jan feb` takes seven, and the first file has the index
-/// 4.
-pub fn join<'a, E: Env>(env: &E, buffer: &'a mut [u8; MAX_BYTES]) -> Option<Arguments<'a>>
+/// `add 1 day` takes nine bytes. `to week jan feb` takes seven, and the first file has the index 3.
+pub fn join<'a, E: Env>(env: &E, buffer: &'a mut [u8; BUFFER_BYTES]) -> Option<Arguments<'a>>
     ensures { IfSome result (λ arguments. length arguments.words.now ≤ 4096) }
 {
     let mut filled = 0;
+    let mut options = 0;
+    let mut extent = Extent::new();
     // Argument 0 is the name of the program.
     for i in 1..=MAX_BYTES {
-        let start = if i == 1 { 0 } else { MAX_BYTES.min(filled + 1) };
-        match env.arg(i, &mut buffer[start..]) {
+        match env.arg(i, &mut buffer[filled..]) {
             Ok(length) => {
-                let is_mark = &buffer[start..start + length] == b"--".as_slice();
-                if is_mark && reads_input(&buffer[..filled]) && has_arg(env, i + 1) {
-                    return Some(Arguments {
-                        words: &buffer[..filled],
-                        first_file: Some(i + 1),
-                    });
+                let end = filled + length;
+                let word = &buffer[filled..end];
+                if word == b"--".as_slice() && extent.reads_input() && has_arg(env, i + 1) {
+                    return Some(words_before(buffer, filled, Some(i + 1)));
                 }
-                if i > 1 {
-                    if filled == MAX_BYTES {
-                        return None;
-                    }
-                    buffer[filled] = 0;
+                let part = extent.take(word);
+                if let Part::File = part {
+                    return Some(words_before(buffer, filled, Some(i)));
                 }
-                filled = start + length;
+                if end == BUFFER_BYTES {
+                    return None;
+                }
+                buffer[end] = 0;
+                filled = end + 1;
+                if let Part::Option = part {
+                    buffer[options..filled].rotate_right(length + 1);
+                    options += length + 1;
+                }
             }
-            Err(FillError::NotPresent) => {
-                return Some(Arguments {
-                    words: &buffer[..filled],
-                    first_file: None,
-                });
-            }
+            Err(FillError::NotPresent) => return Some(words_before(buffer, filled, None)),
             Err(FillError::TooLong) => return None,
         }
     }
     None
 }
 
+/// Returns the words at the front of the buffer, without the zero byte after the last.
+fn words_before<'a>(
+    buffer: &'a [u8; BUFFER_BYTES],
+    filled: usize,
+    first_file: Option<usize>,
+) -> Arguments<'a>
+    requires { filled ≤ 4097 }
+    ensures { length result.words.now ≤ 4096 }
+{
+    Arguments {
+        words: &buffer[..filled.saturating_sub(1)],
+        first_file,
+    }
+}
+
 /// Returns whether there is an argument with this index.
 fn has_arg<E: Env>(env: &E, i: usize) -> bool {
     !matches!(env.arg(i, &mut [0u8; 0]), Err(FillError::NotPresent))
-}
-
-/// Returns whether the words may be a command that reads an input.
-fn reads_input(words: &[u8]) -> bool {
-    command_of(cut(words).0).is_none()
 }

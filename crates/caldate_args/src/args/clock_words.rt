@@ -1,4 +1,4 @@
-//! The words `today` and `now`, and the moment that they mean.
+//! The words `now`, `today`, `yesterday` and `tomorrow`, and what they mean.
 ghost use Rattle.cal_datetime.specs.OffsetDateTime.{instant};
 ghost use Rattle.std.specs.Prelude.{Some, ◌≡◌, ◌≤◌, length};
 ghost use Rattle.caldate_args.specs.ClockWords.{moment_in, rfc3339_or_unix_text};
@@ -37,32 +37,48 @@ pub fn moment_in(zone: &Zone<'_>, moment: OffsetDateTime) -> OffsetDateTime
     moment.local().saturating_add(seconds).assume_offset(offset)
 }
 
-/// Returns the moment for `now`, its date for `today`, and `None` for any other word.
+/// Returns the moment for `now`, its date for `today`, the previous day for `yesterday`, the next day
+/// for `tomorrow`, and `None` for any other word.
 pub fn clock_word(word: &[u8], now: Option<OffsetDateTime>) -> Option<DateOrMoment> {
     let now = now?;
+    if word == b"now".as_slice() {
+        return Some(DateOrMoment::Moment(MomentForm::Rfc3339, now));
+    }
+    let date = date_named(word, now.date())?;
+    Some(DateOrMoment::Date(DateForm::Calendar, date))
+}
+
+/// Returns the date for `today`, `yesterday` or `tomorrow`, if it is in range.
+fn date_named(word: &[u8], today: Date) -> Option<Date> {
     if word == b"today".as_slice() {
-        Some(DateOrMoment::Date(DateForm::Calendar, now.date()))
-    } else if word == b"now".as_slice() {
-        Some(DateOrMoment::Moment(MomentForm::Rfc3339, now))
+        Some(today)
+    } else if word == b"yesterday".as_slice() {
+        today.previous_day()
+    } else if word == b"tomorrow".as_slice() {
+        today.next_day()
     } else {
         None
     }
 }
 
-/// Returns the text that `today` or `now` means after `--date`, and `None` for any other word.
+/// Returns whether the word is `today`, `yesterday` or `tomorrow`.
+pub fn is_day_word(word: &[u8]) -> bool {
+    word == b"today".as_slice() || word == b"yesterday".as_slice() || word == b"tomorrow".as_slice()
+}
+
+/// Returns the text that `now` or a word for a date means after `--date`, and `None` for any other
+/// word.
 pub fn clock_text(
     word: &[u8],
     clock: &Option<Clock<'_>>,
     now: Option<PlainDateTime>,
 ) -> Option<ShortText> {
     let utc = now?;
-    if word == b"today".as_slice() {
-        Some(CalendarText(date_on(clock, utc)).text())
-    } else if word == b"now".as_slice() {
-        Some(rfc3339_or_unix_text(utc.assume_utc()))
-    } else {
-        None
+    if word == b"now".as_slice() {
+        return Some(rfc3339_or_unix_text(utc.assume_utc()));
     }
+    let date = date_named(word, date_on(clock, utc))?;
+    Some(CalendarText(date).text())
 }
 
 /// Returns the date that the clocks show at a date-time of UTC.

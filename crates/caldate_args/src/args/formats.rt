@@ -4,10 +4,11 @@ ghost use Rattle.cal_format.specs.Reading.{are_moment_items};
 
 use crate::args::names::{FORMATS, FORMS, NamedReader, READERS, value_named};
 use cal_format::{Component, Format, Item, Padding};
+use cal_text::MomentForm;
 use caldate_answers::reading::Reading;
 use caldate_answers::reading::reader::Reader;
 use caldate_answers::reading::value_format::ValueFormat;
-use caldate_answers::request::{Form, Request};
+use caldate_answers::request::{Form, Place, Request};
 use caldate_lines::lines::index_of;
 use std::str;
 
@@ -50,9 +51,27 @@ pub fn format_of(word: &[u8]) -> Option<Format>
 pub fn to_of(word: &[u8]) -> Option<Request<'static>> {
     if is_format(word) {
         Some(Request::Print(format_of(word)?))
+    } else if is_iso(word) {
+        Some(Request::ToIso)
     } else {
         Some(Request::To(form_of(word)?))
     }
+}
+
+/// Parses the argument of `to` after `at` and a place.
+pub fn to_at_place_of<'a>(word: &[u8], place: Place<'a>) -> Option<Request<'a>> {
+    if is_format(word) {
+        Some(Request::PrintAt(place, format_of(word)?))
+    } else if is_iso(word) {
+        Some(Request::At(place, Form::Moment(MomentForm::Rfc3339)))
+    } else {
+        Some(Request::At(place, form_of(word)?))
+    }
+}
+
+/// Returns whether the word is `iso`, the form of a date or of a moment.
+fn is_iso(word: &[u8]) -> bool {
+    word == b"iso".as_slice()
 }
 
 /// Parses the name of a form.

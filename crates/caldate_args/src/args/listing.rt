@@ -3,22 +3,23 @@ ghost use Rattle.std.specs.Prelude.{◌≤◌, IfOk, IfSome};
 ghost use Rattle.caldate_args.specs.Lists.{HasValidStep, IsStep};
 
 use crate::args::requirement::Requirement;
-use crate::args::spelling::{parse_u32, unit_of};
+use crate::args::spelling::{iso_period_of, parse_u32, unit_of};
 use crate::args::usage_error::{Expected, UsageError, requirement_at, usage_error_at};
 use crate::args::words::{ended, ends_at, found_at, keyword_at, word_as, word_at};
-use crate::args::zone_at;
+use crate::args::{has_period, zone_at};
 use crate::command::{Command, Listing, Moments, Occurrences, Span, Step, StepUnit};
 use crate::data_files::DataFiles;
 use cal_datetime::OffsetDateTime;
-use cal_recurrence::{Recurrence, parse};
+use cal_recurrence::{Recurrence, parse, parse_days};
+use cal_schedule::Period;
 use cal_text::DateOrMoment;
 use cal_time::Date;
 use cal_zone::Policy;
 use caldate_answers::request::{Clock, TimeUnit};
 use caldate_lines::lines::index_of;
 
-/// Parses `list from A to B`, `list from A to B by N UNIT` or `list from A to B by RULE`, the last
-/// two perhaps with `at ZONE`.
+/// Parses `list from A to B`, and perhaps `by N UNIT`, `by PERIOD` or `by RULE`, these perhaps with
+/// `at ZONE`.
 pub fn list_of<'a, D: DataFiles<'a>>(
     words: &'a [u8],
     now: &Option<OffsetDateTime>,
@@ -37,19 +38,26 @@ pub fn list_of<'a, D: DataFiles<'a>>(
     keyword_at(words, 3, b"to", Expected::UpTo)?;
     let last = date_at(words, 4, now)?;
     let step = step_of(words)?;
-    ended(words, 8, ())?;
+    ended(words, after_step(words), ())?;
     Ok(Command::Dates(Listing { first, last, step }))
 }
 
-/// Returns whether word 8 is `at`.
+/// Returns the index of the word after the step, which is a period, or a number and a unit.
+fn after_step(words: &[u8]) -> usize
+    ensures { result ≤ 8 }
+{
+    if has_period(words, 6) { 7 } else { 8 }
+}
+
+/// Returns whether the word after the step is `at`.
 fn is_in_zone(words: &[u8]) -> bool {
-    match word_at(words, 8) {
+    match word_at(words, after_step(words)) {
         Some(word) => word == b"at".as_slice(),
         None => false,
     }
 }
 
-/// Parses `A to B by N UNIT at ZONE`, where A and B are two moments.
+/// Parses `A to B by N UNIT at ZONE` or `A to B by PERIOD at ZONE`, where A and B are two moments.
 fn moments_of<'a, D: DataFiles<'a>>(
     words: &'a [u8],
     now: &Option<OffsetDateTime>,
@@ -61,10 +69,11 @@ fn moments_of<'a, D: DataFiles<'a>>(
     keyword_at(words, 3, b"to", Expected::UpTo)?;
     let span = span_from(words, &first, now)?;
     let step = step_of(words)?;
+    let at = after_step(words);
     let Span::Moments(first, last) = span else {
-        return Err(requirement_at(8, Requirement::TwoMoments));
+        return Err(requirement_at(at, Requirement::TwoMoments));
     };
-    let zone = zone_at(words, 9, files)?;
+    let zone = zone_at(words, at + 1, files)?;
     let policy = Policy::Compatible;
     Ok(Moments {
         clock: Clock { zone, policy },
@@ -84,7 +93,7 @@ fn occurrences_of<'a, D: DataFiles<'a>>(
     keyword_at(words, 3, b"to", Expected::UpTo)?;
     let span = span_from(words, &first, now)?;
     keyword_at(words, 5, b"by", Expected::By)?;
-    let recurrence = word_as(words, 6, rule_of, Expected::Rule)?;
+    let recurrence = recurrence_at(words, 6, &span)?;
     let span = span_at(words, span, files)?;
     Ok(Occurrences { span, recurrence })
 }
@@ -152,12 +161,15 @@ fn moment_in(found: &DateOrMoment) -> Option<OffsetDateTime> {
     }
 }
 
+/// The maximum of days or months: 4294967295 years.
+const MAX_STEP: i64 = 51_539_607_540;
+
 const EVERY_DAY: Step = Step {
     every: 1,
     unit: StepUnit::Days,
 };
 
-/// Parses `by N UNIT` after the two dates. The default is every day.
+/// Parses `by N UNIT` or `by PERIOD` after the two dates. The default is every day.
 fn step_of(words: &[u8]) -> Result<Step, UsageError<'static>>
     ensures steps { IfOk result IsStep }
 {
@@ -165,12 +177,49 @@ fn step_of(words: &[u8]) -> Result<Step, UsageError<'static>>
         return Ok(EVERY_DAY);
     }
     keyword_at(words, 5, b"by", Expected::By)?;
+    if has_period(words, 6) {
+        let period = word_as(words, 6, iso_period_of, Expected::IsoPeriod)?;
+        return match step_by(period) {
+            Some(step) => Ok(step),
+            None => Err(usage_error_at(6, Expected::StepPeriod)),
+        };
+    }
     let number = number_at(words, 6)?;
     let unit = word_as(words, 7, unit_of, Expected::UnitOfDays)?;
     match step_in(number, unit) {
         Some(step) => Ok(step),
         None => Err(usage_error_at(7, Expected::UnitOfDays)),
     }
+}
+
+/// Returns the step of a positive period of years and months, or of weeks and days.
+fn step_by(period: Period) -> Option<Step>
+    ensures { IfSome result IsStep }
+{
+    if !period.duration().is_zero() {
+        return None;
+    }
+    let (months, days) = (period.whole_months(), period.whole_days());
+    if days == 0 {
+        step_from(months, StepUnit::Months)
+    } else if months == 0 {
+        step_from(days, StepUnit::Days)
+    } else {
+        None
+    }
+}
+
+/// Returns the step of a positive number of units.
+fn step_from(number: i64, unit: StepUnit) -> Option<Step>
+    ensures { IfSome result IsStep }
+{
+    if number < 1 || number > MAX_STEP {
+        return None;
+    }
+    Some(Step {
+        every: number as u64,
+        unit,
+    })
 }
 
 /// Parses the word at an index as a number from 1 to 4294967295.
@@ -191,8 +240,25 @@ fn is_rule_like(words: &[u8]) -> bool {
     }
 }
 
+/// Parses the word at an index as a recurrence. Dates have no hours, so one by hours can't start at a
+/// date.
+fn recurrence_at(
+    words: &[u8],
+    at: usize,
+    span: &Span<'_>,
+) -> Result<Recurrence, UsageError<'static>> {
+    match span {
+        Span::Dates(_, _) => word_as(words, at, day_rule_of, Expected::DayRule),
+        Span::Moments(_, _) | Span::InZone(_, _, _) => word_as(words, at, rule_of, Expected::Rule),
+    }
+}
+
 fn rule_of(text: &[u8]) -> Option<Recurrence> {
     parse(text).ok()
+}
+
+fn day_rule_of(text: &[u8]) -> Option<Recurrence> {
+    parse_days(text).ok()
 }
 
 /// Returns a step of `number` days, weeks, months or years, or `None` for any other unit.

@@ -5,7 +5,7 @@ use cal_text::{DateForm, MomentForm};
 use cal_zone::Policy;
 use caldate_answers::reading::DateOrder;
 use caldate_answers::reading::spelling::Spelling;
-use caldate_answers::request::{Form, TimeUnit, UnixUnit};
+use caldate_answers::request::{Form, Measure, TimeUnit, UnixUnit};
 use caldate_lines::on_invalid::OnInvalid;
 
 /// A form of `--read` that has a name.
@@ -57,6 +57,7 @@ pub enum MoveVerb {
     End,
     OnOrAfter,
     OnOrBefore,
+    Round,
 }
 
 /// The first word of a command that reads no input.
@@ -87,7 +88,7 @@ pub(crate) const OPTIONS: [(&str, OptionName); 14] = [
 ];
 
 /// The verbs.
-pub(crate) const VERBS: [(&str, Verb); 12] = [
+pub(crate) const VERBS: [(&str, Verb); 13] = [
     ("to", Verb::To),
     ("add", Verb::Move(MoveVerb::Add)),
     ("next", Verb::Move(MoveVerb::Next)),
@@ -98,6 +99,7 @@ pub(crate) const VERBS: [(&str, Verb); 12] = [
     ("end", Verb::Move(MoveVerb::End)),
     ("on-or-after", Verb::Move(MoveVerb::OnOrAfter)),
     ("on-or-before", Verb::Move(MoveVerb::OnOrBefore)),
+    ("round", Verb::Move(MoveVerb::Round)),
     ("at", Verb::At),
     ("keep", Verb::Keep),
 ];
@@ -188,6 +190,21 @@ pub(crate) const PERIODS: [(&str, CalendarUnit); 4] = [
 
 /// The units to which `start` rounds down, with their minutes.
 pub(crate) const ROUNDINGS: [(&str, u16); 3] = [("days", 1440), ("hours", 60), ("minutes", 1)];
+
+/// The units of `round`, with their seconds.
+pub(crate) const ROUNDED_UNITS: [(&str, u32); 4] = [
+    ("days", 86_400),
+    ("hours", 3_600),
+    ("minutes", 60),
+    ("seconds", 1),
+];
+
+/// The measures of `until` and `since` that aren't units of time.
+pub(crate) const MEASURES: [(&str, Measure); 3] = [
+    ("P", Measure::Period),
+    ("PT", Measure::Duration),
+    ("HH:MM:SS", Measure::Clock),
+];
 
 /// Returns the meaning of a name.
 pub fn value_named<T: Copy>(word: &[u8], table: &[(&str, T)]) -> Option<T> {

@@ -244,6 +244,14 @@ pub fn is_option(word: &[u8]) -> bool {
     }
 }
 
+/// Returns whether the word is such an option, and its value is the next word.
+pub fn is_option_with_value(word: &[u8]) -> bool {
+    match option_of(word) {
+        Some(option) => takes_value(option),
+        None => false,
+    }
+}
+
 /// Sets the option, or returns the error if the value is invalid. An option without a value ignores
 /// it.
 // A proof costs more the longer a function is, so the options are in three.
@@ -407,9 +415,11 @@ fn field_number_of(word: &[u8]) -> Option<u16> {
     Some(number as u16)
 }
 
+/// Parses one byte, or `\t` for a tab.
 fn byte_of(word: &[u8]) -> Option<u8> {
     match word {
         [byte] => Some(*byte),
+        b"\\t" => Some(b'\t'),
         _ => None,
     }
 }
@@ -521,8 +531,9 @@ fn has_own(reader: &Reader) -> bool {
     }
 }
 
-/// Returns the option that is missing or excluded, if the others need or exclude it.
-pub fn unmet_in(options: &Options<'_>) -> Option<Requirement> {
+/// Returns the option that is missing or excluded, if the others need or exclude it. `is_day` is
+/// `true` if the only text is the date of a clock, such as `today`.
+pub fn unmet_in(options: &Options<'_>, is_day: bool) -> Option<Requirement> {
     if options.scan && options.fields.is_some() {
         Some(Requirement::ScanField)
     } else if options.scan && options.csv {
@@ -544,18 +555,18 @@ pub fn unmet_in(options: &Options<'_>) -> Option<Requirement> {
     } else if options.names.any() && !options.header {
         Some(Requirement::Header)
     } else {
-        unmet_by_readers(options)
+        unmet_by_readers(options, is_day)
     }
 }
 
 /// Returns the option that is missing or excluded for the forms of `--read`, if there is one.
-fn unmet_by_readers(options: &Options<'_>) -> Option<Requirement> {
+fn unmet_by_readers(options: &Options<'_>, is_day: bool) -> Option<Requirement> {
     if any_yearless(options.readers.as_slice()) && options.year.is_none() {
         Some(Requirement::AssumeYear)
     } else if options.year.is_some() && !any_yearless(options.readers.as_slice()) {
         Some(Requirement::Yearless)
     } else if options.zone.is_some() {
-        unmet_by_zone(options)
+        unmet_by_zone(options, is_day)
     } else if any_local(options.readers.as_slice()) && options.offset.is_none() {
         Some(Requirement::Assume)
     } else if options.offset.is_some() && !any_local(options.readers.as_slice()) {
@@ -566,10 +577,12 @@ fn unmet_by_readers(options: &Options<'_>) -> Option<Requirement> {
 }
 
 /// Returns the requirement of `--zone` that the options don't meet, if there is one: no `--assume`,
-/// and only forms without an offset.
-fn unmet_by_zone(options: &Options<'_>) -> Option<Requirement> {
+/// and only forms without an offset, or no forms and the date of a clock.
+fn unmet_by_zone(options: &Options<'_>, is_day: bool) -> Option<Requirement> {
     if options.offset.is_some() {
         Some(Requirement::OffsetOrZone)
+    } else if is_day && options.readers.as_slice().len() == 0 {
+        None
     } else if !any_local(options.readers.as_slice()) || any_own(options.readers.as_slice()) {
         Some(Requirement::LocalOnly)
     } else {

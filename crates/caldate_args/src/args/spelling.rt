@@ -3,12 +3,14 @@
 ghost use Rattle.std.specs.Prelude.{◌≤◌, IfSome};
 
 use crate::args::names::{
-    COMMANDS, CommandName, PERIODS, ROUNDINGS, UNITS, VERBS, Verb, spells, spells_unit,
-    value_named, value_of_unit,
+    COMMANDS, CommandName, MEASURES, PERIODS, ROUNDED_UNITS, ROUNDINGS, UNITS, VERBS, Verb, spells,
+    spells_unit, value_named, value_of_unit,
 };
-use cal_schedule::CalendarUnit;
-use cal_time::Weekday;
-use caldate_answers::request::{DayMove, Move, TimeUnit};
+use cal_duration::period;
+use cal_rounding::RoundingUnit;
+use cal_schedule::{CalendarUnit, Period};
+use cal_time::{SignedDuration, Weekday};
+use caldate_answers::request::{DayMove, Measure, Move, TimeUnit};
 use std::str;
 
 /// Parses the name of a command that reads no input.
@@ -104,4 +106,36 @@ pub fn minutes_word(word: &[u8]) -> Option<()> {
 /// Parses a unit of time.
 pub fn unit_of(word: &[u8]) -> Option<TimeUnit> {
     value_of_unit(word, &UNITS)
+}
+
+/// Parses a measure: a unit of time, `P`, `PT` or `HH:MM:SS`.
+pub fn measure_of(word: &[u8]) -> Option<Measure> {
+    match value_named(word, &MEASURES) {
+        Some(measure) => Some(measure),
+        None => Some(Measure::Units(unit_of(word)?)),
+    }
+}
+
+/// Parses a period, such as `P1M3DT4H`.
+pub fn iso_period_of(word: &[u8]) -> Option<Period> {
+    period::parse(word).ok()
+}
+
+/// Returns whether the word begins as a period does, by `P` or `-P`.
+pub fn is_period_like(word: &[u8]) -> bool {
+    match word {
+        [b'P', ..] | [b'-', b'P', ..] => true,
+        _ => false,
+    }
+}
+
+/// Parses a unit of `round`, and returns its seconds.
+pub fn rounded_unit_of(word: &[u8]) -> Option<u32> {
+    value_of_unit(word, &ROUNDED_UNITS)
+}
+
+/// Returns the step of `number` units of `seconds` each, if it divides a day.
+pub fn rounding_of(number: i64, seconds: u32) -> Option<RoundingUnit> {
+    let seconds = number.checked_mul(i64::from(seconds))?;
+    RoundingUnit::new(SignedDuration::seconds(seconds))
 }

@@ -1,12 +1,12 @@
-//! TEXT of `until` and `since`, and the unit after it.
+//! TEXT of `until` and `since`, and the measure after it.
 ghost use Rattle.std.specs.Prelude.{◌+◌, ◌<◌, ◌^◌};
 
 use crate::args::options::{field_numbers_of, is_name};
-use crate::args::spelling::unit_of;
+use crate::args::spelling::measure_of;
 use crate::args::usage_error::{Expected, UsageError, usage_error_at};
 use crate::args::words::{ends_at, found_at, keyword_at, only_at, word_at};
 use cal_datetime::OffsetDateTime;
-use caldate_answers::request::{Target, TimeUnit};
+use caldate_answers::request::{Measure, Target};
 use caldate_lines::field_name::FieldName;
 
 /// Parses `TEXT` or `TEXT in UNIT`. TEXT may be `field N`, `field N-M` or `field NAME`.
@@ -14,15 +14,15 @@ pub fn target_at<'a>(
     words: &'a [u8],
     at: usize,
     now: Option<OffsetDateTime>,
-) -> Result<(Target<'a>, Option<TimeUnit>), UsageError<'static>>
+) -> Result<(Target<'a>, Option<Measure>), UsageError<'static>>
     requires { at + 4 < 2 ^ 64 }
 {
     if names_field(words, at) {
         let other = other_at(words, at + 1)?;
-        return Ok((other, in_unit_at(words, at + 2)?));
+        return Ok((other, in_measure_at(words, at + 2)?));
     }
     let target = found_at(words, at, Expected::Target, now)?;
-    Ok((Target::Text(target), in_unit_at(words, at + 1)?))
+    Ok((Target::Text(target), in_measure_at(words, at + 1)?))
 }
 
 /// Returns whether the word is `field`.
@@ -48,13 +48,13 @@ fn other_of<'a>(word: &'a [u8]) -> Option<Target<'a>> {
 }
 
 /// Parses `in UNIT`, or returns `None` if the words end here.
-fn in_unit_at(words: &[u8], at: usize) -> Result<Option<TimeUnit>, UsageError<'static>>
+fn in_measure_at(words: &[u8], at: usize) -> Result<Option<Measure>, UsageError<'static>>
     requires { at + 2 < 2 ^ 64 }
 {
     if ends_at(words, at) {
         return Ok(None);
     }
     keyword_at(words, at, b"in", Expected::In)?;
-    let unit = only_at(words, at + 1, unit_of, Expected::UnitOfTime)?;
-    Ok(Some(unit))
+    let measure = only_at(words, at + 1, measure_of, Expected::Measure)?;
+    Ok(Some(measure))
 }

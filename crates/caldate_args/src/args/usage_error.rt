@@ -36,6 +36,10 @@ pub enum Expected {
     Amount,
     /// A unit of time, such as `hours`.
     UnitOfTime,
+    /// A unit of time, or a period or a duration, such as `P`.
+    Measure,
+    /// A period. The word begins with `P` or `-P`.
+    IsoPeriod,
     /// A weekday, such as `Friday`.
     Weekday,
     /// A number from 1 to 255.
@@ -48,6 +52,12 @@ pub enum Expected {
     StartPeriod,
     /// `minutes`.
     Minutes,
+    /// A unit of `round`, or a number of them.
+    Rounding,
+    /// A unit of `round`.
+    RoundedUnit,
+    /// A number of units that divides a day.
+    RoundedNumber,
     /// An offset from UTC, such as `+01:00`.
     Offset,
     /// A year of four digits, such as `2024`.
@@ -74,8 +84,12 @@ pub enum Expected {
     Many,
     /// A recurrence. The word has a `=`.
     Rule,
+    /// The same from a date on.
+    DayRule,
     /// A unit of dates, such as `months`.
     UnitOfDays,
+    /// A positive period of years and months, or of weeks and days. The word begins with `P` or `-P`.
+    StepPeriod,
     /// No word.
     End,
 }

@@ -8,7 +8,7 @@ use crate::args::options::is_option;
 use crate::args::usage_error::{Expected, UsageError};
 use crate::args::words::word_at;
 use crate::data_files::data_error::push_data_error;
-use cal_recurrence::parse;
+use cal_recurrence::{ParseRuleError, Recurrence, parse, parse_days};
 use caldate_lines::excerpt::{Excerpt, push_quoted};
 use caldate_lines::lines::index_of;
 use caldate_lines::output::buffer::Buffer;
@@ -89,7 +89,6 @@ fn push_on_word(line: &mut Buffer, message: &[u8], usage_error: UsageError<'_>, 
     if let Some(error) = usage_error.reason {
         push_data_error(line, error);
     }
-    push_file_hint(line, usage_error.expected, word);
 }
 
 /// Splits a message before the expected words, which begin with `;`.
@@ -159,46 +158,23 @@ fn push_rule_error(line: &mut Buffer, expected: Expected, word: &[u8])
     requires { length line.old ≤ 500 }
     ensures short { length line.new ≤ length line.old + 68 }
 {
-    if let Expected::Rule = expected {
-        push_error_in_rule(line, word);
+    match expected {
+        Expected::Rule => push_error_in_rule(line, parse(word)),
+        Expected::DayRule => push_error_in_rule(line, parse_days(word)),
+        _ => {}
     }
 }
 
 /// Appends the error in a rule and its position: `: invalid value of FREQ at 0`.
-fn push_error_in_rule(line: &mut Buffer, word: &[u8])
+fn push_error_in_rule(line: &mut Buffer, parsed: Result<Recurrence, ParseRuleError>)
     requires { length line.old ≤ 500 }
     ensures short { length line.new ≤ length line.old + 68 }
 {
-    if let Err(error) = parse(word) {
+    if let Err(error) = parsed {
         line.push(b": ");
         line.push(error.reason.text().as_bytes());
         line.push(b" at ");
         line.push_number(error.position as u64);
-    }
-}
-
-/// Appends a hint if a word too many looks like a file.
-fn push_file_hint(line: &mut Buffer, expected: Expected, word: &[u8])
-    requires { length line.old ≤ 9_400 }
-    ensures short { length line.new ≤ length line.old + 50 }
-{
-    if is_word_too_many(expected) && is_file_like(word) {
-        line.push(b"; to read a file, write '--' before its name");
-    }
-}
-
-fn is_word_too_many(expected: Expected) -> bool {
-    matches!(expected, Expected::End | Expected::In)
-}
-
-/// Returns whether the word has a dot or a slash, and doesn't begin like a date.
-fn is_file_like(word: &[u8]) -> bool {
-    match word {
-        [first, ..] => {
-            !first.is_ascii_digit()
-                && (index_of(b'.', word).is_some() || index_of(b'/', word).is_some())
-        }
-        [] => false,
     }
 }
 

@@ -4,13 +4,16 @@ ghost use Rattle.cal_time.specs.Counted.{IsRising};
 ghost use Rattle.cal_time.specs.Date.{julian_day_at};
 ghost use Rattle.caldate_args.specs.Zones.{is_zone_name};
 
+use crate::args::names::value_named;
 use crate::data_files::DataFiles;
 use crate::data_files::data_error::DataError;
+use crate::holidays::calendar_holidays::calendar_holidays;
 use crate::holidays::read_holidays_error::ReadHolidaysError;
 use crate::holidays::{MAX_HOLIDAYS, read_holidays};
 use crate::zones::read_zone_error::{FileError, ReadZoneError};
 use crate::zones::zone_source::{MAX_FILE_BYTES, open_file, open_zone};
 use crate::zones::{is_zone_name, read_zone};
+use cal_holidays::CALENDARS;
 use cal_time::Date;
 use cal_zone::Zone;
 use std::fs::Files;
@@ -65,12 +68,16 @@ impl<'s, 'a, S: Files> SystemFiles<'s, 'a, S> {
         }
     }
 
+    /// Returns the holidays of the calendar with this name, or else in the file with this name.
     fn holidays_in(&mut self, name: &[u8]) -> Result<&'a [Date], ReadHolidaysError>
         ensures { IfOk result (λ days. IsRising julian_day_at days.now) }
     {
         let Some(days) = self.days.take() else {
             return Err(ReadHolidaysError::File(FileError::TooLong));
         };
+        if let Some(rules) = value_named(name, &CALENDARS) {
+            return calendar_holidays(rules, days);
+        }
         match open_file(self.system, name) {
             Ok(mut file) => read_holidays(&mut file, days),
             Err(error) => Err(ReadHolidaysError::File(error)),

@@ -14,7 +14,7 @@ ghost use Rattle.caldate_run.specs.Runs.{Gives, IsRunResult};
 
 use crate::run::{MAX_KEPT, answer_input};
 use caldate_answers::request::{Filter, Request, Target};
-use caldate_lines::ending::{Ending, end};
+use caldate_lines::ending::{Ending, end, end_after};
 use caldate_lines::field::Field;
 use caldate_lines::field_names::{FieldNames, MAX_FIELDS};
 use caldate_lines::field_numbers::FieldNumbers;
@@ -67,7 +67,7 @@ pub fn run_named<R: Source, W: Sink, E: Sink>(
                 };
             }
             let outcome = answer_input(&own, &mut input, reads, reader, writer);
-            end(outcome, errors)
+            end_after(outcome, own.skip, errors)
         }
         Err(name) => Ending {
             status: INVALID_HEADER,

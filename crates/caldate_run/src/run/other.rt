@@ -112,7 +112,7 @@ fn push_beside(
     }
 }
 
-/// Appends the count between a date or moment and its TEXT.
+/// Appends the measure between a date or moment and its TEXT.
 fn push_count(
     buffer: &mut Buffer,
     filter: &Filter<'_>,
@@ -130,11 +130,11 @@ fn push_count(
     let clock = &filter.clock;
     let workdays = &filter.workdays;
     match &filter.request {
-        Request::Until(own, _, unit) => {
-            push_between_at(buffer, own, clock, workdays, *unit, found, target)
+        Request::Until(own, _, measure) => {
+            push_between_at(buffer, own, clock, workdays, *measure, found, target)
         }
-        Request::Since(own, _, unit) => {
-            push_between_at(buffer, own, clock, workdays, *unit, target, found)
+        Request::Since(own, _, measure) => {
+            push_between_at(buffer, own, clock, workdays, *measure, target, found)
         }
         _ => unreachable!(),
     }

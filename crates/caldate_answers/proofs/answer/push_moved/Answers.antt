@@ -16,3 +16,13 @@ pub returns-in-Add-clause-none : goal.returns-in-Add-clause-none
 returns-in-Add-clause-none c = λ no.
     let none = c.push_later-in-Add.ensures.none no in
     (none.0, λ words h. none.1 words (subst (λ by. IsMoved c.args.workdays.now by c.args.found.now words) c.in-Add.is h))
+
+pub returns-in-Period-clause-none : goal.returns-in-Period-clause-none
+returns-in-Period-clause-none c = λ no.
+    let none = c.push_after.ensures.none no in
+    (none.0, λ words h. none.1 words (subst (λ by. IsMoved c.args.workdays.now by c.args.found.now words) c.in-Period.is h))
+
+pub returns-in-Round-clause-none : goal.returns-in-Round-clause-none
+returns-in-Round-clause-none c = λ no.
+    let none = c.push_nearest.ensures.none no in
+    (none.0, λ words h. none.1 words (subst (λ by. IsMoved c.args.workdays.now by c.args.found.now words) c.in-Round.is h))

@@ -83,7 +83,7 @@ returns-else-overlap-clause-ended g c =
         c.in-Ok.ensures.header,
         says _ (Ok numbers) _ _ known (no_overlap _ _ _ _ c.numbered-own.ensures (sym c.overlap.ensures ∙ c.if-overlap.false) (
           c.answer_input-outcome.result,
-          (run, c.in-Ok.ensures.reads _ _ c.answer_input-outcome.ensures.ended.reads, c.answer_input-outcome.ensures.ended.writes, c.end-in-Ok-numbers_in.ensures.reports),
+          (run, c.in-Ok.ensures.reads _ _ c.answer_input-outcome.ensures.ended.reads, c.answer_input-outcome.ensures.ended.writes, c.end_after.ensures.reports),
         )),
       );
     }
