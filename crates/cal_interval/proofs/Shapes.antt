@@ -1,16 +1,14 @@
 -- The shapes of intervals, whatever their ends are.
-use Rattle.std.proofs.Common.{◌≡◌, ℕ, ◌+◌, ◌≤◌, ◌⊎◌, inl, inr, Bool, true, false, List, [], ◌∷◌, ◌++◌, length, Option, Some, None, refl, sym, ap, ◌∙◌, arith}
+use Rattle.std.proofs.Common.{◌≡◌, ℕ, ◌≤◌, ◌⊎◌, inl, inr, false, List, [], ◌∷◌, ◌++◌, length, Option, Some, None, refl, sym, ap, ◌∙◌, arith}
 use Rattle.std.proofs.lemmas.List.{length-append}
 use Rattle.cal_text.specs.Shape.{Shape, End}
-use Rattle.cal_text.specs.Position.{HasSome}
 use Rattle.cal_text.proofs.Forms.{IsLed, IsThen, IsEither}
 use Rattle.cal_text.proofs.Positions.{IsShapeOf, AreShapesOf}
 use Rattle.cal_duration.specs.declared.numbers.Numbers.{Numbers}
-use Rattle.cal_duration.specs.Form.{HasPeriodForm, sign_text}
-use Rattle.cal_duration.specs.Form.{IsNumber}
+use Rattle.cal_duration.specs.Form.{sign_text}
 use Rattle.cal_duration.proofs.Levels.{IsShort}
 use Rattle.cal_duration.proofs.Shapes.{RawBody, IsShortBody, body_date, body_time, body_there, body_here}
-use Rattle.cal_interval.specs.Form.{HasParts, HasRepeated, IsCount, IsUnsigned}
+use Rattle.cal_interval.specs.Form.{HasParts, HasRepeated, IsUnsigned}
 use Rattle.cal_interval.specs.IntervalShape.{Interval, Repeated}
 
 -- ---- a period without a sign

@@ -1,6 +1,6 @@
 -- What the scanners of an interval went past.
-use Rattle.std.proofs.Common.{◌≡◌, ℕ, ◌+◌, ◌≤◌, List, [], ◌∷◌, ◌++◌, length, refl, sym, ap, subst, ◌∙◌, arith, false, Some, None}
-use Rattle.std.proofs.lemmas.List.{append_assoc, append-nil, length-append}
+use Rattle.std.proofs.Common.{◌≡◌, ℕ, ◌≤◌, List, [], ◌∷◌, ◌++◌, length, refl, sym, ap, subst, ◌∙◌, arith, false, Some, None}
+use Rattle.std.proofs.lemmas.List.{length-append}
 use Rattle.std.specs.Prelude.{IfNone, IfSome, Option}
 use Rattle.cal_text.specs.Shape.{Branch, GoesPast, Shape, UpTo, unmatched_bytes}
 use Rattle.cal_text.proofs.Parts.{at_end}

@@ -1,5 +1,5 @@
 -- Ranges of local date-times, and the range of an interval.
-use Rattle.std.specs.Prelude.{◌≡◌, int_le, ℤ, pos, neg_ℤ, ◌*ℤ◌, ◌≤ℤ◌, ◌<ℤ◌, Result, Ok, Err, if◌then◌else◌}
+use Rattle.std.specs.Prelude.{◌≡◌, int_le, ℤ, pos, neg_ℤ, ◌≤ℤ◌, ◌<ℤ◌, Result, Ok, Err, if◌then◌else◌}
 use Rattle.cal_datetime.specs.DateTime.{IsDateTime}
 use Rattle.cal_zoned.specs.Period.{IsLater, IsNthLater}
 use Rattle.cal_interval.specs.declared.error.IntervalError.{IntervalError}

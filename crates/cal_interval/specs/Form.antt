@@ -1,7 +1,6 @@
 -- The forms of intervals (ISO 8601-1, 5.5: start and end, start and duration, duration and end) and
 -- of repeated intervals (5.6). Their numbers need not be in range.
-use Rattle.std.specs.Prelude.{◌≡◌, ℕ, ◌<◌, Bool, false, List, [], ◌∷◌, ◌++◌, Option, Some, None}
-use Rattle.cal_text.specs.declared.date_numbers.DateNumbers.{DateNumbers}
+use Rattle.std.specs.Prelude.{◌≡◌, ℕ, ◌<◌, false, List, [], ◌∷◌, ◌++◌, Option, Some, None}
 use Rattle.cal_text.specs.declared.plain.numbers.PlainNumbers.{PlainNumbers}
 use Rattle.cal_text.specs.PlainForm.{HasPlainForm}
 use Rattle.cal_text.specs.DateForms.{DigitsFit, HasForm}

@@ -1,5 +1,5 @@
 -- The shapes of intervals whose periods have numbers of at most more + 1 digits.
-use Rattle.std.specs.Prelude.{◌≡◌, ℕ, List}
+use Rattle.std.specs.Prelude.{ℕ}
 use Rattle.cal_text.specs.Shape.{Shape, Branch, Byte, UpTo}
 use Rattle.cal_duration.specs.DurationShape.{Body}
 

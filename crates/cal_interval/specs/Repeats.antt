@@ -3,7 +3,7 @@ use Rattle.std.specs.Prelude.{◌≡◌, ◌≢◌, ◌⊎◌, ℕ, ◌-◌, ◌
 use Rattle.cal_schedule.specs.Period.{Parts, parts}
 use Rattle.cal_schedule.specs.Steps.{IsPositive, IsRepeated}
 use Rattle.cal_interval.specs.declared.error.IntervalError.{IntervalError}
-use Rattle.cal_interval.specs.declared.error.IntervalError.TheVariants.{EndBeforeStart, HasDuration, OutOfRange, MissingStart, NotPositive, CountOutOfRange}
+use Rattle.cal_interval.specs.declared.error.IntervalError.TheVariants.{EndBeforeStart, HasDuration, MissingStart, NotPositive, CountOutOfRange}
 use Rattle.cal_interval.specs.declared.date.interval.DateInterval.{DateInterval}
 use Rattle.cal_interval.specs.declared.date.interval.DateInterval.TheVariants.{StartAndEnd, StartAndPeriod, PeriodAndEnd}
 use Rattle.cal_interval.specs.declared.date.repeated.RepeatedDates.{RepeatedDates}

@@ -6,7 +6,6 @@ use Rattle.cal_text.specs.declared.date_numbers.DateNumbers.{DateNumbers}
 use Rattle.cal_text.specs.declared.plain.numbers.PlainNumbers.{PlainNumbers}
 use Rattle.cal_text.specs.PlainForm.{IsPlainOf, IsPlainError}
 use Rattle.cal_text.specs.Parsing.{IsOnDay, IsDateError}
-use Rattle.cal_schedule.specs.Period.{Parts}
 use Rattle.cal_duration.specs.declared.error.DurationComponent.{DurationComponent}
 use Rattle.cal_duration.specs.declared.numbers.Numbers.{Numbers}
 use Rattle.cal_duration.specs.Values.{IsPeriodOf, IsPeriodError}

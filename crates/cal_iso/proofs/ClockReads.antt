@@ -1,10 +1,8 @@
 -- What the scanners of a fraction, of minutes and of seconds went past.
-use Rattle.std.proofs.Common.{◌≡◌, ℕ, ◌+◌, ◌-◌, ◌*◌, ◌/◌, ◌<◌, ◌≤◌, ◌≢◌, ◌⊎◌, inl, inr, Bool, true, false, List, [], ◌∷◌, ◌++◌, length, Option, Some, None, refl, sym, ap, subst, ◌∙◌, arith}
+use Rattle.std.proofs.Common.{◌≡◌, ℕ, ◌+◌, ◌-◌, ◌*◌, ◌/◌, ◌<◌, ◌≤◌, ◌≢◌, ◌⊎◌, inl, inr, Bool, List, [], ◌∷◌, ◌++◌, length, Option, Some, None, refl, sym, ap, ◌∙◌, arith}
 use Rattle.std.specs.Prelude.{IfSome}
 use Rattle.std.specs.Char.{digit_value}
-use Rattle.std.specs.Str.Parse.{AllDigits}
 use Rattle.std.proofs.lemmas.List.{append_assoc, length-append}
-use Rattle.cal_text.specs.Rfc3339Form.{nanoseconds_of}
 use Rattle.cal_text.specs.Shape.{GoesPast, ParsesDecimals, ParsesDigits, decimals_value}
 use Rattle.cal_text.proofs.Decimals.{nanoseconds}
 use Rattle.cal_text.proofs.ReadDigits.{all-append, one_digit, one_more, value-of}

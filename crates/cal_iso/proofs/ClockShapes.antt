@@ -1,15 +1,15 @@
 -- The shape of minutes and seconds after an hour, and of fractions.
-use Rattle.std.proofs.Common.{◌≡◌, ℕ, zero, suc, ◌+◌, ◌<◌, ◌≤◌, ◌⊎◌, inl, inr, Bool, true, false, ◌&&◌, IsTrue, List, [], ◌∷◌, ◌++◌, length, drop, refl, sym, ap, subst, ◌∙◌, arith, lit<}
+use Rattle.std.proofs.Common.{◌≡◌, ℕ, zero, suc, ◌+◌, ◌≤◌, ◌⊎◌, inl, inr, Bool, true, false, ◌&&◌, IsTrue, List, [], ◌∷◌, ◌++◌, length, drop, refl, sym, ap, subst, ◌∙◌, arith, lit<}
 use Rattle.std.proofs.lemmas.List.{append_assoc, length-append}
 use Rattle.std.specs.Str.Parse.{AllDigits}
 use Rattle.cal_text.specs.Rfc3339Form.{nanoseconds_of}
-use Rattle.cal_text.specs.Shape.{Shape, Branch, Digits, UpTo, unmatched_bytes}
+use Rattle.cal_text.specs.Shape.{Shape, Digits, UpTo, unmatched_bytes}
 use Rattle.cal_text.proofs.DigitParts.{is_digit, counted-only, counted-one}
-use Rattle.cal_text.proofs.Forms.{Divides, IsForm, IsNothing, IsLed, IsThen, IsEither, avoids, avoided, nothing, led, both, either, retold, weakened}
+use Rattle.cal_text.proofs.Forms.{IsForm, IsNothing, IsLed, IsThen, IsEither, avoids, avoided, nothing, led, both, either, retold, weakened}
 use Rattle.cal_text.proofs.Parts.{BeginsOutside, unmatched_bytes-outside, same_pair}
 use Rattle.cal_text.proofs.ReadDigits.{all-append}
-use Rattle.cal_text.proofs.Stops.{IsIn, in_or_out, unmatched_bytes-in, unmatched_bytes-branch_in, unmatched_bytes-branch_out, unmatched_bytes-branch_end}
-use Rattle.cal_iso.specs.ClockForm.{AllZeros, IsDecimals, IsIsoFraction, HasTail, IsAfterHour, IsMinutes, IsSeconds, IsSecondsOrNone}
+use Rattle.cal_text.proofs.Stops.{in_or_out, unmatched_bytes-in, unmatched_bytes-branch_in, unmatched_bytes-branch_out, unmatched_bytes-branch_end}
+use Rattle.cal_iso.specs.ClockForm.{AllZeros, IsDecimals, IsIsoFraction, HasTail, IsAfterHour, IsSecondsOrNone}
 use Rattle.cal_iso.specs.DateForm.{IsNumber}
 use Rattle.cal_iso.specs.IsoShape.{AfterHour, BasicSeconds, ColonAndSeconds, Decimals, Fraction, Tail, Zeros}
 use Rattle.cal_iso.proofs.DateShapes.{digits}

@@ -1,5 +1,5 @@
 -- The shape of the forms of a date.
-use Rattle.std.proofs.Common.{◌≡◌, ℕ, ◌+◌, ◌-◌, ◌*◌, ◌<◌, ◌≤◌, ◌⊎◌, inl, inr, Bool, true, false, ◌&&◌, IsTrue, ℤ, pos, neg_ℤ, List, [], ◌∷◌, ◌++◌, length, refl, sym, ap, subst, ◌∙◌, arith}
+use Rattle.std.proofs.Common.{◌≡◌, ℕ, ◌+◌, ◌-◌, ◌⊎◌, inl, inr, Bool, true, false, ◌&&◌, IsTrue, ℤ, pos, neg_ℤ, List, [], ◌∷◌, ◌++◌, length, refl, sym, ap, subst, ◌∙◌, arith}
 use Rattle.std.proofs.lemmas.List.{append-nil, length-append}
 use Rattle.std.specs.Str.Parse.{AllDigits, digits_value}
 use Rattle.cal_text.specs.declared.date_numbers.DateNumbers.{DateNumbers}
@@ -9,11 +9,11 @@ use Rattle.cal_text.specs.Rfc3339Form.{sign_byte}
 use Rattle.cal_text.specs.Shape.{Shape, Branch, Digits, End}
 use Rattle.cal_text.proofs.DigitForms.{IsRun, run}
 use Rattle.cal_text.proofs.DigitParts.{IsExact, exact-each, exact-one, counted-only}
-use Rattle.cal_text.proofs.Forms.{IsForm, IsByteFrom, IsNothing, IsLed, IsThen, IsEither, always, avoids, byte_from, nothing, led, both, either, retold, weakened, whole, put, first_true, second_true}
+use Rattle.cal_text.proofs.Forms.{IsForm, IsByteFrom, IsNothing, IsLed, IsThen, IsEither, always, avoids, byte_from, nothing, led, both, either, retold, weakened, whole, first_true, second_true}
 use Rattle.cal_text.proofs.Positions.{IsShapeOf}
 use Rattle.cal_text.proofs.ReadDigits.{all-append}
-use Rattle.cal_iso.specs.DateForm.{IsNumber, IsFourDigitYear, IsExpandedYear, IsWeekday, IsMonthAndDay, IsWeekAndDay, IsAfterYear, IsExtended, IsBasic, HasIsoDate, signed}
-use Rattle.cal_iso.specs.IsoShape.{AfterHyphen, BasicRest, Date, Expanded, FourDigits, WeekdayAfterHyphen}
+use Rattle.cal_iso.specs.DateForm.{IsNumber, IsExpandedYear, IsWeekday, IsMonthAndDay, IsWeekAndDay, IsAfterYear, HasIsoDate, signed}
+use Rattle.cal_iso.specs.IsoShape.{AfterHyphen, BasicRest, Date, Expanded, WeekdayAfterHyphen}
 
 -- ---- what may follow a date: no hyphen and no digit
 abbrev pub ends_date : Shape → Bool

@@ -1,9 +1,8 @@
 -- What the scanners of times of day, offsets and date-times went past.
 use Rattle.std.proofs.Common.{◌≡◌, ℕ, ◌<◌, ◌⊎◌, inl, inr, Bool, true, false, List, [], ◌∷◌, ◌++◌, Option, Some, None, refl, sym, ap, subst, ◌∙◌, arith}
 use Rattle.std.specs.Prelude.{IfSome}
-use Rattle.std.proofs.lemmas.List.{append_assoc, append-nil}
+use Rattle.std.proofs.lemmas.List.{append_assoc}
 use Rattle.cal_text.specs.declared.date_numbers.DateNumbers.{DateNumbers}
-use Rattle.cal_text.specs.declared.offset.numbers.OffsetNumbers.{OffsetNumbers}
 use Rattle.cal_text.specs.declared.plain.numbers.PlainNumbers.{PlainNumbers}
 use Rattle.cal_text.specs.declared.time.numbers.TimeNumbers.{TimeNumbers}
 use Rattle.cal_text.specs.DateForms.{DigitsFit}
@@ -11,7 +10,7 @@ use Rattle.cal_text.specs.Rfc3339Form.{IsSeparator, sign_byte}
 use Rattle.cal_text.specs.Shape.{GoesPast, ParsesDigits, ScansWhole, Shape, unmatched_bytes}
 use Rattle.cal_text.proofs.Decimals.{fraction-below}
 use Rattle.cal_text.proofs.Parts.{at_end}
-use Rattle.cal_iso.specs.ClockForm.{IsAfterHour, IsIsoFraction, IsSecondsOrNone}
+use Rattle.cal_iso.specs.ClockForm.{IsAfterHour, IsSecondsOrNone}
 use Rattle.cal_iso.specs.DateForm.{HasIsoDate}
 use Rattle.cal_iso.specs.MomentForm.{HasIsoDateTime, HasIsoPlain, IsTimeOrMidnight}
 use Rattle.cal_iso.specs.OffsetForm.{IsShift}

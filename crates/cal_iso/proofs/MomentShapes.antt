@@ -3,23 +3,22 @@ use Rattle.std.proofs.Common.{◌≡◌, ℕ, ◌⊎◌, inl, inr, true, false, 
 use Rattle.std.proofs.lemmas.List.{append-nil}
 use Rattle.cal_text.specs.declared.date_numbers.DateNumbers.{DateNumbers}
 use Rattle.cal_text.specs.declared.offset.numbers.OffsetNumbers.{OffsetNumbers}
-use Rattle.cal_text.specs.declared.offset_date_time.numbers.OffsetDateTimeNumbers.{OffsetDateTimeNumbers}
 use Rattle.cal_text.specs.declared.plain.numbers.PlainNumbers.{PlainNumbers}
 use Rattle.cal_text.specs.declared.time.numbers.TimeNumbers.{TimeNumbers}
 use Rattle.cal_text.specs.OffsetForm.{utc}
 use Rattle.cal_text.specs.Rfc3339Form.{IsSeparator, sign_byte}
-use Rattle.cal_text.specs.Shape.{Shape, Digits, End}
+use Rattle.cal_text.specs.Shape.{End}
 use Rattle.cal_text.proofs.Forms.{IsForm, IsNothing, IsLed, IsThen, IsEither, nothing, led, both, either, retold, whole, put}
 use Rattle.cal_text.proofs.MomentShapes.{HasSeparator, separator}
-use Rattle.cal_text.proofs.OffsetShapes.{IsSign, sign}
+use Rattle.cal_text.proofs.OffsetShapes.{sign}
 use Rattle.cal_text.proofs.Positions.{IsShapeOf}
-use Rattle.cal_iso.specs.DateForm.{IsNumber, HasIsoDate}
+use Rattle.cal_iso.specs.DateForm.{HasIsoDate}
 use Rattle.cal_iso.specs.TimeForm.{HasIsoClock, HasIsoTime}
 use Rattle.cal_iso.specs.OffsetForm.{HasIsoOffset, IsShift, IsSpacedOffset}
 use Rattle.cal_iso.specs.MomentForm.{HasIsoDateTime, HasIsoMoment, HasIsoPlain, midnight}
-use Rattle.cal_iso.specs.IsoShape.{AfterHour, Clock, DateTime, Moment, Offset, OrMidnight, Plain, Shift, SpacedOffset, Time}
+use Rattle.cal_iso.specs.IsoShape.{Clock, Moment, Plain, Shift, Time}
 use Rattle.cal_iso.proofs.ClockShapes.{IsAfter, after_hour, ends_clock, no_tail}
-use Rattle.cal_iso.proofs.DateShapes.{date_form, digits, ends_date}
+use Rattle.cal_iso.proofs.DateShapes.{date_form, digits}
 
 -- ---- times of day
 pub clock_form : IsForm Clock HasIsoClock ends_clock

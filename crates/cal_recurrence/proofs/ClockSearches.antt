@@ -1,6 +1,6 @@
 -- The readings of a rule by its periods within days: ranks in a period, the next selected period, and
 -- the search for a reading.
-use Rattle.std.proofs.Common.{◌≡◌, refl, ℕ, zero, suc, max, ◌+◌, ◌-◌, ◌*◌, ◌/◌, ◌%◌, ◌<◌, ◌≤◌, sym, ap, ◌∙◌, arith, Bool, true, false, inl, inr, List, [], ◌∷◌, length, ℤ, pos, ◌≤ℤ◌, Option, Some, None, subst}
+use Rattle.std.proofs.Common.{◌≡◌, refl, ℕ, zero, suc, max, ◌+◌, ◌-◌, ◌*◌, ◌/◌, ◌%◌, ◌<◌, ◌≤◌, sym, ap, ◌∙◌, arith, Bool, true, false, inl, inr, List, [], ◌∷◌, length, ℤ, pos, ◌≤ℤ◌}
 use Rattle.std.specs.Prelude.{◌&&◌, ◌==◌, nat_le, unsigned_abs}
 use Rattle.std.proofs.lemmas.Bool.{and_left, and_parts, cases_Bool, cases_lt, eq-eqb, eqb-true, false_from_ne_true, false≢true, leb-true}
 use Rattle.std.proofs.lemmas.Int.{ints}
@@ -17,16 +17,16 @@ use Rattle.cal_schedule.specs.declared.rule.rule.Frequency.{Frequency}
 use Rattle.cal_schedule.specs.declared.rule.rule.Frequency.TheVariants.{Daily, Weekly, Monthly, Yearly}
 use Rattle.cal_schedule.specs.Ranks.{count-no, count-none, count-yes}
 use Rattle.cal_recurrence.specs.ClockPeriods.{has_position, matches_step, passes_in, period_index, periods_past, rank_of, back_rank_of, size_of}
-use Rattle.cal_recurrence.specs.ClockSearch.{can_match, has_every_day, is_daily, Closes, Divides, IsLater, NeverMeets, NoneSelected, Repeats}
+use Rattle.cal_recurrence.specs.ClockSearch.{can_match, has_every_day, is_daily, Closes, Divides, NeverMeets, NoneSelected, Repeats}
 use Rattle.cal_recurrence.specs.DateTimeRule as reading
 use Rattle.cal_recurrence.specs.DateTimeRule.{DateTimeParts, day_rule}
-use Rattle.cal_recurrence.specs.TimeSearch.{NoneIn, IsFirst, IsNextReading, IsNextMatch, reading_number, selects, selects_reading}
+use Rattle.cal_recurrence.specs.TimeSearch.{NoneIn, IsFirst, selects, selects_reading}
 use Rattle.cal_recurrence.specs.TimesOfDay.{matches_time}
 use Rattle.cal_recurrence.specs.declared.clock_step.ClockStep.{ClockStep}
 use Rattle.cal_recurrence.specs.declared.clock_unit.ClockUnit.{ClockUnit}
 use Rattle.cal_recurrence.specs.declared.clock_unit.ClockUnit.TheVariants as unit
 use Rattle.cal_recurrence.specs.declared.times_of_day.TimesOfDay.{TimesOfDay}
-use Rattle.cal_recurrence.proofs.FirstNumbers.{joined, later-first}
+use Rattle.cal_recurrence.proofs.FirstNumbers.{joined}
 use Rattle.cal_recurrence.proofs.TimeCounts.{count-stays}
 use Rattle.cal_recurrence.proofs.TimeSteps.{parts-of}
 

@@ -1,5 +1,5 @@
 -- The search for the next selected period.
-use Rattle.std.specs.Prelude.{◌≡◌, ℕ, suc, max, ◌+◌, ◌*◌, ◌/◌, ◌%◌, ◌<◌, ◌≤◌, ◌==◌, nat_le, length, Bool, true, false, ◌&&◌, ℤ, pos, ◌≤ℤ◌, Option, MatchOption}
+use Rattle.std.specs.Prelude.{◌≡◌, ℕ, max, ◌+◌, ◌*◌, ◌/◌, ◌%◌, ◌<◌, ◌≤◌, ◌==◌, nat_le, length, Bool, true, false, ◌&&◌, ℤ, pos, ◌≤ℤ◌, Option, MatchOption}
 use Rattle.cal_time.specs.Date.{IsDate}
 use Rattle.cal_time.specs.SignedDuration.{day}
 use Rattle.cal_datetime.specs.DateTime.{last_date_time}

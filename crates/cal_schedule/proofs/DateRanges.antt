@@ -1,6 +1,6 @@
 -- Ranges of days with a common day.
-use Rattle.std.proofs.Common.{◌≡◌, ℕ, ◌+◌, ◌-◌, ◌<◌, ◌≤◌, min, max, arith, inl, inr, sym, ap, ◌∙◌, Bool, true, false, List, []}
-use Rattle.std.specs.Prelude.{Option, Some, None, nat_le, if◌then◌else◌}
+use Rattle.std.proofs.Common.{◌≡◌, ℕ, ◌+◌, ◌-◌, ◌<◌, ◌≤◌, min, max, arith, inl, inr, sym, ap, ◌∙◌, Bool, true, false, []}
+use Rattle.std.specs.Prelude.{Some, None, nat_le, if◌then◌else◌}
 use Rattle.std.proofs.lemmas.Bool.Decides.{nat_tests}
 use Rattle.cal_time.specs.Date.{last_day}
 use Rattle.cal_time.specs.DateIter.{days_between, days_of, walk_between}

@@ -1,5 +1,5 @@
 -- Contracts that allow only one result.
-use Rattle.std.proofs.Common.{◌≡◌, ℕ, ◌<◌, ◌≤◌, inl, inr, refl, sym, ap, ◌∙◌, subst, arith, ℤ, pos, neg_ℤ, ◌+◌, ◌+ℤ◌, ◌*ℤ◌, ◌≤ℤ◌, ◌<ℤ◌, List, [], ◌∷◌, reverse, slice_get, Option, Some, None, Result, Ok, Err}
+use Rattle.std.proofs.Common.{◌≡◌, ℕ, ◌<◌, ◌≤◌, inl, inr, refl, sym, ap, ◌∙◌, subst, arith, ℤ, pos, neg_ℤ, ◌+ℤ◌, ◌*ℤ◌, ◌≤ℤ◌, ◌<ℤ◌, List, [], ◌∷◌, reverse, slice_get, Option, Some, None, Result, Ok, Err}
 use Rattle.std.specs.Prelude.{IfNone, IfSome, IfOk, IfErr, IsSome, ◌↔◌}
 use Rattle.std.specs.Iterator.{YieldsLast}
 use Rattle.std.proofs.lemmas.Bool.{cases_lt}

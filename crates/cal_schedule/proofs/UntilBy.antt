@@ -8,7 +8,7 @@ use Rattle.cal_time.specs.Laws.{weekday_at-is}
 use Rattle.cal_schedule.specs.declared.unit.CalendarUnit.TheVariants.{Day, Week, Month, Quarter, Year}
 use Rattle.cal_schedule.specs.Period.{date_period, months_of, parts, IsOneSign, Parts}
 use Rattle.cal_schedule.specs.Until.{IsGreatest, IsLeast, IsMonthsBackTo, IsMonthsUpTo, IsPeriodUntil}
-use Rattle.cal_schedule.specs.Units.{IsLastOf, IsUntilBy}
+use Rattle.cal_schedule.specs.Units.{IsUntilBy}
 use Rattle.cal_schedule.proofs.Periods.{until_sign}
 use Rattle.cal_schedule.proofs.Untils.{no_months}
 

@@ -1,4 +1,4 @@
-use Rattle.std.proofs.Common.{refl, ◌+ℤ◌, ◌*ℤ◌, pos, subst, arith}
+use Rattle.std.proofs.Common.{refl, subst, arith}
 use Rattle.std.proofs.lemmas.Int.{ints}
 use Rattle.cal_schedule.specs.Months.{IsMonthsLater}
 use Rattle.cal_schedule.proofs.until.parts_until.Goals as goal

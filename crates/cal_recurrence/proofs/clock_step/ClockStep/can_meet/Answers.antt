@@ -1,12 +1,11 @@
-use Rattle.std.proofs.Common.{◌≡◌, ◌∙◌, sym, ap, arith, inl, inr, ℕ, ◌<◌, Bool, true, false}
+use Rattle.std.proofs.Common.{◌≡◌, arith, inl, inr, false}
 use Rattle.std.specs.Prelude.{◌&&◌}
-use Rattle.std.proofs.lemmas.Bool.{and_left, cases_lt}
+use Rattle.std.proofs.lemmas.Bool.{cases_lt}
 use Rattle.std.proofs.lemmas.Int.{ints}
 use Rattle.cal_time.specs.SignedDuration.{day}
 use Rattle.cal_datetime.specs.DateTime.{time_at}
 use Rattle.cal_recurrence.specs.ClockSearch.{can_match}
 use Rattle.cal_recurrence.specs.TimesOfDay.{matches_time}
-use Rattle.cal_recurrence.specs.TimeSearch.{NoneIn}
 use Rattle.cal_recurrence.proofs.ClockSearches.{never-meets, on-times}
 use Rattle.cal_recurrence.proofs.clock_step.ClockStep.can_meet.Goals as goal
 

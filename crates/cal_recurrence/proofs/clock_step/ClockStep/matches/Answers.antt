@@ -1,5 +1,4 @@
 use Rattle.std.proofs.Common.{◌≡◌, ◌∙◌, sym, arith}
-use Rattle.cal_recurrence.specs.ClockPeriods.{periods_past}
 use Rattle.cal_recurrence.proofs.ClockSearches.{step-with}
 use Rattle.cal_recurrence.proofs.clock_step.ClockStep.matches.Goals as goal
 

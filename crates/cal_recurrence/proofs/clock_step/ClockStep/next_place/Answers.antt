@@ -1,10 +1,8 @@
-use Rattle.std.proofs.Common.{◌≡◌, ◌+◌, ◌-◌, ◌*◌, ◌/◌, ◌%◌, ◌<◌, ◌≤◌, ◌∙◌, refl, inl, inr, arith}
+use Rattle.std.proofs.Common.{◌+◌, ◌-◌, ◌*◌, ◌/◌, ◌%◌, ◌<◌, ◌∙◌, refl, inl, inr, arith}
 use Rattle.std.proofs.lemmas.Bool.{cases_lt}
 use Rattle.std.proofs.lemmas.Int.{ints}
 use Rattle.cal_time.specs.Date.{last_day}
 use Rattle.cal_time.specs.SignedDuration.{day}
-use Rattle.cal_datetime.specs.DateTime.{last_date_time}
-use Rattle.cal_recurrence.specs.ClockPeriods.{size_of}
 use Rattle.cal_recurrence.proofs.ClockSearches.{next-place, place-is, IsPlace}
 use Rattle.cal_recurrence.proofs.clock_step.ClockStep.next_place.Goals as goal
 

@@ -1,4 +1,4 @@
-use Rattle.std.proofs.Common.{ap, subst, sym, Err}
+use Rattle.std.proofs.Common.{subst, sym, Err}
 use Rattle.cal_interval.specs.Ranges.{IsRangeOf, error_of, ordered}
 use Rattle.cal_interval.proofs.RangeSteps.{led, missed}
 use Rattle.cal_interval.proofs.date.interval.DateInterval.range.Goals as goal
