@@ -27,8 +27,8 @@ pub use repeated::RepeatedDates;
 /// Parses an interval of dates: two dates, or a date and a period, with a slash between them, such
 /// as `2024-01-01/2024-02-01`, `2024-01-01/P1M` or `P1M/2024-02-01`.
 ///
-/// A date has a form that [`cal_text::date::parse`] accepts, and a period a form that
-/// [`cal_duration::period::parse`] accepts, without a sign.
+/// A date has a form that `cal_text::date::parse` accepts, and a period a form that
+/// `cal_duration::period::parse` accepts, without a sign.
 ///
 /// Returns `UnexpectedByte` or `UnexpectedEnd` for any other form. Otherwise returns `OutOfRange`
 /// with the first component of a date or part of the period that is out of range.

@@ -27,8 +27,8 @@ pub use range::DateTimeRange;
 /// Parses an interval of local date-times: two of them, or one and a period, with a slash between them, such
 /// as `2024-01-01T08:00/2024-01-01T09:30`, `2024-01-01T08:00/PT90M` or `P1M/2024-02-01T00:00`.
 ///
-/// A date-time has a form that [`cal_text::plain::parse`] accepts, and a period a form that
-/// [`cal_duration::period::parse`] accepts, without a sign.
+/// A date-time has a form that `cal_text::plain::parse` accepts, and a period a form that
+/// `cal_duration::period::parse` accepts, without a sign.
 ///
 /// Returns `UnexpectedByte` or `UnexpectedEnd` for any other form. Otherwise returns `OutOfRange`
 /// with the first component of a date-time or part of the period that is out of range.
