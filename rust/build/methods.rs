@@ -55,13 +55,6 @@ fn method_name(name: &str) -> &str {
     if name.starts_with("round_") { "round" } else { name }
 }
 
-/// Parsers that other crates of the source link to, and their places in `crate::text`.
-const PARSERS: &[(&str, &str)] = &[
-    ("cal_text::date::parse", "date::parse"),
-    ("cal_text::plain::parse", "plain::parse"),
-    ("cal_duration::period::parse", "period::parse"),
-];
-
 /// Makes links to functions that are methods in Rust links to these.
 pub fn link(source: &Source, at: usize, edits: &mut Edits) {
     if source.tokens[at].kind == TokenKind::Doc {
@@ -84,11 +77,6 @@ fn links(krate: &str, text: &str) -> Vec<(usize, String)> {
             let places = text.match_indices(&link).map(|(start, _)| start + link.len());
             found.extend(places.filter(|end| !text[*end..].starts_with('(')).map(|end| (end, target.clone())));
         }
-    }
-    for (name, target) in PARSERS {
-        let link = format!("[`{name}`]");
-        let places = text.match_indices(&link).map(|(start, _)| start + link.len());
-        found.extend(places.map(|end| (end, format!("(crate::text::{target})"))));
     }
     found.sort_by_key(|place| std::cmp::Reverse(place.0));
     found
