@@ -531,9 +531,9 @@ static void texts_of_iso(void)
     is_parse_error(fots_date_parse_iso("1985-04", 7), FOTS_UNEXPECTED_END, 7, "a month");
     is_moment(fots_pair_parse_iso("19850412T101530", 15), day, 36930000000000, none, "a date-time in the basic format");
     const fots_parse_time_result time = fots_time_parse_iso("T232050,5", 9);
-    check(time.status == FOTS_OK && time.time == 84050500000000 && time.position == SIZE_MAX, "a fraction after a comma", time.status, time.time);
+    check(time.status == FOTS_OK && time.time == 84050500000000 && time.position == SIZE_MAX, "a fraction after a comma", time.status, (long long)time.time);
     const fots_parse_time_result late = fots_time_parse_iso("24:00", 5);
-    check(late.status == FOTS_HOUR_OUT_OF_RANGE && late.time == FOTS_NO_TIME, "the hour 24", late.status, late.time);
+    check(late.status == FOTS_HOUR_OUT_OF_RANGE && late.time == FOTS_NO_TIME, "the hour 24", late.status, (long long)late.time);
     const fots_parse_time_result many = fots_time_parse_iso("23:20:50.1234567890001", 22);
     check(many.status == FOTS_UNEXPECTED_BYTE && many.position == 21, "more than a nanosecond", many.status, (long long)many.position);
     is_moment(fots_moment_parse_iso("1985-04-12T23:20:50.52Z", 23), day, 84050520000000, offset_at(0), "a moment of RFC 3339");
