@@ -126,6 +126,10 @@ static const char *const zones[] = {"CET-1CEST,M3.5.0,M10.5.0/3", "EST5EDT,M3.2.
 
 static const char *const durations[] = {"P1Y2M10DT2H30M", "-P1D", "PT36H", "P2W", "PT0.5S", "PT1,000000001S", "P2147483648Y", "PT9223372036854775807S", "-PT2562047788015215H30M8S", "P1Y1M1W1DT1H1M1S"};
 
+static const char *const intervals[] = {"2024-01-01/2024-02-01", "2024-01-31/P1M", "P1Y/2024-02-29", "2024-02-01/2024-01-01", "2024-03-30T09:30/P1DT2H", "2024-03-30T09:30/2024-03-31T00:00", "PT8H/2024-03-30T17:00",
+    "R12/2024-01-31/P1M", "R/2024-02-29/P1Y", "R3/P1W/2024-03-01", "R0/2024-01-01/P1D", "R2/2024-01-01/2024-01-15", "R99999999999/2024-01-01/P1D", "2024-01-01/P0D"};
+static const char *const iso_texts[] = {"20240229", "2024-060", "2024060", "2024-W09", "2024W094", "T232050,5", "2320", "23", "20240229T235959", "2024-02-29 22:59:59.25+00", "19850412T101530+0400", "1985-04-12t23:20:50.52z", "+0020240229"};
+
 static char drawn_text[256];
 
 /* Draws a text of a list into drawn_text, one in four with another byte or another end. */
@@ -169,6 +173,8 @@ static size_t any_format_text(void) { return text_of(formats, COUNT(formats)); }
 static size_t any_description(void) { return text_of(descriptions, COUNT(descriptions)); }
 static size_t any_recurrence_text(void) { return text_of(recurrences, COUNT(recurrences)); }
 static size_t any_duration_text(void) { return text_of(durations, COUNT(durations)); }
+static size_t any_interval_text(void) { return text_of(intervals, COUNT(intervals)); }
+static size_t any_iso_text(void) { return text_of(iso_texts, COUNT(iso_texts)); }
 static size_t any_zone_text(void) { return text_of(zones, COUNT(zones)); }
 
 static fots_format any_fots_format(void)
