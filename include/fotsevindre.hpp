@@ -360,6 +360,8 @@ public:
     static Time now(const Zone &zone);
     // Parses a time of day, such as "9:05" or "23:59:59.25".
     static Time parse(std::string_view text) { return Time(detail::parsed_or_throw(fots_time_parse(detail::data(text), text.size())).time, {}); }
+    // Parses a text in all formats of ISO 8601, such as "T225959,5" or "22".
+    static Time parse_iso(std::string_view text) { return Time(detail::parsed_or_throw(fots_time_parse_iso(detail::data(text), text.size())).time, {}); }
     // Parses the text of a value by a format, and no other text.
     static Time parse(std::string_view text, const Format &format)
     {
@@ -547,6 +549,8 @@ public:
     static Date today(const Zone &zone);
     // Parses a calendar date, an ordinal date or an ISO week date, such as "2024-W09-4".
     static Date parse(std::string_view text) { return Date(detail::parsed_or_throw(fots_date_parse(detail::data(text), text.size())).date, {}); }
+    // Parses a text in all formats of ISO 8601, such as "20240229" or "2024-W09".
+    static Date parse_iso(std::string_view text) { return Date(detail::parsed_or_throw(fots_date_parse_iso(detail::data(text), text.size())).date, {}); }
     // Parses the text of a value by a format, and no other text.
     static Date parse(std::string_view text, const Format &format)
     {
@@ -1279,6 +1283,8 @@ public:
     static PlainDateTime now(const Zone &zone);
     // Parses a date and a time of day, such as "2024-02-29 23:59:59.25" or "2024-W09-4T9:05".
     static PlainDateTime parse(std::string_view text) { return from(fots_pair_parse(detail::data(text), text.size())); }
+    // Parses a text in all formats of ISO 8601, such as "20240229T2259" or "2024-02-29".
+    static PlainDateTime parse_iso(std::string_view text) { return from(fots_pair_parse_iso(detail::data(text), text.size())); }
     // Parses the text of a value by a format, and no other text.
     static PlainDateTime parse(std::string_view text, const Format &format)
     {
@@ -1394,6 +1400,11 @@ public:
     static OffsetDateTime parse(std::string_view text)
     {
         return OffsetDateTime(detail::moment_or_throw(fots_offset_date_time_parse(detail::data(text), text.size())), {});
+    }
+    // Parses a text in all formats of ISO 8601, such as "20240229T2259+01".
+    static OffsetDateTime parse_iso(std::string_view text)
+    {
+        return OffsetDateTime(detail::moment_or_throw(fots_moment_parse_iso(detail::data(text), text.size())), {});
     }
     // Parses the text of a value by a format, and no other text.
     static OffsetDateTime parse(std::string_view text, const Format &format)

@@ -578,6 +578,9 @@ void formats()
     check(Time::parse("9:5:1", LenientFormat(Format("%T"))) == Time::from_hms(9, 5, 1), "a variant of a time");
     check(PlainDateTime::parse("29 february 2024  23:59:59", LenientFormat(Format("%d %B %Y %T"))) == night.local(), "a variant of a date-time");
     check(OffsetDateTime::parse("29/feb/2024:23:59:59 +0530", LenientFormat(Format("%d/%b/%Y:%T %z"))) == night, "one at an offset");
+    check(Date::parse_iso("2024W094") == day && Date::parse_iso("20240229") == day && Time::parse_iso("T232050,5") == Time::parse("23:20:50.5"), "texts of ISO 8601");
+    check(PlainDateTime::parse_iso("20240229T235959") == night.local() && OffsetDateTime::parse_iso("20240229T235959+0530") == night, "date-times of ISO 8601");
+    throws([] { Date::parse_iso("198504-12"); }, FOTS_UNEXPECTED_BYTE, "unexpected byte at 6", "two formats of ISO 8601");
     throws([] { Date::parse("20240229", LenientFormat(Format("%Y%m%d"))); }, FOTS_INSUFFICIENT_FORMAT, "insufficient format", "no space between numbers");
     throws([] { Date::parse("29.02.2024", Format("%d/%m/%Y")); }, FOTS_UNEXPECTED_BYTE, "unexpected byte at 2", "a wrong byte");
     throws([] { Date::parse("Wed 2024-02-29", Format("%a %F")); }, FOTS_CONTRADICTION, "weekday contradicts the other components",

@@ -213,6 +213,9 @@ class Date(_Value, _DateParts, _MonthMoves, _Shifted, _Moved, _Formatted):
     def parse(cls, text: str) -> Date:
         "Parses 2024-02-29, 2024-060 or 2024-W09-4, or raises ParseError or ComponentRange."
     @classmethod
+    def parse_iso(cls, text: str) -> Date:
+        "Parses a date in all formats of ISO 8601, such as 20240229, 2024060 and 2024-W09."
+    @classmethod
     def fromisoformat(cls, text: str) -> Date:
         "Parses 2024-02-29, 2024-060 or 2024-W09-4, or raises ParseError or ComponentRange."
     @classmethod
@@ -321,6 +324,9 @@ class Time(_Value, _TimeParts, _Formatted):
     def parse(cls, text: str) -> Time:
         """Parses a time, such as 9:05, 09:05:00 or 9:05:00.25, or raises ParseError or
         ComponentRange."""
+    @classmethod
+    def parse_iso(cls, text: str) -> Time:
+        "Parses a time of day in all formats of ISO 8601, such as T225959,5, 2259 and 22."
     @classmethod
     def fromisoformat(cls, text: str) -> Time:
         """Parses a time, such as 9:05, 09:05:00 or 9:05:00.25, or raises ParseError or
@@ -609,6 +615,9 @@ class PlainDateTime(_DateTime, _Shifted):
         like DateRange.parse."""
         return _core.pair_interval_parse(text)
     @classmethod
+    def parse_iso(cls, text: str) -> PlainDateTime:
+        "Parses a date-time in all formats of ISO 8601, such as 20240229T2259; a date is its midnight."
+    @classmethod
     def fromisoformat(cls, text: str) -> PlainDateTime:
         """Parses a date, T or a space, and a time, such as 2024-02-29T23:59:59.25; errors like
         Date.parse and Time.parse."""
@@ -682,6 +691,9 @@ class OffsetDateTime(_DateTime):
     def parse(cls, text: str) -> OffsetDateTime:
         """Parses a date-time and an offset, such as 2024-02-29T23:59:59.25+01:00; a space may come
         before the offset."""
+    @classmethod
+    def parse_iso(cls, text: str) -> OffsetDateTime:
+        "Parses a date-time and an offset in all formats of ISO 8601, such as 20240229T2259+01."
     @classmethod
     def fromisoformat(cls, text: str) -> OffsetDateTime:
         """Parses a date-time and an offset, such as 2024-02-29T23:59:59.25+01:00; a space may come

@@ -12,12 +12,13 @@ import pathlib
 import pickle
 import random
 import re
+import sys
 import unittest
 
 import fotsevindre
 from fotsevindre import columns
 from fotsevindre import (
-    ComponentRange, Date, Month, SignedDuration, Time, ParseError, UtcOffset, Weekday, add_to_pair, days_in_month, days_in_year,
+    ComponentRange, Date, Month, OffsetDateTime, ParseError, PlainDateTime, SignedDuration, Time, UtcOffset, Weekday, add_to_pair, days_in_month, days_in_year,
     days_in_year_month, is_leap_year, parse_rfc3339, parse_unix, rfc3339_text, sub_from_pair, unix_duration, unix_pair, unix_text,
     weeks_in_year,
 )
@@ -900,6 +901,18 @@ class Columns(Cases):
         for wrong in (b"2024-02-29", bytearray(b"2024-02-29")):
             with self.assertRaisesRegex(TypeError, "expected numbers in dates, not byte"):
                 fotsevindre.dates_weekdays(wrong)
+
+    def test_all_formats_of_iso_8601(self):
+        "Python's own parser reads the same dates."
+        for text, day in ("19850412", 12), ("1985W155", 12), ("1985-W15", 8), ("1985-04-12", 12):
+            self.assertEqual(Date.parse_iso(text), Date(1985, 4, day))
+            if sys.version_info >= (3, 11):
+                self.assertEqual(datetime.date.fromisoformat(text), datetime.date(1985, 4, day))
+        self.assertEqual(Time.parse_iso("T232050,5"), Time.parse("23:20:50.5"))
+        self.assertEqual(str(PlainDateTime.parse_iso("19850412T1015")), "1985-04-12T10:15:00")
+        self.assertEqual(str(OffsetDateTime.parse_iso("2024-02-29 22:59:59.25+00")), "2024-02-29T22:59:59.250000+00:00")
+        with self.assertRaisesRegex(fotsevindre.ParseError, "unexpected byte at 6"):
+            Date.parse_iso("198504-12")
 
     def test_texts_printed(self):
         printed = fotsevindre.dates_calendar_texts(self.DATES)
