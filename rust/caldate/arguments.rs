@@ -372,12 +372,9 @@ fn move_text(by: Move) -> String {
         Move::Days(duration) => format!("add {}d", duration.whole_seconds()),
         Move::Add(duration) => format!("add {}s", duration.whole_seconds()),
         Move::Floor(minutes) => format!("floor {minutes}"),
-        Move::Period(period) => format!(
-            "add {} months {} days {}",
-            period.whole_months(),
-            period.whole_days(),
-            period.duration().whole_nanoseconds()
-        ),
+        Move::Period(period) => {
+            format!("add {} months {} days {}", period.whole_months(), period.whole_days(), period.duration().whole_nanoseconds())
+        }
         Move::Round(unit) => format!("round {}s", unit.length().whole_seconds()),
     }
 }

@@ -47,8 +47,9 @@ fn one_place(request: &Request<'_>)
     ensures { (clock : Clock) → clock_of request.now ≡ Some clock → (reading : ℤ) (a b : Local)
         → IsLocalOf clock.zone reading a → IsLocalOf clock.zone reading b → a ≡ b }
 {
-    if let Some(clock) = request.clock() {
-        one_local(&clock.zone);
+    match request.clock() {
+        Some(clock) => one_local(&clock.zone),
+        None => {}
     }
 }
 
