@@ -1,4 +1,4 @@
-//! The holidays of the known calendars, by the dates of another program and published lists.
+//! The holidays of the known calendars, by the dates of another program and by lists from memory.
 
 use fotsevindre::schedule::{CALENDARS, HolidayDay, HolidayRule, holidays_between};
 use fotsevindre::{Date, Month, Weekday, Workdays};
@@ -16,18 +16,18 @@ fn rules(name: &str) -> &'static [HolidayRule] {
 }
 
 #[test]
-fn known_calendars_have_the_published_holidays() {
+fn known_calendars_have_the_listed_holidays() {
     let mut years = [0; CALENDARS.len()];
     for line in PUBLISHED.lines().filter(|line| !line.starts_with('#')) {
         let mut words = line.split(' ');
         let (name, year) = (words.next().unwrap(), words.next().unwrap().parse().unwrap());
-        let published: Vec<Date> = words.map(|word| date(year, word[..2].parse().unwrap(), word[2..].parse().unwrap())).collect();
+        let listed: Vec<Date> = words.map(|word| date(year, word[..2].parse().unwrap(), word[2..].parse().unwrap())).collect();
 
         let mut buffer = [Date::MIN; 20];
         let found = holidays_between(rules(name), date(year, 1, 1), date(year, 12, 31), &mut buffer).unwrap();
         let found: Vec<Date> =
             found.iter().copied().filter(|day| !matches!(day.weekday(), Weekday::Saturday | Weekday::Sunday)).collect();
-        assert_eq!(found, published, "{name} {year}");
+        assert_eq!(found, listed, "{name} {year}");
         years[CALENDARS.iter().position(|calendar| calendar.0 == name).unwrap()] += 1;
     }
     assert!(years.iter().all(|count| *count >= 10), "{years:?}");
