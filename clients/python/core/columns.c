@@ -10,6 +10,7 @@ typedef struct {
 } Py_buffer;
 int PyObject_GetBuffer(PyObject *object, Py_buffer *view, int flags);
 void PyBuffer_Release(Py_buffer *view);
+#define PyBUF_READ 0x100
 #define PyBUF_WRITABLE 0x0001
 #define PyBUF_FORMAT 0x0004
 #define PyBUF_C_CONTIGUOUS (0x0020 | 0x0010 | 0x0008)

@@ -13,6 +13,7 @@
 #include "zones.c"
 #include "recurrence.c"
 #include "columns.c"
+#include "arrow.c"
 
 /* Takes what is in Python, in the order of State. */
 static PyObject *core_setup(PyObject *self, PyObject *given)

@@ -32,6 +32,7 @@ _core.setup(_datetime.date, _datetime.time, _datetime.datetime, _datetime.timede
 
 from . import calls as _calls, members as _members
 from ._core import IsoCalendarDate
+from .arrow import ArrowColumn
 from .calls import *
 from .formats import Format
 from .schedules import DateRange, Days, Recurrence, Rule, Steps, Workdays
@@ -41,8 +42,8 @@ from .zones import Local, Zone, ZonedDateTime
 __version__ = "0.1.0"
 
 __all__ = [
-    "ComponentRange", "ContradictionError", "DateRange", "Days", "Format", "FormatError", "IsoCalendarDate", "Local",
-    "Month", "ParseError", "ParseRuleError", "ParseRuleErrorKind", "Recurrence", "Rule", "Steps", "Weekday",
+    "ArrowColumn", "ComponentRange", "ContradictionError", "DateRange", "Days", "Format", "FormatError",
+    "IsoCalendarDate", "Local", "Month", "ParseError", "ParseRuleError", "ParseRuleErrorKind", "Recurrence", "Rule", "Steps", "Weekday",
     "Workdays", "YearFraction", "Zone", "ZonedDateTime", "ZoneError", "dates_to_strings",
     "instants_to_strings", "status_error", "strings_to_dates", "strings_to_instants",
 ]

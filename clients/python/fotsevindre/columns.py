@@ -3,10 +3,11 @@
 import array
 import operator
 import sys
-from typing import Any, Callable, TypeVar
+from typing import Any, Callable, SupportsIndex, TypeVar
 
 from . import _core
 from ._core import Date
+from .errors import is_like_date
 from .schedules import Workdays, range_of
 
 _R = TypeVar("_R")
@@ -47,6 +48,8 @@ def _of_array(values: Any, code: str, unit: str | None) -> Any:
         values, code = _whole(values, unit), "q"
     elif letter == "m" and code == "q" and unit == "":
         values = _whole(values, "D")
+    elif letter == "O" and unit == "D":
+        values = sys.modules["numpy"].array(_days_of(values.tolist()))
     elif letter not in "iu":
         raise TypeError(f"expected a column of integers, not {values.dtype}")
     low, high = range_of(code)[0], range_of(code)[-1]
@@ -59,12 +62,24 @@ def _number(value: Any) -> Any:
     return value.to_julian_day() if isinstance(value, Date) else value
 
 
+def _days_of(values: Any) -> Any:
+    """Returns the Julian days of a list of dates or of such numbers."""
+    try:
+        return array.array("i", map(_number, values))
+    except TypeError:
+        row, wrong = next(((row, one) for row, one in enumerate(values) if not isinstance(one, (Date, SupportsIndex))), (0, values))
+        way = "; strings_to_dates parses strings" if isinstance(wrong, str) else \
+            "; Date.from_date, or pandas.to_datetime for a column, converts dates" if is_like_date(wrong) else ""
+        raise TypeError(f"expected a column of integers or of Date, not {type(wrong).__name__} in row {row}{way}") from None
+
+
 def _column(values: Any, code: str, unit: str | None) -> Any:
     """Returns the numbers of a column, as C has them: the buffer itself if it has these bits in one
     piece, else a copy. A column of dates has the unit "D", one of times "s", and parts of durations
     have none."""
     if getattr(getattr(values, "dtype", None), "tz", None) is not None:
-        raise ValueError("expected a column without a time zone; .dt.tz_localize(None) removes it")
+        accessor = ".dt" * hasattr(values, "dt")
+        raise ValueError(f"expected a column without a time zone; {accessor}.tz_localize(None) removes it")
     if hasattr(values, "to_numpy"):
         # Columns such as Int64 of pandas can have missing numbers.
         bits = getattr(values.dtype, "numpy_dtype", None)
@@ -73,7 +88,7 @@ def _column(values: Any, code: str, unit: str | None) -> Any:
                 ".fillna(..) replaces them, and .dropna() removes their rows")
         values = values.to_numpy() if bits is None else values.to_numpy(bits)
     if isinstance(values, (list, tuple)):
-        return array.array(code, map(_number, values) if unit == "D" else values)
+        return _days_of(values) if unit == "D" else array.array(code, values)
     is_array = hasattr(values, "dtype")
     view = _of_array(values, code, unit) if is_array else memoryview(values)
     if view.ndim != 1:

@@ -1,18 +1,24 @@
-"""Whole columns of strings: lists, arrays of NumPy, and series and indexes of pandas."""
+"""Whole columns of strings: lists, arrays of NumPy, series and indexes of pandas, and columns of
+Apache Arrow."""
 
-import array
-import itertools
+from __future__ import annotations
+
 import sys
 from typing import Any, Callable
 
-from ._core import Date, OffsetDateTime
+from . import _core, arrow
+from ._core import Date, OffsetDateTime, UtcOffset
 from .calls import dates_calendar_texts, dates_format, dates_parse, dates_parse_format
 from .calls import moments_parse, moments_texts, parse_rfc3339, rfc3339_text
+from .errors import status_error
 from .formats import Format
+from .zones import Zone
 
 _ERRORS = ("raise", "missing", "column")
 _EPOCH = 2440588
 _DAY = 86_400 * 10**9
+# No number of a row in 32 bits and in 64, the latter of which is NaT.
+_NONE, _NAT = -2**31, -2**63
 # The days that datetime64[ns] has, except the first one and the last one, which it has in part.
 _NANOSECOND_DAYS = range(_EPOCH - 106_751, _EPOCH + 106_752)
 
@@ -23,42 +29,68 @@ def _is_missing(value: Any) -> bool:
     return value is None or is_nan or type(value).__name__ in ("NAType", "NaTType")
 
 
-def _rows_of(strings: Any) -> list[Any]:
-    """Returns the strings of a column as a list."""
+def _rows_of(strings: Any) -> Any:
+    """Returns the strings of a column as a list or as an array of objects in one piece."""
     if isinstance(strings, (str, bytes)) or not hasattr(strings, "__iter__"):
         raise TypeError(f"expected a column of strings, not {type(strings).__name__}")
     if getattr(strings, "ndim", 1) != 1:
         raise TypeError(f"expected a column of one dimension, not {strings.ndim}")
-    rows: list[Any] = strings.tolist() if hasattr(strings, "tolist") else list(strings)
-    if getattr(getattr(strings, "dtype", None), "kind", "") == "S":
-        return [row.decode() for row in rows]
-    return rows
+    values = strings.to_numpy() if hasattr(strings, "to_numpy") else strings
+    letter = getattr(getattr(values, "dtype", None), "kind", "")
+    if letter == "O" and type(values) is sys.modules["numpy"].ndarray:
+        return sys.modules["numpy"].ascontiguousarray(values)
+    rows = values.tolist() if hasattr(values, "tolist") else list(values)
+    return [row.decode() for row in rows] if letter == "S" else rows
 
 
-def _joined(rows: list[Any]) -> tuple[bytes, Any, list[int]]:
-    """Returns the bytes of all rows, their bounds, and the rows without a value, which have no
-    bytes."""
-    missing: list[int] = []
-    try:
-        text = "".join(rows)
-    except TypeError:
-        missing = [row for row, one in enumerate(rows) if _is_missing(one)]
-        rows = ["" if _is_missing(one) else one for one in rows]
-        wrong = next((row for row, one in enumerate(rows) if not isinstance(one, str)), None)
-        if wrong is not None:
-            raise TypeError(f"row {wrong}: expected a string, not {rows[wrong]!r}") from None
-        text = "".join(rows)
-    if not text.isascii():
-        rows = [row.encode("utf-8", "surrogatepass") for row in rows]
-    data = text.encode("utf-8", "surrogatepass")
-    if len(data) > 2**31 - 1:
-        raise OverflowError("too many bytes; expected at most 2147483647 in one call")
-    numpy = sys.modules.get("numpy")
-    if numpy is None:
-        return data, array.array("i", itertools.accumulate(map(len, rows), initial=0)), missing
-    bounds = numpy.zeros(len(rows) + 1, "int32")
-    numpy.cumsum(numpy.fromiter(map(len, rows), "int32", len(rows)), out=bounds[1:])
-    return data, bounds, missing
+class _Strings:
+    """A column of strings as C takes it: parts with the bytes of their rows and the bounds of these,
+    and the numbers of the missing rows."""
+
+    def __init__(self, given: Any) -> None:
+        self.given, self.is_arrow = given, arrow.is_column(given)
+        self.rows: Any
+        if self.is_arrow:
+            self.rows, self.parts, self.missing = arrow.strings_of(given)
+            return
+        self.rows = _rows_of(given)
+        data, bounds, self.missing = _core.join_strings(self.rows, _is_missing)
+        numpy: Any = sys.modules.get("numpy")
+        self.parts = [(data, numpy.frombuffer(bounds, "int32") if numpy else memoryview(bounds).cast("i"))]
+
+    def parsed(self, parse: Callable[..., Any], *format: Any) -> Any:
+        """Returns the columns of a call for all parts, one after another. A missing row has an error."""
+        found = [parse(data, bounds, *format) for data, bounds in self.parts]
+        if len(found) > 1:
+            *columns, counts = zip(*found)
+            found = [type(found[0])(*map(sys.modules["numpy"].concatenate, columns), sum(counts))]
+        if self.is_arrow:
+            found[0].statuses[self.missing] = 1
+        return found[0]
+
+    def checked(self, statuses: Any, parse: Callable[[Any], Any], errors: str) -> list[str | None]:
+        """Raises an error for the first row that has a string without a result, or returns the
+        errors of all rows."""
+        numpy: Any = sys.modules.get("numpy")
+        failed: list[int]
+        if numpy is None:
+            absent = set(self.missing)
+            failed = [row for row, status in enumerate(statuses) if status and row not in absent]
+        else:
+            wrong = numpy.asarray(statuses) != 0
+            wrong[self.missing] = False
+            failed = numpy.flatnonzero(wrong).tolist()
+        if errors == "raise" and failed:
+            row = failed[0]
+            raise ValueError(f"row {row}: {self.rows[row]!r}: {_reason(self.rows[row], parse)}")
+        reasons: list[str | None] = [None] * (len(self.rows) if errors == "column" else 0)
+        for row in failed if reasons else ():
+            reasons[row] = _reason(self.rows[row], parse)
+        return reasons
+
+    def with_errors(self, values: Any, reasons: Any, errors: str) -> Any:
+        """Returns the values, with the column of errors if that is wanted."""
+        return (values, _texts_like(self.given, reasons)) if errors == "column" else values
 
 
 def _reason(row: Any, parse: Callable[[Any], Any]) -> str:
@@ -70,54 +102,45 @@ def _reason(row: Any, parse: Callable[[Any], Any]) -> str:
     return "out of range of datetime64[ns]"
 
 
-def _checked(rows: list[Any], failed: list[int], parse: Callable[[Any], Any], errors: str) -> Any:
-    """Raises an error for the first row without a result, or returns the errors of all rows."""
-    if errors == "raise" and failed:
-        row = failed[0]
-        raise ValueError(f"row {row}: {rows[row]!r}: {_reason(rows[row], parse)}")
-    reasons: list[str | None] = [None] * (len(rows) if errors == "column" else 0)
-    if errors == "column":
-        for row in failed:
-            reasons[row] = _reason(rows[row], parse)
-    return reasons
-
-
-def _like(strings: Any, values: Any) -> Any:
+def _like(given: Any, values: Any) -> Any:
     """Returns values as the column that was given: with its index and its name, if it has them."""
-    if hasattr(strings, "index") and hasattr(strings, "name"):
-        return type(strings)(values, index=strings.index, name=strings.name)
-    if hasattr(strings, "to_numpy"):
-        return sys.modules["pandas"].Index(values, name=strings.name)
+    if hasattr(given, "index") and hasattr(given, "name"):
+        return type(given)(values, index=given.index, name=given.name)
+    if hasattr(given, "to_numpy"):
+        return sys.modules["pandas"].Index(values, name=given.name)
     return values
 
 
-def _texts_like(values: Any, texts: Any) -> Any:
-    """Returns strings as a list, an array of objects, or a series or an index of pandas."""
-    if not hasattr(values, "dtype"):
+def _texts_like(given: Any, texts: Any) -> Any:
+    """Returns strings as a list, an array of objects, a series or an index of pandas, or a column of
+    Arrow."""
+    if arrow.is_column(given):
+        return arrow.column_of_strings(texts)
+    if not hasattr(given, "dtype"):
         return texts
     numpy: Any = sys.modules["numpy"]
     objects = numpy.empty(len(texts), object)
     objects[:] = texts
-    return _like(values, objects)
+    return _like(given, objects)
 
 
-def _split(columns: Any) -> list[str | None]:
-    """Returns the strings of a result, and None for a row without one."""
+def _printed(given: Any, columns: Any, missing: Any) -> Any:
+    """Returns the strings of a result like a column, and `None` for a missing row. Raises
+    `ValueError` for another row without a string."""
+    if columns.error_count:
+        wrong = columns.statuses
+        if hasattr(wrong, "dtype"):
+            wrong = (wrong * ~missing).tolist()
+        row = next((row for row, status in enumerate(wrong) if status and not missing[row]), None)
+        if row is not None:
+            raise ValueError(f"row {row}: {status_error(wrong[row])}")
+    if arrow.is_column(given):
+        return arrow.ArrowColumn("u", columns.statuses != 0, columns.bounds.tobytes(), columns.texts)
     texts, bounds = columns.texts.decode(), list(columns.bounds)
     rows = [texts[start:end] for start, end in zip(bounds, bounds[1:])]
     if columns.error_count:
-        return [None if status else row for row, status in zip(rows, columns.statuses)]
-    return rows
-
-
-def _failed_rows(statuses: Any, missing: list[int]) -> list[int]:
-    """Returns the rows that have a string without a result."""
-    absent = set(missing)
-    return [row for row, status in enumerate(statuses) if status and row not in absent]
-
-
-def _with_errors(values: Any, reasons: Any, strings: Any, errors: str) -> Any:
-    return (values, _texts_like(strings, reasons)) if errors == "column" else values
+        rows = [None if status else row for row, status in zip(rows, columns.statuses)]
+    return _texts_like(given, rows)
 
 
 def _check_option(errors: str) -> None:
@@ -127,9 +150,10 @@ def _check_option(errors: str) -> None:
 
 def strings_to_dates(strings: Any, format: Format | str | None = None, *, errors: str = "raise") -> Any:
     """Parses a column of strings like `Date.parse`, or like `Date.strptime` by a format. A list gives
-    a list of `Date`, an array of NumPy one of `datetime64[D]`, and a series or an index of pandas
-    one of `datetime64[ns]`. A missing value stays one. A row without a result raises `ValueError`
-    with its number, or is missing, or with `"column"` the errors are a second column.
+    a list of `Date`, an array of NumPy one of `datetime64[D]`, a series or an index of pandas one
+    of `datetime64[ns]`, and a column of Arrow an `ArrowColumn` of date32. A missing value stays one.
+    A row without a result raises `ValueError` with its number, or is missing, or with `"column"` the
+    errors are a second column.
 
     >>> strings_to_dates(["2024-02-29", None])
     [Date(2024, 2, 29), None]
@@ -137,99 +161,129 @@ def strings_to_dates(strings: Any, format: Format | str | None = None, *, errors
     ([None], ['day was not in range'])
     """
     _check_option(errors)
-    rows = _rows_of(strings)
-    texts, bounds, missing = _joined(rows)
+    column = _Strings(strings)
     parse: Callable[[Any], Any] = Date.parse
     if format is None:
-        found = dates_parse(texts, bounds)
+        found = column.parsed(dates_parse)
     else:
         form = format
-        found = dates_parse_format(texts, bounds, form)
+        found = column.parsed(dates_parse_format, form)
         parse = lambda row: Date.strptime(row, form)
-    dates, statuses, has_failed = found.dates, found.statuses, found.error_count > len(missing)
-    if hasattr(strings, "to_numpy") and len(dates):
-        numpy: Any = sys.modules["numpy"]
-        known = dates[statuses == 0] if found.error_count else dates
-        if len(known) and (known.min() < _NANOSECOND_DAYS[0] or known.max() > _NANOSECOND_DAYS[-1]):
-            far = (dates < _NANOSECOND_DAYS[0]) | (dates > _NANOSECOND_DAYS[-1])
-            statuses, has_failed = numpy.where(far & (statuses == 0), 1, statuses), True
-    failed = _failed_rows(statuses, missing) if has_failed else []
-    reasons = _checked(rows, failed, parse, errors)
-    if not hasattr(strings, "dtype"):
+    dates, statuses = found.dates, found.statuses
+    if not column.is_arrow and not hasattr(strings, "dtype"):
+        reasons = column.checked(statuses, parse, errors)
         made = [None if status else Date.from_julian_day(int(day)) for day, status in zip(dates, statuses)]
-        return _with_errors(made, reasons, strings, errors)
-    days = dates.astype("int64") - _EPOCH
-    if found.error_count or has_failed:
-        days[statuses != 0] = -2**63
-    values = days.view("datetime64[D]")
-    if hasattr(strings, "to_numpy"):
-        values = values.astype("datetime64[ns]")
-    return _with_errors(_like(strings, values), reasons, strings, errors)
+        return column.with_errors(made, reasons, errors)
+    numpy: Any = sys.modules["numpy"]
+    is_pandas = not column.is_arrow and hasattr(strings, "to_numpy")
+    if is_pandas:
+        far = (dates < _NANOSECOND_DAYS[0]) | (dates > _NANOSECOND_DAYS[-1])
+        statuses = numpy.where(far & (statuses == 0), 1, statuses)
+    reasons = column.checked(statuses, parse, errors)
+    if column.is_arrow:
+        return column.with_errors(arrow.ArrowColumn("tdD", statuses != 0, dates - numpy.int32(_EPOCH)), reasons, errors)
+    days = (dates.astype("int64") - _EPOCH) * (_DAY if is_pandas else 1)
+    days[statuses != 0] = _NAT
+    return column.with_errors(_like(strings, days.view("datetime64[ns]" if is_pandas else "datetime64[D]")), reasons, errors)
 
 
 def strings_to_instants(strings: Any, zone: str | None = None, *, errors: str = "raise") -> Any:
     """Parses a column of strings of RFC 3339 like `parse_rfc3339`. A list gives a list of
-    `OffsetDateTime`, an array of NumPy one of `datetime64[ns]` at UTC, and a series or an index of
-    pandas one of `datetime64[ns, UTC]`, or of the zone for pandas. `errors` is as in
-    `strings_to_dates`.
+    `OffsetDateTime`, an array of NumPy one of `datetime64[ns]` at UTC, a series or an index of pandas
+    one of `datetime64[ns, UTC]`, and a column of Arrow an `ArrowColumn` of timestamp[ns, UTC], or of
+    the zone for these two. `errors` is as in `strings_to_dates`.
 
     >>> strings_to_instants(["2024-02-29T23:59:59+01:00"])[0].unix_timestamp()
     1709247599
     """
     _check_option(errors)
-    rows = _rows_of(strings)
-    texts, bounds, missing = _joined(rows)
-    found = moments_parse(texts, bounds)
-    if not hasattr(strings, "dtype"):
-        reasons = _checked(rows, _failed_rows(found.statuses, missing), parse_rfc3339, errors)
-        made = [None if status else OffsetDateTime.parse(row) for row, status in zip(rows, found.statuses)]
-        return _with_errors(made, reasons, strings, errors)
+    column = _Strings(strings)
+    found = column.parsed(moments_parse)
+    if not column.is_arrow and not hasattr(strings, "dtype"):
+        reasons = column.checked(found.statuses, parse_rfc3339, errors)
+        made = [None if status else OffsetDateTime.parse(row) for row, status in zip(column.rows, found.statuses)]
+        return column.with_errors(made, reasons, errors)
     numpy: Any = sys.modules["numpy"]
     days = found.dates.astype("int64")
     far = (found.statuses == 0) & ((days < _NANOSECOND_DAYS[1]) | (days > _NANOSECOND_DAYS[-2]))
     statuses = numpy.where(far, 1, found.statuses)
-    failed = _failed_rows(statuses, missing) if found.error_count or far.any() else []
-    reasons = _checked(rows, failed, parse_rfc3339, errors)
+    reasons = column.checked(statuses, parse_rfc3339, errors)
     days[statuses != 0] = _EPOCH
     nanoseconds = (days - _EPOCH) * _DAY + found.times.astype("int64") - found.offsets.astype("int64") * 10**9
-    nanoseconds[statuses != 0] = -2**63
+    nanoseconds[statuses != 0] = _NAT
+    if column.is_arrow:
+        return column.with_errors(arrow.ArrowColumn(f"tsn:{zone or 'UTC'}", statuses != 0, nanoseconds), reasons, errors)
     values = nanoseconds.view("datetime64[ns]")
     if hasattr(strings, "to_numpy"):
         index = sys.modules["pandas"].DatetimeIndex(values, tz="UTC")
         values = _like(strings, index.tz_convert(zone) if zone else index)
-    return _with_errors(values, reasons, strings, errors)
+    return column.with_errors(values, reasons, errors)
 
 
 def dates_to_strings(dates: Any, format: Format | str | None = None) -> Any:
     """Returns the strings of a column of dates, as of ISO 8601, or by a format. Dates are in a list,
-    or `datetime64` of whole days. A missing date is `None`.
+    or `datetime64` of whole days, or dates or timestamps of Arrow. A missing date is `None`, and
+    another row without a string raises `ValueError`.
 
     >>> dates_to_strings([Date(2024, 2, 29), Date(2024, 3, 1)], "%d.%m.%Y")
     ['29.02.2024', '01.03.2024']
     """
-    found = dates_calendar_texts(dates) if format is None else dates_format(dates, format)
-    return _texts_like(dates, _split(found))
+    values: Any = dates
+    if arrow.is_column(dates):
+        values, zone = arrow.times_of(dates, "dates")
+        if zone:
+            raise ValueError(f"expected a column without a time zone, not with {zone}")
+    elif not hasattr(dates, "dtype") or dates.dtype.kind == "O":
+        values = [_NONE if _is_missing(one) else one for one in dates]
+    missing = [one == _NONE for one in values] if isinstance(values, list) else values != values
+    found = dates_calendar_texts(values) if format is None else dates_format(values, format)
+    return _printed(dates, found, missing)
+
+
+def _local_of(instants: Any) -> tuple[Any, Any]:
+    """Returns the times of a column of instants at UTC, and their offsets in seconds."""
+    numpy: Any = sys.modules["numpy"]
+    if arrow.is_column(instants):
+        values, zone = arrow.times_of(instants, "timestamps")
+        if not zone:
+            raise ValueError("expected a column with a time zone; cast it to timestamp('us', 'UTC')")
+        if zone[0] in "+-":
+            return values, numpy.full(len(values), UtcOffset.parse(zone).whole_seconds())
+        known = numpy.where(values == values, values.astype("datetime64[s]").view("int64"), 0)
+        return values, Zone(zone).offsets(known).offsets
+    if not hasattr(instants, "to_numpy"):
+        return instants, numpy.zeros(len(instants), "int64")
+    index = sys.modules["pandas"].DatetimeIndex(instants)
+    if index.tz is None:
+        raise ValueError("expected a column with a time zone; .dt.tz_localize('UTC') adds one")
+    local, values = index.tz_localize(None).to_numpy(), index.tz_convert("UTC").tz_localize(None).to_numpy()
+    return values, (local - values).astype("timedelta64[s]").view("int64")
+
+
+def _rfc3339_text(row: int, moment: OffsetDateTime) -> str:
+    text = rfc3339_text(moment.date(), moment.time(), moment.offset)
+    if text is None:
+        raise ValueError(f"row {row}: {moment} has no string of RFC 3339")
+    return text
 
 
 def instants_to_strings(instants: Any) -> Any:
     """Returns the strings of RFC 3339 of a column of instants: of a list of `OffsetDateTime`, of
-    `datetime64` of NumPy at UTC, or of a series or an index of pandas with a time zone, at its
-    offsets. A missing instant is `None`.
+    `datetime64` of NumPy at UTC, or of a series or an index of pandas, or a column of Arrow, with a
+    time zone, at its offsets. A missing instant is `None`, and another row without a string raises
+    `ValueError`.
 
     >>> instants_to_strings(strings_to_instants(["2024-02-29T23:59:59+01:00"]))
     ['2024-02-29T23:59:59+01:00']
     """
-    if not hasattr(instants, "dtype"):
-        return [None if _is_missing(one) else rfc3339_text(one.date(), one.time(), one.offset) for one in instants]
-    local = universal = instants
-    if hasattr(instants, "to_numpy"):
-        index = sys.modules["pandas"].DatetimeIndex(instants)
-        if index.tz is None:
-            raise ValueError("expected a column with a time zone; .dt.tz_localize('UTC') adds one")
-        local, universal = index.tz_localize(None).to_numpy(), index.tz_convert("UTC").tz_localize(None).to_numpy()
-    local, universal = (one.astype("datetime64[ns]").view("int64") for one in (local, universal))
-    missing = universal == -2**63
-    dates, offsets = local // _DAY + _EPOCH, (local - universal) // 10**9
-    dates[missing] = offsets[missing] = -2**31
-    found = moments_texts(dates.astype("int32"), (local % _DAY).astype("uint64"), offsets.astype("int32"))
-    return _texts_like(instants, _split(found))
+    if not hasattr(instants, "dtype") and not arrow.is_column(instants):
+        return [None if _is_missing(one) else _rfc3339_text(row, one) for row, one in enumerate(instants)]
+    values, offsets = _local_of(instants)
+    missing = values != values
+    whole = values.astype("datetime64[s]")
+    below = (values - whole).astype("timedelta64[ns]").view("int64")
+    seconds = whole.view("int64") + offsets
+    dates = seconds // 86_400 + _EPOCH
+    dates[missing | (abs(dates) > 2**31 - 1)] = _NONE
+    found = moments_texts(dates.astype("int32"), (seconds % 86_400 * 10**9 + below).astype("uint64"), offsets.astype("int32"))
+    return _printed(instants, found, missing)

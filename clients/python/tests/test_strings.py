@@ -12,7 +12,7 @@ import numpy
 import pandas
 
 import fotsevindre
-from fotsevindre import Date, OffsetDateTime
+from fotsevindre import Date, OffsetDateTime, UtcOffset
 from fotsevindre import dates_to_strings, instants_to_strings, strings_to_dates, strings_to_instants
 
 
@@ -22,6 +22,7 @@ class Lists(unittest.TestCase):
         self.assertEqual(strings_to_dates(("29 February 2024",), "%d %B %Y"), [Date(2024, 2, 29)])
         self.assertEqual(strings_to_dates([]), [])
         self.assertEqual(dates_to_strings([Date(2024, 2, 29), Date(-1, 1, 1)]), ["2024-02-29", "-0001-01-01"])
+        self.assertEqual(dates_to_strings([None, Date(2024, 2, 29), float("nan")], "%A"), [None, "Thursday", None])
 
     def test_errors(self):
         rows = ["2024-02-29", None, "2023-02-29", "2024-02-3", "", "2024–02–29", float("nan")]
@@ -45,6 +46,27 @@ class Lists(unittest.TestCase):
             strings_to_instants(["2024-02-29T23:59:60Z"])
 
 
+    def test_rows_without_a_string(self):
+        with self.assertRaisesRegex(ValueError, "^row 1: a format shows"):
+            dates_to_strings([None, Date(2024, 2, 29)], "%H")
+        with self.assertRaisesRegex(ValueError, "^row 1: .* has no string of RFC 3339$"):
+            instants_to_strings([None, OffsetDateTime(10000, 1, 1, offset=UtcOffset())])
+        for far in ("10000-01-01", "-0001-01-01"):
+            with self.assertRaisesRegex(ValueError, "^row 1: "):
+                instants_to_strings(numpy.array(["NaT", far], "datetime64[s]"))
+        with self.assertRaisesRegex(ValueError, "^row 1: invalid date"):
+            dates_to_strings(numpy.array(["NaT", 2**40], "datetime64[D]"))
+
+    def test_rows_change_while_they_are_read(self):
+        class Strange(float):
+            def __ne__(self, other):
+                rows[:] = None
+                return True
+
+        rows = numpy.array(["2024-02-29", Strange("nan"), "2024-02-29"], object)
+        self.assertEqual([str(one) for one in strings_to_dates(rows)], ["2024-02-29", "NaT", "NaT"])
+
+
 class Columns(unittest.TestCase):
     def test_numpy(self):
         wanted = numpy.array(["2024-02-29", "NaT", "2024-03-01"], "datetime64[D]")
@@ -58,6 +80,8 @@ class Columns(unittest.TestCase):
         self.assertEqual([str(one) for one in found], ["2024-02-29T22:59:59.250000000", "1969-12-31T23:59:59.999999999", "NaT"])
         self.assertEqual(list(instants_to_strings(found)), ["2024-02-29T22:59:59.25Z", "1969-12-31T23:59:59.999999999Z", None])
         self.assertEqual(len(strings_to_dates(numpy.array([], object))), 0)
+        numpy.testing.assert_array_equal(strings_to_dates(numpy.array([*rows, "x"] * 2, object)[::4]), wanted[[0, 0]])
+        self.assertEqual([str(one) for one in strings_to_dates(numpy.empty(2, object))], ["NaT", "NaT"])
         self.assertRaisesRegex(TypeError, "one dimension", strings_to_dates, numpy.array([["2024-02-29"]]))
 
     def test_series(self):
@@ -70,6 +94,23 @@ class Columns(unittest.TestCase):
         index = strings_to_dates(pandas.Index(["2024-02-29", "2024-03-01"]))
         self.assertTrue(index.equals(pandas.DatetimeIndex(["2024-02-29", "2024-03-01"])))
         self.assertEqual(list(dates_to_strings(index, "%d.%m.%Y")), ["29.02.2024", "01.03.2024"])
+
+    def test_dates_of_pandas(self):
+        given = pandas.Series(pandas.to_datetime(["2024-02-29", None]), index=["a", "b"], name="due")
+        wanted = pandas.Series(["2024-02-29", None], index=["a", "b"], name="due")
+        objects = pandas.Series([Date(2024, 2, 29), None], index=["a", "b"], name="due")
+        for one in (given, objects):
+            pandas.testing.assert_series_equal(dates_to_strings(one), wanted)
+        self.assertEqual(list(dates_to_strings(pandas.DatetimeIndex(given))), list(wanted))
+        self.assertEqual(list(dates_to_strings(pandas.Series([2460370], dtype="Int64"))), ["2024-02-29"])
+        for one in (given, pandas.DatetimeIndex(given)):
+            accessor = ".dt" * hasattr(one, "dt")
+            zoned = one.dt.tz_localize("UTC") if accessor else one.tz_localize("UTC")
+            with self.assertRaisesRegex(ValueError, rf"without a time zone; {accessor}.tz_localize\(None\) removes it"):
+                dates_to_strings(zoned)
+        for wrong, words in [(pandas.Series([datetime.date(2024, 2, 29)]), "date in row 0; Date.from_date, or pandas.to_datetime for"), (pandas.Series(["2024-02-29"]), "strings_to_dates"),
+                ([Date(2024, 2, 29), datetime.date(2024, 2, 29)], "date in row 1; Date.from_date"), (pandas.Series([2460370, None], dtype="Int64"), "dropna")]:
+            self.assertRaisesRegex((TypeError, ValueError), words, dates_to_strings, wrong)
 
     def test_the_range_of_nanoseconds(self):
         rows = pandas.Series(["1677-09-21", "1677-09-22", "2262-04-11", "2262-04-12"])
