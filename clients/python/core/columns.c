@@ -203,3 +203,74 @@ static PyObject *core_over_columns(PyObject *self, PyObject *const *given, Py_ss
     }
     return error_count == FOTS_LENGTH_MISMATCH ? NULL : PyLong_FromSize_t(error_count);
 }
+
+/* ---- days after times of numpy, which take no longer than an addition there */
+
+/* The Unix days of the first and the last date. */
+#define FIRST_UNIX_DAY ((uint64_t)-365961662)
+#define LAST_UNIX_DAY UINT64_C(364522971)
+
+/* Adds days to days: those of a column, or the same to each. Returns whether all of both are dates.
+ * A sum that wrapped around is none, since it is far from the others. */
+#if defined(__GNUC__) && !defined(__clang__)
+__attribute__((optimize("O3"))) /* with two rows at a time */
+#endif
+static int days_later(const uint64_t *restrict dates, const uint64_t *restrict days, uint64_t same,
+    uint64_t *restrict made, size_t rows)
+{
+    uint64_t outside = 0;
+    for (size_t row = 0; row < rows; row++) {
+        uint64_t date = dates[row], later = date + (days ? days[row] : same);
+        outside |= (date - FIRST_UNIX_DAY) | (LAST_UNIX_DAY - date) | (later - FIRST_UNIX_DAY) |
+            (LAST_UNIX_DAY - later);
+        made[row] = later;
+    }
+    return !(outside >> 63);
+}
+
+/* The same for times in a unit of which this many are in a day: returns whether all times are whole
+ * days, and none is NaT or gets out of the range of 64 bits, which has no days but dates. */
+static inline int times_later(const int64_t *restrict times, const int64_t *restrict days,
+    int64_t same, int64_t *restrict made, size_t rows, int64_t factor)
+{
+    for (size_t row = 0; row < rows; row++) {
+        int64_t move;
+        if (times[row] % factor || __builtin_mul_overflow(days ? days[row] : same, factor, &move) ||
+            __builtin_add_overflow(times[row], move, &made[row]) || made[row] == INT64_MIN) {
+            return 0;
+        }
+    }
+    return 1;
+}
+
+/* Takes a column of times in 64 bits, how many of their unit are in a day, which is 1 or those of
+ * nanoseconds, an int or a column of days in 64 bits, and a column for the result. Returns whether
+ * all times are dates, and the result, too. */
+static PyObject *core_days_later(PyObject *Py_UNUSED(self), PyObject *const *given, Py_ssize_t count)
+{
+    Py_buffer views[3];
+    PyObject *const columns[] = {given[0], given[count > 3 ? 3 : 0], given[count > 2 ? 2 : 0]};
+    int64_t same = 0;
+    int taken = 0, is_same = count == 4 && PyLong_Check(given[2]), wanted = is_same ? 2 : 3;
+    PyObject *made = NULL;
+    if (!is_count("days_later", count, 4) ||
+        (is_same && !to_number(given[2], 0, INT64_MIN, INT64_MAX, &same))) {
+        return NULL;
+    }
+    while (taken < wanted && !PyObject_GetBuffer(columns[taken], &views[taken], PyBUF_C_CONTIGUOUS |
+        (taken == 1 ? PyBUF_WRITABLE : 0))) {
+        taken++;
+    }
+    if (taken == wanted) {
+        size_t rows = (size_t)views[0].len / 8;
+        void *days = is_same ? NULL : views[2].buf;
+        int is_days = PyLong_AsLong(given[1]) == 1;
+        made = PyBool_FromLong(views[1].len == views[0].len && (is_same || views[2].len == views[0].len) &&
+            (is_days ? days_later(views[0].buf, days, (uint64_t)same, views[1].buf, rows) :
+            times_later(views[0].buf, days, same, views[1].buf, rows, 86400000000000)));
+    }
+    while (taken--) {
+        PyBuffer_Release(&views[taken]);
+    }
+    return made;
+}

@@ -14,13 +14,12 @@ _R = TypeVar("_R")
 _WORDS = {"D": "days", "s": "seconds"}
 # The units of datetime64 in columns with these names.
 _UNITS = {"dates": "D", "others": "D", "seconds": "s", "readings": "s"}
-_SECONDS = {"s": 1, "ms": 10**3, "us": 10**6, "ns": 10**9}
+SECONDS = {"s": 1, "ms": 10**3, "us": 10**6, "ns": 10**9}
 # How many of a unit of datetime64 are in a day or a second.
-_FACTORS = {(name, unit): count * seconds for name, count in _SECONDS.items()
+_FACTORS = {(name, unit): count * seconds for name, count in SECONDS.items()
     for unit, seconds in (("D", 86400), ("s", 1))}
-# The Unix days of dates.
-_FIRST, _LAST = ((Date(*parts) - Date(1970, 1, 1)).whole_days()
-    for parts in ((-999999, 1, 1), (999999, 12, 31)))
+# The types of dates to which C adds days in one pass, and how many of their unit are in a day.
+_QUICK = {"<M8[D]": 1, "<M8[ns]": 86_400 * 10**9} if sys.byteorder == "little" else {}
 
 
 def _whole(values: Any, unit: str) -> Any:
@@ -150,6 +149,10 @@ class _Like:
             found = self.in_unit(found, name)
         if self.masks:
             found = self.numpy.ma.MaskedArray(found, self.numpy.logical_or.reduce(self.masks))
+        return self.wrapped(found)
+
+    def wrapped(self, found: Any) -> Any:
+        """Returns an array as the series or the index that was given."""
         if self.series is None:
             return found
         if hasattr(self.series, "index"):
@@ -159,27 +162,23 @@ class _Like:
 
 
 def _days_later(dates: Any, days: Any) -> Any:
-    """Returns the days of datetime64[D] some days later, by numpy, if all of both are dates, so that
-    no sum wrapped around, and else `None`."""
+    """Returns the days of `datetime64[D]` or of whole days in `datetime64[ns]` some days later, if all
+    of both are dates, so that no sum wrapped around, and else `None`."""
     numpy: Any = sys.modules.get("numpy")
-    if numpy is None or type(dates) is not numpy.ndarray or dates.dtype != "datetime64[D]":
+    if numpy is None or getattr(getattr(dates, "dtype", None), "str", None) not in _QUICK:
         return None
-    if dates.ndim != 1 or not len(dates):
-        return None
+    times = dates if type(dates) is numpy.ndarray else dates.to_numpy() if hasattr(dates, "to_numpy") else None
+    days = days.to_numpy() if hasattr(days, "to_numpy") else days
     if type(days) is numpy.ndarray and days.dtype == "timedelta64[D]":
         days = days.view("int64")
-    numbers = dates.view("int64")
-    lowest, highest = int(numbers.min()), int(numbers.max())
-    if type(days) is int:
-        later = [lowest + days, highest + days]
-    elif type(days) is numpy.ndarray and days.dtype == "int64" and days.shape == dates.shape:
-        found = numbers + days
-        later = [int(found.min()), int(found.max())]
-    else:
+    columns = [times] if type(days) is int else [times, days]
+    if any(type(one) is not numpy.ndarray or one.ndim != 1 or not (one.flags.c_contiguous and one.flags.aligned) for one in columns):
         return None
-    if min(lowest, *later) < _FIRST or max(highest, *later) > _LAST:
+    if type(days) is not int and days.dtype != "int64":
         return None
-    return (numbers + days if type(days) is int else found).view("datetime64[D]")
+    made = numpy.empty(len(times), times.dtype)
+    is_made = _core.days_later(times.view("int64"), _QUICK[times.dtype.str], days, made.view("int64"))
+    return made if is_made else None
 
 
 def call(kind: Callable[..., _R], name: str, reads: str, writes: str,
@@ -188,7 +187,11 @@ def call(kind: Callable[..., _R], name: str, reads: str, writes: str,
     a zone or a unit, and makes the result."""
     later = _days_later(**columns) if name == "dates_add_days" else None
     if later is not None:
-        return kind(later, sys.modules["numpy"].zeros(len(later), "uint8"), 0)
+        statuses = sys.modules["numpy"].zeros(len(later), "uint8")
+        if type(columns["dates"]) is type(later):
+            return kind(later, statuses, 0)
+        like = _Like(columns)
+        return kind(like.wrapped(later), like.wrapped(statuses), 0)
     for one, given in columns.items():
         if one != "texts" and isinstance(given, (bytes, bytearray)):
             raise TypeError(f"expected numbers in {one}, not {type(given).__name__}")

@@ -10,6 +10,7 @@ from . import _core, arrow
 from ._core import Date, OffsetDateTime, UtcOffset
 from .calls import dates_calendar_texts, dates_format, dates_parse, dates_parse_format
 from .calls import moments_parse, moments_texts, parse_rfc3339, rfc3339_text
+from .columns import SECONDS
 from .errors import status_error
 from .formats import Format
 from .zones import Zone
@@ -240,6 +241,15 @@ def dates_to_strings(dates: Any, format: Format | str | None = None) -> Any:
     return _printed(dates, found, missing)
 
 
+def _seconds_of(values: Any) -> tuple[Any, Any]:
+    """Returns the whole seconds of an array of datetime64, and the nanoseconds below them."""
+    if values.dtype.str[4:-1] not in SECONDS:
+        values = values.astype("datetime64[s]")
+    numbers, count = values.view("int64"), SECONDS[values.dtype.str[4:-1]]
+    whole = numbers // count
+    return whole, (numbers - whole * count) * (10**9 // count)
+
+
 def _local_of(instants: Any) -> tuple[Any, Any]:
     """Returns the times of a column of instants at UTC, and their offsets in seconds."""
     numpy: Any = sys.modules["numpy"]
@@ -249,8 +259,7 @@ def _local_of(instants: Any) -> tuple[Any, Any]:
             raise ValueError("expected a column with a time zone; cast it to timestamp('us', 'UTC')")
         if zone[0] in "+-":
             return values, numpy.full(len(values), UtcOffset.parse(zone).whole_seconds())
-        known = numpy.where(values == values, values.astype("datetime64[s]").view("int64"), 0)
-        return values, Zone(zone).offsets(known).offsets
+        return values, Zone(zone).offsets(numpy.where(values == values, _seconds_of(values)[0], 0)).offsets
     if not hasattr(instants, "to_numpy"):
         return instants, numpy.zeros(len(instants), "int64")
     index = sys.modules["pandas"].DatetimeIndex(instants)
@@ -280,9 +289,8 @@ def instants_to_strings(instants: Any) -> Any:
         return [None if _is_missing(one) else _rfc3339_text(row, one) for row, one in enumerate(instants)]
     values, offsets = _local_of(instants)
     missing = values != values
-    whole = values.astype("datetime64[s]")
-    below = (values - whole).astype("timedelta64[ns]").view("int64")
-    seconds = whole.view("int64") + offsets
+    seconds, below = _seconds_of(values)
+    seconds = seconds + offsets
     dates = seconds // 86_400 + _EPOCH
     dates[missing | (abs(dates) > 2**31 - 1)] = _NONE
     found = moments_texts(dates.astype("int32"), (seconds % 86_400 * 10**9 + below).astype("uint64"), offsets.astype("int32"))

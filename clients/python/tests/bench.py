@@ -23,6 +23,8 @@ from fotsevindre import Date, Format, OffsetDateTime, PlainDateTime, SignedDurat
 
 VALUES = 4096
 ROUNDS = 9
+# Of the columns of strings, which pandas needs seconds for.
+ROWS = 1_000_000
 
 julian_days = array.array("i", (1721426 + 891 * number for number in range(VALUES)))
 moves = array.array("q", (number % 20001 - 10000 for number in range(VALUES)))
@@ -121,17 +123,32 @@ if numpy:
             lambda: numpy.busday_count(days, days_later, busdaycal=calendar_of_numpy)),
         ("dates_add_days, datetime64, and +", lambda: fotsevindre.dates_add_days(days, 1), lambda: days + 1),
         ("the same, a column of days", lambda: fotsevindre.dates_add_days(days, whole), lambda: days + whole),
+        ("dates_add_days, a series, and Timedelta", lambda: fotsevindre.dates_add_days(series, 1), lambda: series + pandas.Timedelta(days=1)),
         ("dates_add_months, a series, and DateOffset", lambda: fotsevindre.dates_add_months(series, 1), lambda: series + pandas.DateOffset(months=1)),
+    ]
+    spread = (numpy.arange(ROWS) % 30000 - 5000).view("datetime64[D]")
+    many_days, iso = pandas.Series(spread.astype("datetime64[ns]")), pandas.Series(numpy.datetime_as_string(spread).astype(object))
+    local, instants = iso.str[8:] + "." + iso.str[5:7] + "." + iso.str[:4], iso + "T12:34:56Z"
+    LARGE = [
+        ("strings_to_dates, ISO 8601, and to_datetime", lambda: fotsevindre.strings_to_dates(iso), lambda: pandas.to_datetime(iso)),
+        ("the same by %d.%m.%Y", lambda: fotsevindre.strings_to_dates(local, "%d.%m.%Y"), lambda: pandas.to_datetime(local, format="%d.%m.%Y")),
+        ("strings_to_instants, and to_datetime", lambda: fotsevindre.strings_to_instants(instants), lambda: pandas.to_datetime(instants, utc=True)),
+        ("dates_to_strings, and strftime", lambda: fotsevindre.dates_to_strings(many_days, "%d.%m.%Y"), lambda: many_days.dt.strftime("%d.%m.%Y")),
     ]
 
 
-def least(*loops):
+def least(*loops, rounds=ROUNDS, number=3, values=VALUES):
     """Returns the minimum for each loop. The rounds are run in turn, as the speed of a busy machine changes."""
-    rounds = [[timeit.timeit(loop, timer=time.process_time, number=3) for loop in loops] for _ in range(ROUNDS)]
-    return [min(times) / 3 / VALUES * 1e9 for times in zip(*rounds)]
+    found = [[timeit.timeit(loop, timer=time.process_time, number=number) for loop in loops] for _ in range(rounds)]
+    return [min(times) / number / values * 1e9 for times in zip(*found)]
+
+
+def show(name, here, *other):
+    print(f"{name:<46}{here:7.1f}" + "".join(f"{one:9.1f}{here / one:7.2f}" for one in other))
 
 
 print(f"nanoseconds a value, minimum of {ROUNDS} rounds, here and by datetime")
 for name, loop, other in LOOPS:
-    found = least(loop, other) if other else least(loop)
-    print(f"{name:<46}{found[0]:7.1f}" + (f"{found[1]:9.1f}{found[0] / found[1]:7.2f}" if other else ""))
+    show(name, *least(loop, *filter(None, [other])))
+for name, loop, other in LARGE if numpy else []:
+    show(name, *least(loop, other, rounds=3, number=1, values=ROWS))

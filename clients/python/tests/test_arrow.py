@@ -3,7 +3,6 @@ https://arrow.apache.org/docs/format/CDataInterface.html describes it."""
 
 import ctypes
 import datetime
-import random
 import struct
 import sys
 import unittest
@@ -257,9 +256,9 @@ class Strings(unittest.TestCase):
             self.assertRaises(ValueError, instants_to_strings, Column("tss:UTC", 1, [None, struct.pack("<q", far)]))
 
     def test_a_million_rows_and_back(self):
-        draw = random.Random(1)
-        days = numpy.array([draw.randrange(-700_000, 2_900_000) for _ in range(1_000_000)], "int32")
-        present = bytes(draw.randrange(256) | draw.randrange(256) for _ in range(125_000))
+        draw = numpy.random.default_rng(1)
+        days = draw.integers(-700_000, 2_900_000, 1_000_000, "int32")
+        present = (draw.integers(0, 256, 125_000, "uint8") | draw.integers(0, 256, 125_000, "uint8")).tobytes()
         written = dates_to_strings(Column("tdD", len(days), [present, days.tobytes()]))
         capsules = strings_to_dates(written).__arrow_c_array__()
         array = Array.from_address(capsule_pointer(capsules[1], b"arrow_array"))

@@ -184,6 +184,37 @@ class Numpy(unittest.TestCase):
         frozen.flags.writeable = False
         self.assertEqual(fotsevindre.dates_to_ordinal_dates(frozen).ordinals[0], 1)
 
+    def test_days_later_at_the_ends(self):
+        first, last = (int((date - Date(1970, 1, 1)).whole_days()) for date in (Date.MIN, Date.MAX))
+        days = [first - 1, first, first + 1, -1, 0, last - 1, last, last + 1, -2**63, -2**63 + 1, 2**63 - 1]
+        moves = [-2**63, -2**62, first - last - 1, first - last, -1, 0, 1, last - first, last - first + 1, 2**62, 2**63 - 1]
+        for day in days:
+            for move in moves:
+                later = day + move
+                wanted = later if first <= day <= last and first <= later <= last else -2**63
+                for given in (move, numpy.array([0, move])):
+                    found = fotsevindre.dates_add_days(numpy.array([0, day]).view("datetime64[D]"), given)
+                    self.assertEqual((int(found.dates.view("int64")[1]), bool(found.statuses[1])), (wanted, wanted == -2**63))
+
+    def test_days_later_in_nanoseconds(self):
+        day, limit = 86_400 * 10**9, 106_751
+        for start, move in [(0, limit), (0, -limit), (-limit, 2 * limit), (limit, -2 * limit), (5, -7), (limit, 0)]:
+            for given in (move, numpy.array([move]), numpy.array([move], "timedelta64[D]")):
+                found = fotsevindre.dates_add_days(numpy.array([start * day]).view("datetime64[ns]"), given)
+                # NumPy's own floor to days wraps around in the first day of the range.
+                number = found.dates.view("int64")[0] // {"datetime64[D]": 1, "datetime64[ns]": day}[str(found.dates.dtype)]
+                self.assertEqual((number, found.error_count), (start + move, 0))
+        for start, move in [(0, limit + 1), (limit, 1), (-limit, -1), (limit, 2 * limit), (0, 300_000)]:
+            found = fotsevindre.dates_add_days(numpy.array([start * day]).view("datetime64[ns]"), move)
+            self.assertEqual((str(found.dates.dtype), found.dates.view("int64").tolist()), ("datetime64[D]", [start + move]))
+        found = fotsevindre.dates_add_days(numpy.array([0, -2**63, day]).view("datetime64[ns]"), 1)
+        self.assertEqual((found.dates.astype("datetime64[D]").view("int64").tolist(), found.error_count), ([1, -2**63, 2], 1))
+        for wrong in (1, day - 1, -1):
+            self.assertRaisesRegex(ValueError, "whole days", fotsevindre.dates_add_days, numpy.array([0, wrong]).view("datetime64[ns]"), 1)
+        many = numpy.arange(20)[::2]
+        self.assertEqual(fotsevindre.dates_add_days(many.view("datetime64[D]"), many).dates.view("int64").tolist(), (2 * many).tolist())
+        self.assertRaisesRegex(ValueError, "same length", fotsevindre.dates_add_days, many.view("datetime64[D]"), many[1:])
+
     def test_what_is_refused(self):
         for wrong, words in [
             (numpy.array([1.0]), "float64"),

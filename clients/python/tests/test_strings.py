@@ -119,6 +119,8 @@ class Columns(unittest.TestCase):
         self.assertEqual(errors[3], "out of range of datetime64[ns]")
         with self.assertRaisesRegex(ValueError, "row 0: '9999-12-31': out of range of datetime64"):
             strings_to_dates(pandas.Series(["9999-12-31"]))
+        ends = numpy.array([-2**63 + 1, -2**63 + 999_999_999, 2**63 - 1]).view("datetime64[ns]")
+        self.assertEqual(list(instants_to_strings(ends)), ["1677-09-21T00:12:43.145224193Z", "1677-09-21T00:12:44.145224191Z", "2262-04-11T23:47:16.854775807Z"])
         found = strings_to_instants(pandas.Series(["1677-09-21T00:00:00Z", "2262-04-10T23:59:59.999999999Z", "9999-12-31T00:00:00Z"]), errors="missing")
         self.assertEqual([str(one) for one in found], ["NaT", "2262-04-10 23:59:59.999999999+00:00", "NaT"])
 
