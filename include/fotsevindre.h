@@ -37,9 +37,9 @@ extern "C" {
 #endif
 
 /* The version of this header. fots_version() returns the version of the library. */
-#define FOTS_VERSION "0.1.0"
+#define FOTS_VERSION "0.2.0"
 #define FOTS_VERSION_MAJOR 0
-#define FOTS_VERSION_MINOR 1
+#define FOTS_VERSION_MINOR 2
 #define FOTS_VERSION_PATCH 0
 
 /* Each is passed as its one number. They are structs so that the compiler keeps them distinct. */
@@ -602,7 +602,7 @@ typedef struct fots_share_result {
 
 /* ---- version */
 
-/* Returns the version of the library: 1000000 * major + 1000 * minor + patch. 0.1.0 is 1000. */
+/* Returns the version of the library: 1000000 * major + 1000 * minor + patch. 0.2.0 is 2000. */
 uint32_t fots_version(void);
 
 /* ---- create dates */

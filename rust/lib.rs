@@ -109,7 +109,7 @@ pub use schedule::{
 };
 pub use zone::{Gap, LocalType};
 
-/// Returns the version of the crate. `(0, 1, 0)` is 0.1.0.
+/// Returns the version of the crate. `(0, 2, 0)` is 0.2.0.
 pub const fn version() -> (u32, u32, u32) {
     let [major, minor, patch] =
         [number(env!("CARGO_PKG_VERSION_MAJOR")), number(env!("CARGO_PKG_VERSION_MINOR")), number(env!("CARGO_PKG_VERSION_PATCH"))];

@@ -50,7 +50,7 @@ fn main() -> ExitCode {
     }
 }
 
-/// Gives the shared object the name that compatible versions have in common, such as `libfotsevindre.so.0.1`: the major
+/// Gives the shared object the name that compatible versions have in common, such as `libfotsevindre.so.0.2`: the major
 /// version, and before 1.0 the minor one, too.
 fn name_shared_object(top: &Path) {
     println!("cargo::rerun-if-changed={}", top.join("VERSION").display());

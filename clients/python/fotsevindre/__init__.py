@@ -39,7 +39,7 @@ from .schedules import DateRange, Days, Recurrence, Rule, Steps, Workdays
 from .strings import dates_to_strings, instants_to_strings, strings_to_dates, strings_to_instants
 from .zones import Local, Zone, ZonedDateTime
 
-__version__ = "0.1.0"
+__version__ = "0.2.0"
 
 __all__ = [
     "ArrowColumn", "ComponentRange", "ContradictionError", "DateRange", "Days", "Format", "FormatError",

@@ -1,7 +1,7 @@
 //! The texts of `--help` and `--version`.
 
 /// The text of `--version`.
-pub const VERSION: &[u8] = b"caldate 0.1.0\n";
+pub const VERSION: &[u8] = b"caldate 0.2.0\n";
 
 /// The text of `--help`.
 pub const HELP: &[u8] = b"Usage: caldate [OPTION].. COMMAND [FILE ..]

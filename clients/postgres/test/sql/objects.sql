@@ -39,5 +39,5 @@ DROP EXTENSION fotsevindre;
 DROP TABLE invoice;
 DROP EXTENSION fotsevindre;
 CREATE SCHEMA other;
-CREATE EXTENSION fotsevindre VERSION '0.1.0' SCHEMA other;
+CREATE EXTENSION fotsevindre VERSION '0.2.0' SCHEMA other;
 SELECT other.cal_add_months('2024-01-31', 1);

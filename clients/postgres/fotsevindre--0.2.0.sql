@@ -1,5 +1,5 @@
--- Version 0.1.0 of the functions. A later version has a script with its changes, as
--- fotsevindre--0.1.0--0.2.0.sql, for ALTER EXTENSION.
+-- Version 0.2.0 of the functions. A later version has a script with its changes, as
+-- fotsevindre--0.2.0--0.3.0.sql, for ALTER EXTENSION.
 \echo Use "CREATE EXTENSION fotsevindre" to load this file. \quit
 
 CREATE FUNCTION cal_valid(text, format text DEFAULT '%Y-%m-%d') RETURNS boolean
