@@ -8,6 +8,9 @@ pub mod RuleWalks
 pub mod RuleWeeks
 pub mod RuleSteps
 pub mod RuleNumbers
+pub mod Candidates
+pub mod WeeklyRules
+pub mod PositionSkips
 pub mod Untils
 pub mod Ends
 pub mod WeekdaySpans

@@ -15,16 +15,16 @@ use Rattle.cal_schedule.specs.WeekdaysLaws.{IsInMonths, after_first, before_last
 use Rattle.cal_schedule.proofs.WeekdaySpans.{IsPlaced, count_onward, count_upto, year_span}
 
 -- the month of a day, from its first day to its last
-record IsMonthOf (n : ℕ) : Type 0 where
-  first : ℕ
-  last : ℕ
-  date : IsDate last
-  begins : HasCalendarDate (year_at n) (month_at n) 1 first
-  ends : HasCalendarDate (year_at n) (month_at n) (days_in_month (year_at n) (month_at n)) last
-  place : first + day_of_month_at n ≡ n + 1
-  left : last + day_of_month_at n ≡ n + days_in_month (year_at n) (month_at n)
+pub record IsMonthOf (n : ℕ) : Type 0 where
+  pub first : ℕ
+  pub last : ℕ
+  pub date : IsDate last
+  pub begins : HasCalendarDate (year_at n) (month_at n) 1 first
+  pub ends : HasCalendarDate (year_at n) (month_at n) (days_in_month (year_at n) (month_at n)) last
+  pub place : first + day_of_month_at n ≡ n + 1
+  pub left : last + day_of_month_at n ≡ n + days_in_month (year_at n) (month_at n)
 
-month_of : (n : ℕ) → IsDate n → IsMonthOf n
+pub month_of : (n : ℕ) → IsDate n → IsMonthOf n
 month_of n h =
     let y = year_at n in
     let m = month_at n in
@@ -47,18 +47,18 @@ unfolding ordinal_at
 ordinal_at-first y zero e = refl
 ordinal_at-first y (suc n) e = rw e refl
 
-record IsYearOf (n : ℕ) : Type 0 where
-  first : ℕ
-  last : ℕ
-  date : IsDate last
-  begins : HasCalendarDate (year_at n) 1 1 first
-  ends : HasCalendarDate (year_at n) 12 (days_in_month (year_at n) 12) last
-  first_most : first ≤ n
-  last_least : n ≤ last
-  place : first + ordinal_at n ≡ n + 1
-  left : last + ordinal_at n ≡ n + days_in_year (year_at n)
+pub record IsYearOf (n : ℕ) : Type 0 where
+  pub first : ℕ
+  pub last : ℕ
+  pub date : IsDate last
+  pub begins : HasCalendarDate (year_at n) 1 1 first
+  pub ends : HasCalendarDate (year_at n) 12 (days_in_month (year_at n) 12) last
+  pub first_most : first ≤ n
+  pub last_least : n ≤ last
+  pub place : first + ordinal_at n ≡ n + 1
+  pub left : last + ordinal_at n ≡ n + days_in_year (year_at n)
 
-year_of : (n : ℕ) → IsDate n → IsYearOf n
+pub year_of : (n : ℕ) → IsDate n → IsYearOf n
 year_of n h =
     let y = year_at n in
     let in_year : IsInMonths y 1 12 n = record { year = refl; least = (month_at-range n).0; most = (month_at-range n).1 } in

@@ -130,17 +130,17 @@ last_period rule n t y date e same h = record {
 }
 
 -- The bounds are those of each day between them.
-abbrev IsWithin : Rule → ℕ → ℕ → Type 0
+abbrev pub IsWithin : Rule → ℕ → ℕ → Type 0
 IsWithin rule n m = period_index (unit_of rule) m ≡ period_index (unit_of rule) n
 
-start-moved : (rule : Rule) (n m s : ℕ) → n ≤ m → IsWithin rule n m → IsPeriodStart rule n s → IsPeriodStart rule m s
+pub start-moved : (rule : Rule) (n m s : ℕ) → n ≤ m → IsWithin rule n m → IsPeriodStart rule n s → IsPeriodStart rule m s
 start-moved rule n m s less same h = record {
   first = omega (arith, h.first);
   before = λ k low. omega (arith, same, h.before k low);
   from = λ k low. omega (arith, same, h.from k low);
 }
 
-end-moved : (rule : Rule) (n m e : ℕ) → m < e → IsWithin rule n m → IsPeriodEnd rule n e → IsPeriodEnd rule m e
+pub end-moved : (rule : Rule) (n m e : ℕ) → m < e → IsWithin rule n m → IsPeriodEnd rule n e → IsPeriodEnd rule m e
 end-moved rule n m e less same h = record {
   last = less;
   range = h.range;
@@ -310,7 +310,7 @@ none-more rule n m x none fails off k low high = elim (cases_lt k x) as (λ _. i
   | inr most ↦ let same : k ≡ x = omega arith in ap (is_occurrence rule) same ∙ off
 ]
 
-none-one : (rule : Rule) (n : ℕ) → is_occurrence rule n ≡ false → NoDayBetween rule n (n + 1)
+pub none-one : (rule : Rule) (n : ℕ) → is_occurrence rule n ≡ false → NoDayBetween rule n (n + 1)
 none-one rule n off k low high = let same : k ≡ n = omega arith in ap (is_occurrence rule) same ∙ off
 
 pub skip-off : (rule : Rule) (n : ℕ) (r : Option ℕ) → passes rule n ≡ false → IsCandidate rule n r → IsSkip rule n r

@@ -198,7 +198,7 @@ may_fall_on-days rule n e =
     let b = is_yearly rule.pattern.frequency && is_empty rule.pattern.months in
     then_allows _ (is_year_day n) (is_month_day n) (matches_by_day b n) _ rule.pattern.year_days rule.pattern.month_days rule.pattern.weekdays (weekday_is b n) e
 
-off_weekday : (rule : Rule) (k : ℕ) → may_fall_on rule (weekday_at k) ≡ false → passes rule k ≡ false
+pub off_weekday : (rule : Rule) (k : ℕ) → may_fall_on rule (weekday_at k) ≡ false → passes rule k ≡ false
 unfolding passes
 off_weekday rule k off = false_from_ne_true _ (λ on. false≢true (sym off ∙ may_fall_on-days rule k (and_parts _ _ (and_parts _ _ on).1).1))
 
@@ -210,13 +210,13 @@ takes-further rule n d none off k low high = elim (cases_lt k (n + d)) as (λ _.
 ]
 
 pub skip-day : (rule : Rule) (n d t : ℕ) (r : Option ℕ) → t ≡ n + d → 1 ≤ d
-    → ((k : ℕ) → n < k → k < n + d → may_fall_on rule (weekday_at k) ≡ false) → SomeIff r (IsDate t) t → IsCandidate rule n r
+    → ((k : ℕ) → n < k → k < n + d → passes rule k ≡ false) → SomeIff r (IsDate t) t → IsCandidate rule n r
 skip-day rule n d t None e some none h = λ k low high. elim (cases_lt last_day t) as (λ _. passes rule k ≡ false) [
-  | inl past ↦ off_weekday rule k (none k (omega arith) (omega arith))
+  | inl past ↦ none k (omega arith) (omega arith)
   | inr within ↦ absurd (h within)
 ]
 skip-day rule n d t (Some x) e some none h =
-    (omega (arith, h.1), omega (arith, h.0, h.1), λ k low high. off_weekday rule k (none k (omega arith) (omega (arith, h.1))))
+    (omega (arith, h.1), omega (arith, h.0, h.1), λ k low high. none k (omega arith) (omega (arith, h.1)))
 
 -- nor after its last day
 pub skip-until : (rule : Rule) (n : ℕ) → matches_until rule.until n ≡ false → IsSkip rule n None

@@ -18,6 +18,15 @@ abbrev pub by_day_weekday : ByDay → Weekday
 by_day_weekday (Every w) = w
 by_day_weekday (Nth k w) = w
 
+-- A weekday has a number.
+abbrev pub has_number : ByDay → Bool
+has_number (Every w) = false
+has_number (Nth k w) = true
+
+-- The days that pass repeat every week.
+abbrev pub RepeatsWeekly : Rule → Type 0
+RepeatsWeekly rule = (n : ℕ) → passes rule (n + 7) ≡ passes rule n
+
 -- The rule allows days with the weekday at this index, with any number.
 abbrev pub may_fall_on : Rule → ℕ → Bool
 may_fall_on rule at = allows (λ by. at == index (by_day_weekday by)) rule.pattern.weekdays

@@ -1,10 +1,11 @@
 //! Matching a day against a rule.
-ghost use Rattle.std.specs.Prelude.{◌≡◌, ◌<◌, ◌≤◌, ◌&&◌, ◌==◌, if◌then◌else◌};
+ghost use Rattle.std.specs.Prelude.{◌≡◌, ◌<◌, ◌≤◌, ◌&&◌, ◌==◌, if◌then◌else◌, true};
 ghost use Rattle.std.specs.List.{list_any};
 ghost use Rattle.cal_time.specs.Date.{IsDate, month_at, ordinal_at, year_at};
 ghost use Rattle.cal_time.specs.Lengths.{days_in_year};
 ghost use Rattle.cal_time.specs.Month.{number as month_number};
 ghost use Rattle.cal_schedule.specs.Rule.{allows, matches_start, matches_until, is_empty, matches_months, is_month_day, is_year_day, is_nth, is_nth_weekday, matches_days, matches_by_day, is_yearly, names_no_day, interval_or_1, passes, periods_past, unit_of};
+ghost use Rattle.cal_schedule.specs.RuleSearch.{has_number, RepeatsWeekly};
 ghost use Rattle.cal_schedule.specs.declared.rule.rule.Frequency.TheVariants.{Weekly};
 
 use crate::rule::rule::{ByDay, Frequency, Rule};
@@ -117,7 +118,35 @@ fn any_weekday(weekdays: &[ByDay], of_year: bool, date: Date) -> bool
     weekdays.iter().any(|by| matches_by_day(of_year, date, *by))
 }
 
+/// Returns `true` if the weekday has a number.
+fn has_number(by: ByDay) -> bool
+    ensures { result ≡ has_number by }
+{
+    matches!(by, ByDay::Nth(_, _))
+}
+
+/// Returns `true` if one of the weekdays has a number.
+fn any_has_number(weekdays: &[ByDay]) -> bool
+    ensures { result ≡ list_any has_number weekdays.now }
+{
+    weekdays.iter().any(|by| has_number(*by))
+}
+
 impl Rule {
+    /// Returns `true` if only weekdays without numbers say which days pass, so that these repeat
+    /// every week.
+    #[tactic(auto, using(crate::proofs::WeeklyRules::repeats))]
+    pub(super) fn has_only_weekdays(&self) -> bool
+        ensures { result ≡ true → RepeatsWeekly self.now }
+    {
+        self.pattern.months.is_empty()
+            && self.pattern.weeks.is_empty()
+            && self.pattern.year_days.is_empty()
+            && self.pattern.month_days.is_empty()
+            && !self.pattern.weekdays.is_empty()
+            && !any_has_number(self.pattern.weekdays.as_slice())
+    }
+
     /// Returns the interval, or 1 if it is 0.
     pub(super) fn interval_or_1(&self) -> u32
         ensures value { result ≡ interval_or_1 self.now }

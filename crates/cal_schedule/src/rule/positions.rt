@@ -1,14 +1,14 @@
 //! The positions of days among the days of their period that pass a rule.
-ghost use Rattle.std.specs.Prelude.{◌≡◌, ◌+◌, ◌≤◌, true};
+ghost use Rattle.std.specs.Prelude.{◌≡◌, ℕ, ◌+◌, ◌-◌, ◌<◌, ◌≤◌, false, true, IfSome};
 ghost use Rattle.std.specs.List.{list_any};
 ghost use Rattle.cal_time.specs.Date.{last_day};
 ghost use Rattle.cal_time.specs.IsoWeekDate.{count_before};
 ghost use Rattle.cal_schedule.specs.Rule.{allows, is_nth, matches_positions, matches_until, passes, periods_past};
-ghost use Rattle.cal_schedule.specs.RuleSearch.{IsPeriodEnd, IsPeriodStart, IsStep};
+ghost use Rattle.cal_schedule.specs.RuleSearch.{IsPeriodEnd, IsPeriodStart, IsStep, NoDayBetween};
 
 use crate::rule::matching::is_nth;
 use crate::rule::rule::Rule;
-use cal_date::day_number::day_number;
+use cal_date::day_number::{date_from_number, day_number};
 use cal_time::{Date, limits};
 
 /// The number of days in the range.
@@ -16,7 +16,7 @@ const DAYS: u32 = limits::LAST_DAY as u32 + 1;
 
 /// Returns `true` if one of the positions is the number of an item from the start, or its number
 /// from the end.
-fn any_position(positions: &[i16], ahead: u32, back: u32) -> bool
+pub(super) fn any_position(positions: &[i16], ahead: u32, back: u32) -> bool
     ensures { result ≡ list_any (λ k. is_nth k ahead back) positions.now }
 {
     positions.iter().any(|k| is_nth(*k, ahead, back))
@@ -45,8 +45,28 @@ impl Rule {
         }
     }
 
-    /// Counts the days that pass, from one day on and before the day with the number `end`.
+    /// Counts the days that pass, from one day on and before the day with the number `end`. It counts
+    /// the days of one week only if they repeat every week.
     pub(super) fn count_passing(&self, from: Date, end: u32) -> u32
+        requires order { from ≤ end }
+        requires range { end ≤ last_day + 1 }
+        ensures value { result + count_before (passes self.now) from
+            ≡ count_before (passes self.now) end }
+        ensures max { result ≤ end }
+    {
+        let first = day_number(from);
+        let weeks = (end - first) / 7;
+        if weeks > 1 && self.has_only_weekdays() {
+            if let Some(rest) = date_from_number(u64::from(first + 7 * weeks)) {
+                return weeks * self.count_days(from, first + 7) + self.count_days(rest, end);
+            }
+        }
+        self.count_days(from, end)
+    }
+
+    /// Counts the days that pass, from one day on and before the day with the number `end`, from
+    /// candidate to candidate.
+    fn count_days(&self, from: Date, end: u32) -> u32
         requires order { from ≤ end }
         requires range { end ≤ last_day + 1 }
         ensures value { result + count_before (passes self.now) from
@@ -86,6 +106,50 @@ impl Rule {
         self.is_position(ahead, back)
     }
 
+    /// Returns how many of the next days that pass in a period have no position, if a day that
+    /// passes has these numbers from the start and from the end.
+    fn count_without_position(&self, ahead: u32, back: u32) -> u32
+        requires some { 1 ≤ back }
+        requires max { (ahead ≤ last_day + 1) × (back ≤ last_day + 1) }
+        ensures max { result < back }
+        ensures none { (k : ℕ) → 1 ≤ k → k ≤ result
+            → allows (λ p. is_nth p (ahead + k) (back - k)) self.now.pattern.set_positions ≡ false }
+    {
+        let mut days = 0;
+        while days + 1 < back && !self.is_position(ahead + days + 1, back - days - 1) {
+            days += 1;
+        }
+        days
+    }
+
+    /// Returns the number of a later day before which no day of the rule is, from a day that passes and
+    /// has no position. `start` and `end` are those of its period, and `ahead` and `back` its numbers.
+    /// Returns `None` if no such day is known.
+    #[tactic(auto, using(crate::proofs::PositionSkips::skips))]
+    fn skip_positions(&self, day: Date, start: Date, end: u32, ahead: u32, back: u32) -> Option<u64>
+        requires start { IsPeriodStart self.now day start }
+        requires end { IsPeriodEnd self.now day end }
+        requires passes { passes self.now day ≡ true }
+        requires ahead { ahead + count_before (passes self.now) start ≡ count_before (passes self.now) (day + 1) }
+        requires back { back + count_before (passes self.now) day ≡ count_before (passes self.now) end }
+        requires off { allows (λ k. is_nth k ahead back) self.now.pattern.set_positions ≡ false }
+        ensures { IfSome result (λ x. (day < x) × (x ≤ last_day + 1) × NoDayBetween self.now day x) }
+    {
+        let days = self.count_without_position(ahead, back);
+        if days + 1 == back {
+            return Some(u64::from(end));
+        }
+        let first = day_number(day);
+        if days < 7 || first + 7 > end || !self.has_only_weekdays() {
+            return None;
+        }
+        let weeks = days / self.count_passing(day, first + 7).max(1);
+        if weeks == 0 {
+            return None;
+        }
+        Some(u64::from(first) + 7 * u64::from(weeks))
+    }
+
     /// Returns the first day of the rule from this day on in its period. If there is none, returns
     /// a later day to go on with, or `None` if the rule has no day from this day on.
     pub(super) fn find_position(&self, day: Date) -> Result<Date, Option<Date>>
@@ -96,10 +160,14 @@ impl Rule {
         ensures { IsStep self.now day result }
     {
         let end = self.period_end(day);
-        let mut ahead = self.count_passing(self.period_start(day), day_number(day) + 1);
+        let start = self.period_start(day);
+        let mut ahead = self.count_passing(start, day_number(day) + 1);
         let back = self.count_passing(day, end);
         if self.is_position(ahead, back) {
             return Ok(day);
+        }
+        if let Some(number) = self.skip_positions(day, start, end, ahead, back) {
+            return Err(date_from_number(number));
         }
         let mut after = back - 1;
         let mut at = day;

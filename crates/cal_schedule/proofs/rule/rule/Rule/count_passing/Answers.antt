@@ -1,44 +1,35 @@
-use Rattle.std.proofs.Common.{◌≡◌, ◌+◌, min, ap, ◌∙◌, arith}
-use Rattle.std.specs.Int.{from_bool}
-use Rattle.cal_time.specs.Date.{last_day}
+use Rattle.std.proofs.Common.{◌≡◌, ◌+◌, ◌-◌, ◌*◌, ◌/◌, ◌≤◌, ◌∙◌, ap, arith}
 use Rattle.cal_time.specs.IsoWeekDate.{count_before}
-use Rattle.cal_schedule.specs.Ranks.{bit-most, count-most}
+use Rattle.cal_schedule.specs.Ranks.{count-most}
 use Rattle.cal_schedule.specs.Rule.{passes}
-use Rattle.cal_schedule.proofs.RulePositions.{counted-more}
+use Rattle.cal_schedule.proofs.PositionSkips.{counted_weeks}
 use Rattle.cal_schedule.proofs.rule.rule.Rule.count_passing.Goals as goal
 
-pub loop-day-init : goal.loop-day-init
-loop-day-init c =
-    let from : c.args.from ≡ min c.args.from c.args.end = omega arith in
-    record { counted = omega (arith, ap (count_before (passes c.args.self.now)) from) }
-
-pub loop-day-preserved : goal.loop-day-preserved
-loop-day-preserved c =
+-- The weeks have the days that pass before the rest.
+before-rest : (c : goal.After-count_days) → (c.args.end - c.day_number-first.result) / 7 * c.count_days.result + 0 + count_before (passes c.args.self.now) c.args.from ≡ count_before (passes c.args.self.now) c.in-Some.rest
+before-rest c =
     let rule = c.args.self.now in
-    let at = c.loop-day in
-    let here : min at.day c.args.end ≡ at.day = omega arith in
-    let next = c.in-Some.ensures in
-    record {
-      counted = counted-more rule c.args.from c.args.end at.day c.in-Some.next at.count c.from-count.result (omega arith)
-          (at.invariant.counted ∙ ap (count_before (passes rule)) here) (c.from-count.ensures ∙ ap from_bool c.passes.ensures) next.0 next.2;
-    }
+    let at : c.in-Some.rest ≡ c.args.from + 7 * ((c.args.end - c.day_number-first.result) / 7) = omega (arith, c.in-Some.ensures.1, c.from.ensures, c.day_number-first.ensures.value) in
+    counted_weeks rule c.args.from ((c.args.end - c.day_number-first.result) / 7) c.count_days.result 0 c.in-Some.rest c.in-Some.rest (c.has_only_weekdays.ensures c.if-has_only_weekdays.true)
+    (c.count_days.ensures.value ∙ ap (λ n. count_before (passes rule) (n + 7)) c.day_number-first.ensures.value) at (omega arith)
 
-pub overflow_add-count : goal.overflow_add-count
-overflow_add-count c =
-    omega (arith, count-most (passes c.args.self.now) (min c.loop-day.day c.args.end), bit-most c.passes.result c.from-count.result c.from-count.ensures)
+pub overflow_mul-result : goal.overflow_mul-result
+overflow_mul-result c = omega (arith, before-rest c, count-most (passes c.args.self.now) c.in-Some.rest, c.in-Some.ensures.1, c.from.ensures, c.requires.range, c.requires.order, c.day_number-first.ensures.value)
 
-pub returns-in-None-clause-value : goal.returns-in-None-clause-value
-returns-in-None-clause-value c =
+all : (c : goal.After-count_days-in-Some) → (c.args.end - c.day_number-first.result) / 7 * c.count_days.result + c.count_days-in-Some.result + count_before (passes c.args.self.now) c.args.from
+    ≡ count_before (passes c.args.self.now) c.args.end
+all c =
     let rule = c.args.self.now in
-    let at = c.loop-day in
-    let here : min at.day c.args.end ≡ at.day = omega arith in
-    let last : min (last_day + 1) c.args.end ≡ c.args.end = omega arith in
-    counted-more rule c.args.from c.args.end at.day (last_day + 1) at.count c.from-count.result (omega arith)
-    (at.invariant.counted ∙ ap (count_before (passes rule)) here) (c.from-count.ensures ∙ ap from_bool c.passes.ensures) (omega arith) c.in-None.ensures
-    ∙ ap (count_before (passes rule)) last
+    let at : c.in-Some.rest ≡ c.args.from + 7 * ((c.args.end - c.day_number-first.result) / 7) = omega (arith, c.in-Some.ensures.1, c.from.ensures, c.day_number-first.ensures.value) in
+    counted_weeks rule c.args.from ((c.args.end - c.day_number-first.result) / 7) c.count_days.result c.count_days-in-Some.result c.args.end c.in-Some.rest
+    (c.has_only_weekdays.ensures c.if-has_only_weekdays.true)
+    (c.count_days.ensures.value ∙ ap (λ n. count_before (passes rule) (n + 7)) c.day_number-first.ensures.value) at c.count_days-in-Some.ensures.value
 
-pub returns-in-None-clause-max : goal.returns-in-None-clause-max
-returns-in-None-clause-max c = omega (arith, returns-in-None-clause-value c, count-most (passes c.args.self.now) c.args.end)
+pub overflow_add-result : goal.overflow_add-result
+overflow_add-result c = omega (arith, all c, count-most (passes c.args.self.now) c.args.end, c.requires.range)
 
-pub returns-clause-max : goal.returns-clause-max
-returns-clause-max c = omega (arith, count-most (passes c.args.self.now) (min c.loop-day.day c.args.end))
+pub returns-in-Some-clause-value : goal.returns-in-Some-clause-value
+returns-in-Some-clause-value c = all c
+
+pub returns-in-Some-clause-max : goal.returns-in-Some-clause-max
+returns-in-Some-clause-max c = omega (arith, all c, count-most (passes c.args.self.now) c.args.end)

@@ -2,7 +2,7 @@ use Rattle.std.proofs.Common.{◌≡◌, ◌+◌, ◌-◌, min}
 use Rattle.cal_time.specs.Date.{last_day}
 use Rattle.cal_time.specs.IsoWeekDate.{count_before}
 use Rattle.cal_schedule.specs.Rule.{passes}
-use Rattle.cal_schedule.proofs.rule.rule.Rule.count_passing.Given as goal
+use Rattle.cal_schedule.proofs.rule.rule.Rule.count_days.Given as goal
 
 abbrev pub invariant-loop-day : goal.invariant-loop-day
 invariant-loop-day l = record {

@@ -1,7 +1,7 @@
 use Rattle.std.proofs.Common.{◌≡◌, ℕ, ◌+◌, ◌-◌, ◌<◌, ◌≤◌, false}
 use Rattle.cal_time.specs.Date.{weekday_at}
 use Rattle.cal_schedule.specs.RuleSearch.{may_fall_on}
-use Rattle.cal_schedule.proofs.rule.rule.Rule.days_to_skip.Given as goal
+use Rattle.cal_schedule.proofs.rule.rule.Rule.days_to_weekday.Given as goal
 
 abbrev pub invariant-loop-days : goal.invariant-loop-days
 invariant-loop-days l = record {
