@@ -1,7 +1,7 @@
 //! Errors as the standard library has them.
 
 use crate::error::{
-    ComponentRange, ConversionRange, FormatError, IntervalError, InvalidVariant, ParseDurationError, ParseError,
+    ComponentRange, ConversionRange, FormatError, IntervalError, InvalidVariant, ParseDurationError, ParseError, ParseEventError,
     ParseIntervalError, ParseRuleError, ParseSetError, UnsupportedItem, ZoneError,
 };
 use crate::format;
@@ -15,6 +15,7 @@ impl Error for IntervalError {}
 impl Error for InvalidVariant {}
 impl Error for ParseDurationError {}
 impl Error for ParseError {}
+impl Error for ParseEventError {}
 impl Error for ParseIntervalError {}
 impl Error for ParseRuleError {}
 impl Error for ParseSetError {}

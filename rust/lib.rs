@@ -51,6 +51,7 @@ mod duration;
 mod errors;
 mod formats;
 mod from_text;
+mod ics;
 #[cfg(any(feature = "chrono", feature = "serde", feature = "time"))]
 mod interop;
 mod iterators;
@@ -128,6 +129,7 @@ const fn number(digits: &str) -> u32 {
 pub mod error {
     pub use crate::cal_duration::{DurationComponent, ParseDurationError};
     pub use crate::cal_format::FormatError;
+    pub use crate::cal_ics::{ParseEventError, ParseEventErrorKind};
     pub use crate::cal_interval::{IntervalComponent, IntervalError, ParseIntervalError};
     pub use crate::cal_recurrence::{ParseRuleError, ParseRuleErrorKind, ParseSetError, ParseSetErrorKind};
     pub use crate::cal_schedule::PeriodError;
@@ -139,6 +141,15 @@ pub mod error {
     #[cfg(feature = "std")]
     pub use crate::std_zones::NamedZoneError;
     pub use crate::values::TooManyValues;
+}
+
+/// Events of calendar files (iCalendar, RFC 5545) and their recurrence sets.
+///
+/// These components and properties aren't applied: `VTODO`, `VJOURNAL`, `VFREEBUSY`, `EXRULE`,
+/// `RECURRENCE-ID` and the rules of a `VTIMEZONE`. A `TZID` is the name of a zone.
+pub mod calendar {
+    pub use crate::cal_ics::{Event, ParseEventError, ParseEventErrorKind, first_event};
+    pub use crate::ics::Events;
 }
 
 /// Formats for printing and parsing, in the syntax of `strftime` or of the crate `time`.

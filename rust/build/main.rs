@@ -19,7 +19,7 @@ use strip::{Edits, Fault, Options, Source};
 use zones::Zones;
 
 /// The libraries, as modules of the crate.
-const CRATES: [&str; 19] = [
+const CRATES: [&str; 20] = [
     "cal_units",
     "cal_span",
     "cal_clock",
@@ -38,6 +38,7 @@ const CRATES: [&str; 19] = [
     "cal_holidays",
     "cal_tzif",
     "cal_recurrence",
+    "cal_ics",
     "cal_c",
 ];
 

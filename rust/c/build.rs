@@ -10,7 +10,7 @@ use std::path::{Path, PathBuf};
 use std::process::ExitCode;
 
 /// The libraries, as modules of the crate.
-const CRATES: [&str; 19] = [
+const CRATES: [&str; 20] = [
     "cal_units",
     "cal_span",
     "cal_clock",
@@ -29,6 +29,7 @@ const CRATES: [&str; 19] = [
     "cal_interval",
     "cal_rounding",
     "cal_recurrence",
+    "cal_ics",
     "cal_c",
 ];
 

@@ -29,6 +29,7 @@ fn main() -> ExitCode {
             "cal_holidays",
             "cal_tzif",
             "cal_recurrence",
+            "cal_ics",
             "caldate_lines",
             "caldate_answers",
             "caldate_args",

@@ -6,6 +6,7 @@ mod conditions;
 mod drawn;
 mod durations;
 mod errors;
+mod events;
 mod every_day;
 mod formats;
 mod grammar;

@@ -112,7 +112,7 @@ fn once() -> Recurrence
 }
 
 /// Returns the kind of a line by its name, or `None` for an unknown name.
-fn kind_of(line: &[u8]) -> Option<SetLine>
+pub fn kind_of(line: &[u8]) -> Option<SetLine>
     ensures { result ≡ kind_of line.now }
 {
     line_of(cut_outside(cut_outside(line, b':').0, b';').0)

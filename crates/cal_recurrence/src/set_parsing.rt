@@ -52,7 +52,7 @@ pub fn parse_set(text: &[u8]) -> Result<SetParts<'_>, ParseSetError>
 }
 
 /// Returns the line without the carriage return at its end.
-fn without_return(line: &[u8]) -> &[u8]
+pub fn without_return(line: &[u8]) -> &[u8]
     ensures { result.now ≡ without_return line.now }
 {
     if line.is_empty() {

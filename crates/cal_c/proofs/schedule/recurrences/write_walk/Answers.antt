@@ -1,0 +1,37 @@
+use Rattle.std.proofs.Common.{◌≡◌, ◌∙◌, arith, ap, rules, sym, get_or, pos, to_z, of_z, FitsSigned, w32}
+use Rattle.std.proofs.lemmas.Grind.{common_steps}
+use Rattle.std.proofs.lemmas.Int.{to_z-of_z}
+use Rattle.cal_time.specs.Date.{julian_day_at}
+use Rattle.cal_c.proofs.Recurring.{goes_on, kept_more, more_left, none_left, written_more}
+use Rattle.cal_c.proofs.schedule.recurrences.write_walk.Goals as goal
+
+pub loop-index-preserved : goal.loop-index-preserved
+loop-index-preserved c =
+    let kept = c.loop-index.invariant in
+    let days = c.args.walk in
+    let index = c.loop-index.index in
+    let from = kept.left ∙ c.in-Some.ensures.steps in
+    let more = more_left days c.next.new.self index c.in-Some.day from in
+    let on = goes_on 0 days c.next.new.self index c.in-Some.day more from in
+    let fits : FitsSigned w32 c.to_julian_day.result = search rules in
+    let here : to_z w32 (of_z w32 c.to_julian_day.result) ≡ julian_day_at (get_or days index 0) =
+    simp to_z-of_z (c.to_julian_day.ensures.value ∙ ap julian_day_at (sym on.0)) in
+    record {
+      room = grind (arith, common_steps);
+      few = omega (arith, more);
+      left = on.1;
+      written = written_more (pos 0) (λ k z. z ≡ julian_day_at (get_or days k 0)) c.loop-index.days index (to_z w32 (of_z w32 c.to_julian_day.result)) (omega arith) kept.written here;
+      others = kept_more (pos 0) c.args.days.now c.loop-index.days index (to_z w32 (of_z w32 c.to_julian_day.result)) kept.others;
+    }
+
+pub returns-in_default : goal.returns-in_default
+returns-in_default c =
+    let kept = c.loop-index.invariant in
+    let days = c.args.walk in
+    let end = none_left days c.loop-index.index (kept.left ∙ c.in_default.ensures.steps.0) in
+    record { count_is = omega (arith, end); days = kept.written; others = kept.others }
+
+pub returns : goal.returns
+returns c =
+    let kept = c.loop-index.invariant in
+    record { count_is = omega arith; days = λ k less. kept.written k (omega arith); others = λ k past. kept.others k (omega arith) }

@@ -1,0 +1,10 @@
+use Rattle.std.proofs.Common.{length}
+use Rattle.cal_recurrence.specs.Words.{parts_left}
+use Rattle.cal_ics.proofs.Searches.{IsUnnamed}
+use Rattle.cal_ics.proofs.event_value.first_value.Given as goal
+
+abbrev pub invariant-loop-rest : goal.invariant-loop-rest
+invariant-loop-rest l = IsUnnamed l.lines l.name l.depth l.position l.rest
+
+abbrev pub decreases-loop-rest : goal.decreases-loop-rest
+decreases-loop-rest l = length (parts_left 10 l.rest)

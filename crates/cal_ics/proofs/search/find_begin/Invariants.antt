@@ -1,0 +1,10 @@
+use Rattle.std.proofs.Common.{length}
+use Rattle.cal_recurrence.specs.Words.{parts_left}
+use Rattle.cal_ics.proofs.Searches.{IsSearch}
+use Rattle.cal_ics.proofs.search.find_begin.Given as goal
+
+abbrev pub invariant-loop-rest : goal.invariant-loop-rest
+invariant-loop-rest l = IsSearch l.text l.position l.rest
+
+abbrev pub decreases-loop-rest : goal.decreases-loop-rest
+decreases-loop-rest l = length (parts_left 10 l.rest)
