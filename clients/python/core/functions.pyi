@@ -29,16 +29,16 @@ def add_to_pair(date: Date, time: Time, duration: SignedDuration) -> tuple[Date,
 def sub_from_pair(date: Date, time: Time, duration: SignedDuration) -> tuple[Date, Time] | None:
     "Returns the date and time a duration earlier, or None out of range."
 def rfc3339_text(date: Date, time: Time, offset: UtcOffset) -> str | None:
-    """Returns the text of RFC 3339 of a date, a time and an offset, or None for a year outside 0 to
-    9999, and for an offset with seconds or of 24 hours or more."""
+    """Returns the string of RFC 3339 of a date, a time and an offset, or None for a year outside 0
+    to 9999, and for an offset with seconds or of 24 hours or more."""
 def unix_text(date: Date, time: Time, offset: UtcOffset) -> str:
-    "Returns the Unix time of a date, a time and an offset as a text, such as @1709164800.5."
+    "Returns the Unix time of a date, a time and an offset as a string, such as @1709164800.5."
 def unix_duration(date: Date, time: Time, offset: UtcOffset) -> SignedDuration:
     "Returns the Unix time of a date, a time and an offset as a duration."
 def unix_pair(duration: SignedDuration, offset: UtcOffset) -> tuple[Date, Time] | None:
     "Returns the date and time of a Unix time at an offset, or None out of range."
 def parse_rfc3339(text: str) -> tuple[Date, Time, UtcOffset]:
-    """Parses a text of RFC 3339 to a date, a time and an offset, or raises ParseError or
+    """Parses a string of RFC 3339 to a date, a time and an offset, or raises ParseError or
     ComponentRange. A second of 60 is rejected."""
 def parse_unix(text: str) -> tuple[Date, Time]:
     "Parses a Unix time, such as @1709164800.5, to a date and a time at UTC."
@@ -143,12 +143,12 @@ class Convention(Choice):
 class DayCount(Choice):
     "How the days of interest are counted, by the names of the 2006 ISDA Definitions."
 class Frequency(Choice): "The unit of the interval of a rule."
-class LocalKind(Choice): "How often the clocks of a zone show a reading: once, never or twice."
+class LocalKind(Choice): "How often the clocks of a zone show a local time: once, never or twice."
 class RoundingMode(Choice):
     """How to round to a multiple: down, up, toward zero, or to the nearest one, of two to the greater
     or to the even one."""
 class Policy(Choice):
-    """What a reading in a gap or a fold means. In a gap, `Compatible` and `Later` move it forward
+    """How to take a local time in a gap or a fold. In a gap, `Compatible` and `Later` move it forward
     by the length of the gap, and `Earlier` back. In a fold, `Compatible` and `Earlier` mean the
     first. `Reject` means neither."""
 
@@ -172,7 +172,7 @@ class PairColumns: "Julian days in 32 bits, and nanoseconds since midnight in 64
 class DurationColumns:
     "Seconds in 64 bits, and nanoseconds in 32; -2**63 and -2147483648 in a row without a duration."
 class TextColumns:
-    """The bytes of texts, one after another, and their bounds, one more than rows: a text is
+    """The bytes of strings, one after another, and their bounds, one more than rows: a string is
     `texts[bounds[k]:bounds[k + 1]]`, and has no bytes in a row without one."""
 
 dates_from_julian_days: DateColumns = """Creates the dates of Julian days.
@@ -196,20 +196,20 @@ dates_workdays_between: NumberColumns = """Counts the days like `Workdays.workda
 >>> tuple(dates_workdays_between([Date(2000, 1, 1)], Date(2001, 1, 1), Workdays()))
 (array('i', [260]), array('B', [0]), 0)
 """
-dates_parse: DateColumns = """Parses texts in a buffer of bytes like `Date.parse`.
+dates_parse: DateColumns = """Parses strings in a buffer of bytes like `Date.parse`.
 
-Text k is the bytes from bound k to bound k + 1.
+String k is the bytes from bound k to bound k + 1.
 
 >>> tuple(dates_parse(b"2024-02-292024-0602024-02-30", [0, 10, 18, 28]))
 (array('i', [2460370, 2460370, -2147483648]), array('B', [0, 0, 64]), 1)
 """
-moments_parse: MomentColumns = "Parses such texts like `parse_rfc3339`."
+moments_parse: MomentColumns = "Parses such strings like `parse_rfc3339`."
 dates_calendar_texts: TextColumns = """Returns the calendar dates of dates, one after another.
 
 >>> tuple(dates_calendar_texts([Date(2024, 2, 29)]))
 (b'2024-02-29', array('i', [0, 10]), array('B', [0]), 0)
 """
-moments_texts: TextColumns = """Returns the texts of RFC 3339, one after another.
+moments_texts: TextColumns = """Returns the strings of RFC 3339, one after another.
 
 The times are nanoseconds since midnight, and the offsets seconds."""
 times_round: TimeColumns = """Rounds times of day, in nanoseconds since midnight, like `Time.round`.
@@ -218,16 +218,16 @@ times_round: TimeColumns = """Rounds times of day, in nanoseconds since midnight
 (array('Q', [33300000000000]), array('B', [0]), 0)
 """
 pairs_round: PairColumns = "Rounds dates and times of day like `PlainDateTime.round`."
-durations_parse: DurationColumns = """Parses texts in a buffer of bytes like `SignedDuration.parse`.
+durations_parse: DurationColumns = """Parses strings in a buffer of bytes like `SignedDuration.parse`.
 
 >>> tuple(durations_parse(b"PT1H30MPT0.5S", [0, 7, 13]))
 (array('q', [5400, 0]), array('i', [0, 500000000]), array('B', [0, 0]), 0)
 """
-durations_texts: TextColumns = """Returns the texts of durations, one after another, like `str`.
+durations_texts: TextColumns = """Returns the strings of durations, one after another, like `str`.
 
 The durations are seconds and nanoseconds, which don't differ in sign."""
-dates_parse_format: DateColumns = "Parses texts in a buffer of bytes like `Date.strptime`."
-dates_format: TextColumns = """Returns the texts of dates by a format, one after another.
+dates_parse_format: DateColumns = "Parses strings in a buffer of bytes like `Date.strptime`."
+dates_format: TextColumns = """Returns the strings of dates by a format, one after another.
 
 >>> tuple(dates_format([Date(2024, 2, 29)], "%A"))
 (b'Thursday', array('i', [0, 8]), array('B', [0]), 0)

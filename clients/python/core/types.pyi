@@ -39,19 +39,19 @@ class IsoCalendarDate(structseq[int], Tuple[int, int, int]):
 
 class _Text:
     def __str__(self) -> str: ...
-    def isoformat(self) -> str: "Returns the text of ISO 8601, like str."
+    def isoformat(self) -> str: "Returns the string of ISO 8601, like str."
     def __copy__(self) -> Self: ...
     def __deepcopy__(self, memo: Any) -> Self: ...
 
     def __format__(self, specification: str) -> str:
-        "Formats by a format, which has a percent sign, or else the text of the value."
+        "Formats by a format, which has a percent sign, or else the string of the value."
         if "%" in specification and hasattr(self, "strftime"):
             return self.strftime(specification)
         return format(str(self), specification)
 
     @classmethod
     def __get_pydantic_core_schema__(cls, source: Any, handler: Any) -> Any:
-        "Returns how Pydantic 2 reads and writes the type: as the text of `isoformat`."
+        "Returns how Pydantic 2 reads and writes the type: as the string of `isoformat`."
         return pydantic_schema(cls)
     @classmethod
     def __get_validators__(cls) -> Iterator[Callable[[Any], Any]]:
@@ -80,13 +80,13 @@ class _Moved:
 
 class _Formatted:
     def strftime(self, format: str | Format) -> str:
-        """Returns the text by a format, or raises ValueError if that shows more than the value has,
-        such as `%Z`, which `Zone.strftime` prints."""
+        """Returns the string by a format, or raises ValueError if that shows more than the value
+        has, such as `%Z`, which `Zone.strftime` prints."""
     @classmethod
     def strptime(cls, text: str, format: str | Format) -> Self:
-        """Parses the text of a value by a format, and no other text, or raises ParseError,
-        ComponentRange or ContradictionError; ValueError if the texts of the format don't determine
-        such a value."""
+        """Parses the string of a value by a format, and no other string, or raises ParseError,
+        ComponentRange or ContradictionError; ValueError if the strings of the format don't
+        determine such a value."""
 
 class _DateParts:
     def __radd__(self, other: timedelta) -> Self: ...
@@ -184,7 +184,7 @@ class Date(_Value, _DateParts, _MonthMoves, _Shifted, _Moved, _Formatted):
     """Date(year, month, day): a day of the proleptic Gregorian calendar, from MIN, -999999-01-01,
     to MAX, 999999-12-31.
 
-    + and - with a SignedDuration, and calls that add one, move by its whole days; with a timedelta
+    + and - with a SignedDuration, and methods that add one, move by its whole days; with a timedelta
     they take only whole days. + with a Period takes none with a duration. Dates have a
     SignedDuration between them.
     """

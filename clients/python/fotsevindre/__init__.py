@@ -8,13 +8,13 @@ of the compiled module `_core`.
     >>> Date(2024, 2, 29) + SignedDuration(days=366)
     Date(2025, 3, 1)
 
-A component out of range raises `ComponentRange`, an invalid text `ParseError` or `ParseRuleError`.
-If a result is out of range, calls named `checked_*`, and others that say so, return `None`, and
-operators and other calls raise `OverflowError`. A value of the wrong type raises `TypeError`. Ints
-of any size are safe: none wraps around.
+A component out of range raises `ComponentRange`, and an invalid string `ParseError` or
+`ParseRuleError`. If a result is out of range, methods named `checked_*`, and others that say so,
+return `None`, and operators and other methods raise `OverflowError`. A value of the wrong type raises
+`TypeError`. Ints of any size are safe: none wraps around.
 
 Values are immutable. They compare and hash by their number, date-times at an offset by instant.
-`str` and `repr` are the same text.
+`str` returns the string of ISO 8601, and `repr` an expression for the value.
 """
 
 import datetime as _datetime

@@ -110,7 +110,7 @@ def _is_scalar(values: Any) -> bool:
 
 
 class _Like:
-    """What the columns of a result are like: those that were given."""
+    """Makes the columns of a result like those that were given."""
 
     def __init__(self, columns: dict[str, Any]) -> None:
         arrays = {name: one for name, one in columns.items() if hasattr(one, "dtype")}

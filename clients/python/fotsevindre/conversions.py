@@ -50,7 +50,7 @@ def instant_of(timestamp: float) -> SignedDuration:
 
 
 def value_of(kind: Any, given: object) -> Any:
-    """Returns a value of a type, or parses its text."""
+    """Returns a value of a type, or parses its string."""
     return given if isinstance(given, kind) else kind.fromisoformat(given)
 
 

@@ -69,7 +69,7 @@ class Month(_Cycle):
 
 
 class Weekday(_Cycle):
-    """A day of the week, from `Monday`, 0, to `Sunday`, 6, as `datetime.date.weekday` counts.
+    """A day of the week, from `Monday`, 0, to `Sunday`, 6, like `datetime.date.weekday`.
 
     A weekday is an int, but `str(weekday)` and `f"{weekday}"` are its name. Calls that take a
     weekday take only a `Weekday`.
@@ -112,7 +112,7 @@ YearFraction.__doc__ = "A fraction of a year: what was counted, over what a year
 
 
 class Choice(enum.IntEnum):
-    """A number with a name, and the text of both is the name, such as Frequency.Daily."""
+    """A number with a name, and the string of both is the name, such as Frequency.Daily."""
 
     __str__ = __repr__ = enum.Enum.__str__
 

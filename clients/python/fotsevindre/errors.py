@@ -1,4 +1,4 @@
-"""The exceptions, and which status of a call raises which."""
+"""The exceptions, and which status raises which."""
 
 import datetime
 import enum
@@ -31,7 +31,7 @@ class ComponentRange(ValueError):
 
     @property
     def is_conditional(self) -> bool:
-        """Whether the range depends on other components."""
+        """True if the range depends on other components."""
         return self.args[1]  # type: ignore[no-any-return]
 
     def __str__(self) -> str:
@@ -39,10 +39,10 @@ class ComponentRange(ValueError):
 
 
 class ParseError(ValueError):
-    """A text has none of the forms that a call parses. `position` is the first wrong character,
-    from 0.
+    """A string has none of the forms that a method parses. `position` is the first wrong
+    character, from 0.
 
-    If the text ends too early, and more characters could complete it, `is_end` is true, and
+    If the string ends too early, and more characters could complete it, `is_end` is true, and
     `position` is its length.
     """
 
@@ -55,7 +55,7 @@ class ParseError(ValueError):
 
     @property
     def is_end(self) -> bool:
-        """Whether the text ends too early."""
+        """True if the string ends too early."""
         return self.args[1]  # type: ignore[no-any-return]
 
     def __str__(self) -> str:
@@ -63,8 +63,8 @@ class ParseError(ValueError):
 
 
 class ContradictionError(ValueError):
-    """A component of a text isn't the component of the value that the others determine, such as the
-    weekday of `Wed 2024-02-29`. `name` is its name."""
+    """A component of a string isn't the component of the value that the others determine, such as
+    the weekday of `Wed 2024-02-29`. `name` is its name."""
 
     __match_args__ = ("name",)
 
@@ -78,14 +78,14 @@ class ContradictionError(ValueError):
 
 
 class FormatError(ValueError):
-    """A text is not a format. No item begins at `position`, from 0, or it is `None`, if the format
+    """A string is not a format. No item begins at `position`, from 0, or it is `None` if the format
     has more than 64 items."""
 
     __match_args__ = ("position",)
 
     @property
     def position(self) -> int | None:
-        """Where no item begins, from 0."""
+        """The position at which no item begins, from 0."""
         return self.args[0]  # type: ignore[no-any-return]
 
     def __str__(self) -> str:
@@ -95,7 +95,7 @@ class FormatError(ValueError):
 
 
 class ParseRuleErrorKind(enum.Enum):
-    """Why a part of the text of a recurrence is wrong."""
+    """Why a part of the string of a recurrence is wrong."""
 
     Unknown = "unknown part"
     Twice = "duplicate {}"
@@ -105,8 +105,8 @@ class ParseRuleErrorKind(enum.Enum):
 
 
 class ParseRuleError(ValueError):
-    """The text of a recurrence is invalid. `kind` and `position`, from 0, describe the first wrong
-    part.
+    """The string of a recurrence is invalid. `kind` and `position`, from 0, describe the first
+    wrong part.
 
     `part` is its name, or `None` for the kinds `Unknown` and `Missing`.
     """
@@ -133,7 +133,7 @@ class ParseRuleError(ValueError):
 
 
 class ZoneError(ValueError):
-    """The bytes or the text of a time zone are invalid. `reason` and `position`, from 0, describe
+    """The bytes or the string of a time zone are invalid. `reason` and `position`, from 0, describe
     the first wrong byte."""
 
     __match_args__ = ("position", "reason")
@@ -173,8 +173,8 @@ def is_like_date(value: object) -> bool:
 
 
 def status_error(status: int, position: int | None = None, part: int = 0) -> Exception | None:
-    """Returns the exception that a call of one value would raise for the status of a row, or
-    `None` for 0. For a wrong text that is a `ValueError`, or with its position a `ParseError`.
+    """Returns the exception that a method of one value would raise for the status of a row, or
+    `None` for 0. For a wrong string that is a `ValueError`, or with its position a `ParseError`.
 
     >>> status_error(0), status_error(64)
     (None, ComponentRange('day', True))

@@ -1,4 +1,4 @@
-"""Formats of texts."""
+"""Formats of strings."""
 
 from __future__ import annotations
 
@@ -13,8 +13,8 @@ from . import _core
 class Format:
     """Format(text): a format in the syntax of `strftime`, such as "%d/%m/%Y".
 
-    Values take it in place of such a text, which is then not read anew by each call. A text that
-    isn't a format raises `FormatError`.
+    Methods take it in place of such a string, which is then parsed only once. A string that isn't a
+    format raises `FormatError`.
     """
 
     _items: bytes
@@ -33,10 +33,10 @@ class Format:
         return self
 
     def lenient(self, pivot: SupportsIndex | None = None) -> Format:
-        """Returns the format that parses variants of its texts, too: numbers with or without
+        """Returns the format that parses variants of its strings, too: numbers with or without
         padding, names in any case or by three letters, and any run of white space. With a pivot, %y
         is one of the 100 years from it on. `strptime` raises `ValueError` if two values could have
-        the same text.
+        the same string.
 
         >>> str(Date.strptime("7 FEB 24", Format("%d %B %y").lenient(pivot=1970)))
         '2024-02-07'

@@ -34,8 +34,8 @@ _S = TypeVar("_S", Date, PlainDateTime, ZonedDateTime)
 
 def _pages(page: Callable[[Any, int], list[Any]], follow: Callable[[Any], Any], first: Any
            ) -> Iterator[Any]:
-    """Iterates over what a call returns, from the first or what follows, on longer and longer
-    pages: each call counts a `COUNT` from the start."""
+    """Iterates over what a function returns, from the first or what follows, on longer and longer
+    pages: the function counts a `COUNT` from the start each time."""
     length = 64
     while first is not None:
         values = page(first, length)
@@ -45,7 +45,7 @@ def _pages(page: Callable[[Any, int], list[Any]], follow: Callable[[Any], Any], 
 
 
 def _packed(readings: _Readings) -> bytes:
-    """Returns readings as C has them: Julian days, offsets, and nanoseconds since midnight."""
+    """Returns local times as C has them: Julian days, offsets, and nanoseconds since midnight."""
     return b"".join(struct.pack("iiQ", check(one, PlainDateTime).date().to_julian_day(), 0,
         (one.time() - Time()).whole_nanoseconds()) for one in readings)
 
@@ -58,7 +58,7 @@ def _is_date(value: object) -> TypeGuard[Date]:
 
 @dataclasses.dataclass(frozen=True, repr=False, slots=True)
 class Days(Sequence[Date]):
-    """Days that follow each other, as `Date.iter_to` returns them: a sequence with a length,
+    """Days that follow each other, which `Date.iter_to` returns: a sequence with a length,
     indexes, slices and a reversed order.
 
     >>> days = Date(2024, 2, 28).iter_to(Date(2024, 3, 2))
@@ -98,7 +98,7 @@ class Days(Sequence[Date]):
 
 @dataclasses.dataclass(frozen=True, slots=True)
 class DateRange(Collection[Date]):
-    """The days from a date up to another, which isn't in the range. There may be none. An end
+    """The days from a date up to another, which isn't in the range, or no day. An end
     before the start raises `ValueError`.
 
     >>> march = DateRange(Date(2024, 3, 1), Date(2024, 4, 1))
@@ -137,7 +137,7 @@ class DateRange(Collection[Date]):
         return _core.date_range_overlaps(self.start, self.end, *_ends(other))
 
     def intersection(self, other: DateRange) -> DateRange | None:
-        """Returns the days that are in both ranges, or None if there are none."""
+        """Returns the days that are in both ranges, or None if no day is."""
         ends = _core.date_range_intersection(self.start, self.end, *_ends(other))
         return None if ends is None else DateRange(*ends)
 
@@ -350,7 +350,7 @@ class Rule:
 
 @dataclasses.dataclass(frozen=True)
 class Recurrence:
-    """A recurrence in the text of RFC 5545 after `RRULE:`, and its parts.
+    """A recurrence as the string of RFC 5545 after `RRULE:`, and its parts.
 
     `text` has the parts in one order. Recurrences with the same parts are equal. An empty list
     excludes no day. `until` is the last day, `until_moment` the instant of an `UNTIL` that has one,
@@ -401,7 +401,7 @@ class Recurrence:
 
     @classmethod
     def parse(cls, text: str) -> Recurrence:
-        """Parses a text, or raises `ParseRuleError`."""
+        """Parses a string, or raises `ParseRuleError`."""
         return cls(text)
 
     @classmethod
@@ -457,8 +457,8 @@ class Recurrence:
 
     def readings(self, start: PlainDateTime, since: PlainDateTime | None = None, *,
                  dates: _Readings = (), exceptions: _Readings = ()) -> Iterator[PlainDateTime]:
-        """Iterates over the readings of a clock from a start to the end, in order, each once, and
-        without those before `since`. `dates` (RDATE) are readings too, and `exceptions` (EXDATE)
+        """Iterates over the local times from a start to the end, in order, each once, and
+        without those before `since`. `dates` (RDATE) are local times too, and `exceptions` (EXDATE)
         aren't. They have the times of `BYHOUR`, `BYMINUTE` and `BYSECOND`, or of the start.
 
         >>> start = PlainDateTime.parse("1997-09-02T09:00:00")
@@ -472,7 +472,7 @@ class Recurrence:
     def moments(self, start: PlainDateTime, zone: Zone, since: OffsetDateTime | None = None, *,
                 dates: _Readings = (), exceptions: Iterable[PlainDateTime | OffsetDateTime] = ()
                 ) -> Iterator[OffsetDateTime]:
-        """Iterates over the moments at which the clocks of a zone show these readings, in order,
+        """Iterates over the date-times at which the clocks of a zone show these local times, in order,
         each once, and without those before `since`. A time that the clocks skip or show twice means
         `Local.compatible`. An exception can be an instant."""
         less = [*exceptions]

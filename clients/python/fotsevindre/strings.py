@@ -25,7 +25,7 @@ _NANOSECOND_DAYS = range(_EPOCH - 106_751, _EPOCH + 106_752)
 
 
 def _is_missing(value: Any) -> bool:
-    """Tells None, NaN, NaT and the NA of pandas from other values."""
+    """Returns whether a value is None, NaN, NaT or the NA of pandas."""
     is_nan = isinstance(value, float) and value != value
     return value is None or is_nan or type(value).__name__ in ("NAType", "NaTType")
 
@@ -60,7 +60,7 @@ class _Strings:
         self.parts = [(data, numpy.frombuffer(bounds, "int32") if numpy else memoryview(bounds).cast("i"))]
 
     def parsed(self, parse: Callable[..., Any], *format: Any) -> Any:
-        """Returns the columns of a call for all parts, one after another. A missing row has an error."""
+        """Returns the columns of a function for all parts, one after another. A missing row has an error."""
         found = [parse(data, bounds, *format) for data, bounds in self.parts]
         if len(found) > 1:
             *columns, counts = zip(*found)

@@ -34,10 +34,10 @@ _set = object.__setattr__
 
 @dataclasses.dataclass(frozen=True)
 class Local:
-    """The instants at which the clocks of a zone show a reading, as `Zone.resolve` returns it.
+    """The instants at which the clocks of a zone show a local time, which `Zone.resolve` returns.
 
     `offset_before` and `offset_after` are the offsets before and after the gap or the fold, and the
-    same without one. `instants` are exactly the Unix times at which clocks show the reading.
+    same without one. `instants` are exactly the Unix times at which clocks show it.
     """
 
     reading: PlainDateTime
@@ -48,20 +48,20 @@ class Local:
     _zone: Any = dataclasses.field(repr=False, compare=False)
 
     def compatible(self) -> OffsetDateTime:
-        """Returns the date-time that RFC 5545 and most calendars mean: in a gap the reading moved
+        """Returns the date-time that RFC 5545 and most calendars mean: in a gap the local time moved
         forward by its length, in a fold the first. `OverflowError` if it is out of range."""
         return self._by(Policy.Compatible)
 
     def earlier(self) -> OffsetDateTime:
-        """Returns the first date-time, in a gap the reading moved back by its length."""
+        """Returns the first date-time, in a gap the local time moved back by its length."""
         return self._by(Policy.Earlier)
 
     def later(self) -> OffsetDateTime:
-        """Returns the second date-time, in a gap the reading moved forward by its length."""
+        """Returns the second date-time, in a gap the local time moved forward by its length."""
         return self._by(Policy.Later)
 
     def reject(self) -> OffsetDateTime | None:
-        """Returns the date-time if clocks show the reading once, else `None`."""
+        """Returns the date-time if clocks show the local time once, else `None`."""
         return self._by(Policy.Reject) if self.kind is LocalKind.Single else None
 
     def _by(self, policy: Policy) -> OffsetDateTime:
@@ -108,9 +108,9 @@ class Zone:
 
     Its file comes from the folder in the environment variable TZDIR or from /usr/share/zoneinfo,
     else from the package `tzdata`, if it is installed. It is read once: the same key gives the same
-    object until `clear_cache`. `LookupError` if there is no such regular file of at most 65536
-    bytes, and `ZoneError` if it isn't valid. An instant is an `OffsetDateTime` or Unix seconds.
-    `key` is the name of the zone, or its POSIX text.
+    object until `clear_cache`. `LookupError` if a regular file of at most 65536 bytes isn't there, and
+    `ZoneError` if it isn't valid. An instant is an `OffsetDateTime` or Unix seconds.
+    `key` is the name of the zone, or its POSIX string.
 
     >>> berlin = Zone.from_posix("CET-1CEST,M3.5.0,M10.5.0/3")
     >>> OffsetDateTime.from_unix_timestamp(1711846800).in_zone(berlin)
@@ -150,7 +150,7 @@ class Zone:
 
     @classmethod
     def from_posix(cls, text: str) -> Zone:
-        """Creates the zone of a POSIX text, such as CET-1CEST,M3.5.0,M10.5.0/3."""
+        """Creates the zone of a POSIX string, such as CET-1CEST,M3.5.0,M10.5.0/3."""
         return cls._of(text, text.encode("utf-8", "surrogatepass"), True)
 
     def offset_at(self, moment: OffsetDateTime | SupportsIndex) -> UtcOffset:
@@ -175,7 +175,7 @@ class Zone:
         return _core.zone_previous_change(self._zone, _seconds(moment))
 
     def resolve(self, reading: PlainDateTime) -> Local:
-        """Returns exactly the instants at which the clocks show a reading."""
+        """Returns exactly the instants at which the clocks show a local time."""
         kind, earlier, later, before, after = _core.zone_resolve(self._zone, reading)
         instants = ((earlier,), (), (earlier, later))[kind - 1]
         made = Local.__new__(Local)
@@ -199,8 +199,8 @@ class Zone:
         return _core.zoned_day_length(self._zone, date)
 
     def strftime(self, moment: OffsetDateTime, format: str | Format) -> str:
-        """Returns the text of the same instant in this zone by a format, where `%Z` is the
-        abbreviation, with the errors of `in_zone` and of `OffsetDateTime.strftime`."""
+        """Returns the string of the same instant in this zone by a format, with the
+        abbreviation for `%Z`, and raises the errors of `in_zone` and of `OffsetDateTime.strftime`."""
         return _core.moment_format_in_zone(moment, self._zone, format)
 
     def offsets(self, seconds: Any) -> calls.OffsetColumns:
@@ -210,7 +210,7 @@ class Zone:
         return calls._zone_offsets(seconds, self._zone)
 
     def instants(self, readings: Any, policy: Policy = Policy.Compatible) -> calls.InstantColumns:
-        """Returns the Unix times of a column of readings, which are the seconds by the clock since
+        """Returns the Unix times of a column of local times, which are the seconds by the clock since
         1970-01-01 0:00, or `datetime64`, by a policy."""
         return calls._zone_instants(readings, self._by(policy))
 
@@ -263,7 +263,7 @@ class ZonedDateTime:
 
     Values compare and hash by instant, regardless of zone. + and - with a `SignedDuration` or a
     `timedelta` move the instant, and + with a `Period` like `add_period`. If what the clocks show
-    is out of range, calls raise `OverflowError`, and by `Policy.Reject` they raise `ValueError` in
+    is out of range, methods raise `OverflowError`, and by `Policy.Reject` they raise `ValueError` in
     a gap and in a fold.
 
     >>> berlin = Zone.from_posix("CET-1CEST,M3.5.0,M10.5.0/3")
@@ -354,7 +354,7 @@ class ZonedDateTime:
 
     def to_datetime(self) -> datetime.datetime:
         """Converts to a `datetime.datetime` with the `zoneinfo.ZoneInfo` of the key of the zone, or
-        raises its errors, such as `LookupError` for a POSIX text, and those of
+        raises its errors, such as `LookupError` for a POSIX string, and the errors of
         `OffsetDateTime.to_datetime`."""
         return self._moment.to_datetime().astimezone(zoneinfo.ZoneInfo(self.zone.key))
 
@@ -387,7 +387,7 @@ class ZonedDateTime:
         return self._moment.isocalendar()
 
     def isoformat(self) -> str:
-        """Returns the text of what the clocks show, with their offset, like `str`."""
+        """Returns the string of what the clocks show, with their offset, like `str`."""
         return self._moment.isoformat()
 
     def timestamp(self) -> float:
@@ -558,7 +558,7 @@ class ZonedDateTime:
         return hash(self._moment)
 
     def strftime(self, format: str | Format) -> str:
-        """Returns the text by a format, like `Zone.strftime`."""
+        """Returns the string by a format, like `Zone.strftime`."""
         return self.zone.strftime(self._moment, format)
 
     def __format__(self, specification: str) -> str:
