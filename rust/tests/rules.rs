@@ -9,7 +9,7 @@ use fotsevindre::Month::{December, February, January, July, June, November};
 use fotsevindre::Weekday::{Friday, Monday, Saturday, Sunday, Thursday, Tuesday, Wednesday};
 use fotsevindre::error::TooManyValues;
 use fotsevindre::recurrence::{
-    DateOrTime, ParseRuleError, ParseRuleErrorKind, RecurrenceSet, RuleCount, RuleEnd, RulePart, parse, parse_days,
+    DateOrTime, DayCursor, ParseRuleError, ParseRuleErrorKind, ReadingCursor, RecurrenceSet, RuleCount, RuleEnd, RulePart, parse, parse_days,
 };
 use fotsevindre::schedule::{Pattern, Values};
 use fotsevindre::{ByDay, Date, Duration, Frequency, Month, OffsetDateTime, PlainDateTime, Rule, Time, Zone};
@@ -350,4 +350,101 @@ fn hours() {
     assert_eq!(by_text.text().as_str(), "FREQ=HOURLY;INTERVAL=3;UNTIL=19970902T170000");
     let fault = parse_days(b"FREQ=HOURLY").unwrap_err();
     assert_eq!((fault.position, fault.reason), (0, ParseRuleErrorKind::Value(RulePart::Frequency)));
+}
+
+/// Pages of a COUNT go on from a cursor, and are together the days of the whole rule.
+#[test]
+fn pages_of_days() {
+    for (text, size) in [
+        ("FREQ=MONTHLY;BYDAY=-1FR;COUNT=7", 3),
+        ("FREQ=DAILY;INTERVAL=2;COUNT=10", 4),
+        ("FREQ=DAILY;COUNT=1", 5),
+        ("FREQ=DAILY;UNTIL=19971224", 30),
+    ] {
+        let recurrence = parse(text.as_bytes()).unwrap();
+        let rule = recurrence.rule(date(1997_09_02));
+        let (mut cursor, mut all) = (recurrence.day_cursor(), Vec::new());
+        loop {
+            // A client keeps the integers of the cursor between the pages.
+            let mut kept = DayCursor { last: cursor.last, left: cursor.left };
+            let page: Vec<_> = std::iter::from_fn(|| kept.next_day(&rule)).take(size).collect();
+            all.extend_from_slice(&page);
+            cursor = kept;
+            if page.len() < size {
+                break;
+            }
+        }
+        assert!(recurrence.days(date(1997_09_02)).eq(all.iter().copied()), "{text}");
+        assert_eq!(cursor.last, all.last().copied(), "{text}");
+        for (index, day) in all.iter().enumerate() {
+            let mut late = recurrence.day_cursor();
+            late.skip_to(&rule, *day);
+            assert_eq!(late.last, index.checked_sub(1).map(|before| all[before]), "{text}");
+            assert_eq!(late.next_day(&rule), Some(*day), "{text}");
+        }
+    }
+    let recurrence = parse(b"FREQ=DAILY;COUNT=5").unwrap();
+    let rule = recurrence.rule(date(1997_09_02));
+    let mut cursor = recurrence.day_cursor();
+    cursor.skip_to(&rule, date(1997_09_04));
+    assert_eq!(cursor, DayCursor { last: Some(date(1997_09_03)), left: 3 });
+    cursor.skip_to(&rule, date(1997_09_01));
+    assert_eq!(cursor, DayCursor { last: Some(date(1997_09_03)), left: 3 });
+    cursor.skip_to(&rule, Date::MAX);
+    assert_eq!((cursor.last, cursor.next_day(&rule)), (Some(date(1997_09_06)), None));
+    // A cursor of nothing: the first days after its day.
+    let mut odd = DayCursor { last: Some(Date::MAX), left: u32::MAX };
+    assert_eq!(odd.next_day(&rule), None);
+    let mut odd = DayCursor { last: Some(Date::MIN), left: 1 };
+    assert_eq!([odd.next_day(&rule), odd.next_day(&rule)], [Some(date(1997_09_02)), None]);
+}
+
+/// Sets of readings and of instants go on from a cursor too.
+#[test]
+fn pages_of_sets() {
+    let berlin = Zone::parse_posix("CET-1CEST,M3.5.0,M10.5.0/3").unwrap();
+    let start = at(2024_03_30, 2, 30);
+    let (dates, exceptions) = ([at(2024_04_01, 12, 0)], [at(2024_04_02, 2, 30)]);
+    for text in ["FREQ=DAILY;COUNT=300", "FREQ=HOURLY;COUNT=300", "FREQ=DAILY;BYHOUR=2,3;COUNT=301", "FREQ=DAILY;UNTIL=20240501T000000Z"] {
+        let recurrence = parse(text.as_bytes()).unwrap();
+        let whole: Vec<_> = recurrence.counted_set(start, &dates, &exceptions).readings().collect();
+        let (mut cursor, mut last, mut all) = (recurrence.reading_cursor(), PlainDateTime::MIN, Vec::new());
+        for _ in 0..whole.len().div_ceil(7) {
+            let kept = ReadingCursor { last: cursor.last, left: cursor.left };
+            let mut set = recurrence.counted_set_at(start, kept, &dates, &exceptions);
+            for _ in 0..7 {
+                let Some(next) = set.next_after(last) else { break };
+                all.push(next);
+                last = next;
+            }
+            cursor = set.cursor();
+        }
+        assert_eq!(all, whole, "{text}");
+        let set = || recurrence.zoned_set(start, &dates, &exceptions, &berlin);
+        let whole: Vec<_> = set().occurrences().collect();
+        let (mut cursor, mut last, mut all) = (recurrence.reading_cursor(), OffsetDateTime::UNIX_EPOCH, Vec::new());
+        for _ in 0..whole.len().div_ceil(7) {
+            let mut set = recurrence.zoned_set_at(start, cursor, &dates, &exceptions, &berlin);
+            for _ in 0..7 {
+                let Some(next) = set.next_after(last) else { break };
+                all.push(next);
+                last = next;
+            }
+            cursor = set.cursor();
+        }
+        assert_eq!(all, whole, "{text}");
+    }
+    let recurrence = parse(b"FREQ=DAILY;COUNT=1000").unwrap();
+    let mut set = recurrence.counted_set(start, &[], &[]);
+    assert_eq!(set.cursor(), ReadingCursor { last: Some(start), left: 999 });
+    set.first_from(at(2025_03_30, 2, 30)).unwrap();
+    let cursor = set.cursor();
+    assert!(cursor.left < 700 && cursor.last.is_some_and(|last| last >= at(2025_03_30, 2, 30)));
+    // A cursor of nothing: the readings up to its own, and the first ones after it.
+    let odd = ReadingCursor { last: Some(at(2024_04_02, 0, 0)), left: 1 };
+    assert!(recurrence.counted_set_at(start, odd, &[], &[]).readings().eq(
+        [2024_03_30, 2024_03_31, 2024_04_01, 2024_04_02].map(|day| at(day, 2, 30))
+    ));
+    let none = ReadingCursor { last: None, left: 0 };
+    assert_eq!(recurrence.counted_set_at(start, none, &[], &[]).readings().next(), None);
 }

@@ -12,16 +12,11 @@ use Rattle.cal_datetime.specs.OffsetDateTime.{LocalAndOffset, instant}
 use Rattle.cal_schedule.specs.Rule as days
 use Rattle.cal_schedule.specs.Pattern.{rule_of}
 use Rattle.cal_schedule.specs.declared.rule.pattern.Pattern.{Pattern}
-use Rattle.cal_recurrence.specs.CountedSet.{ascend_from, whole_set, whole_zoned_set}
-use Rattle.cal_recurrence.specs.DateTimeRule.{date_time_rule, is_not_after, is_occurrence, matches_positions, occurrences, readings_from, DateTimeParts}
-use Rattle.cal_recurrence.specs.Days.{up_to_end}
-use Rattle.cal_recurrence.specs.RecurrenceReadings.{last_reading_of, readings_of}
+use Rattle.cal_recurrence.specs.CountedSet.{ascend_from, past_end, unread, whole_set, whole_zoned_set}
+use Rattle.cal_recurrence.specs.DateTimeRule.{is_not_after, is_occurrence, matches_positions, readings_from, DateTimeParts}
 use Rattle.cal_recurrence.specs.DateTimeSet.{is_in_set, is_listed}
 use Rattle.cal_recurrence.specs.ZonedSet.{reach, IsNextAfter, Occurs}
 use Rattle.cal_recurrence.specs.declared.date_time_set.DateTimeSet.{DateTimeSet}
-use Rattle.cal_recurrence.specs.declared.recurrence.Recurrence.{Recurrence}
-use Rattle.cal_recurrence.specs.declared.recurrence.RuleEnd.{RuleEnd}
-use Rattle.cal_recurrence.specs.declared.recurrence.RuleEnd.TheVariants.{Never, Until, Count}
 use Rattle.cal_recurrence.specs.declared.zoned_set.ZonedSet.{ZonedSet}
 use Rattle.cal_recurrence.proofs.DateTimeSets.{found, is-found, IsFound}
 use Rattle.cal_recurrence.proofs.RuleOccurrences.{le-true, true-le}
@@ -61,16 +56,24 @@ take-ascend zero end xs order = refl
 take-ascend (suc n) end [] order = refl
 take-ascend (suc n) end (x ∷ xs) order = first-ascend end x xs (take n xs) (take-ascend n (Some x) xs) order
 
-up-to_end-ascend : (end : RuleEnd) (xs : List ℤ) → ascend_from (Some (pos 0)) xs ≡ true → ascend_from (Some (pos 0)) (up_to_end end xs) ≡ true
-up-to_end-ascend Never xs order = order
-up-to_end-ascend (Until last) xs order = order
-up-to_end-ascend (Count n) xs order = take-ascend n (Some (pos 0)) xs order
+less-ascend : (z y : ℤ) (xs : List ℤ) → z ≤ℤ y → ascend_from (Some y) xs ≡ true → ascend_from (Some z) xs ≡ true
+less-ascend z y [] less order = refl
+less-ascend z y (x ∷ xs) less order =
+    let both = and_parts (int_le y x) (ascend_from (Some x) xs) order in
+    let first = le-true y x both.0 in
+    rw (true-le z x (omega (arith, ints, less, first))) both.1
 
--- The readings of a recurrence ascend.
-pub readings-ascend : (r : Recurrence) (start : ℤ) → ascend_from (Some (pos 0)) (readings_of r start) ≡ true
-readings-ascend r start =
-    let rule = date_time_rule start (last_reading_of r.end) r.pattern r.times in
-    up-to_end-ascend r.end (occurrences rule) (numbers-ascend (λ k. is_occurrence rule (pos k)) (last_date_time + 1 - 0) 0 0 (omega arith))
+order-at : (rule : DateTimeParts) (end : Option ℤ) (n : ℕ) → ascend_from end (take n (past_end rule end)) ≡ true
+order-at rule None zero = refl
+order-at rule None (suc n) = refl
+order-at rule (Some z) n =
+    let m = unsigned_abs z + 1 in
+    let on : (k : ℕ) → Bool = λ k. is_occurrence (record rule { until = None }) (pos k) in
+    take-ascend n (Some z) (past_end rule (Some z)) (less-ascend z (pos m) _ (omega (arith, ints)) (numbers-ascend on (last_date_time + 1 - m) m m (omega arith)))
+
+-- The readings that are left to count ascend from the end of the rule on.
+pub in-order : (rule : DateTimeParts) (n : ℕ) (left : List ℤ) → left ≡ unread rule n → ascend_from rule.until left ≡ true
+in-order rule n left e = ap (ascend_from rule.until) e ∙ order-at rule rule.until n
 
 -- ---- the readings up to an end
 up-to-day : (end : Option ℤ) (z : ℤ) → IsDateTime z → is_not_after end z ≡ true → days.matches_until (option_map date_at end) (date_at z) ≡ true

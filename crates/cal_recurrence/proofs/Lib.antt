@@ -25,6 +25,7 @@ pub mod CountedSets
 pub mod TimeSteps
 pub mod TimeTests
 pub mod RuleOccurrences
+pub mod Cursors
 pub mod TimeCounts
 pub mod TimePositions
 pub mod SelectedReadings

@@ -27,6 +27,12 @@ has_end Never = false
 has_end (Until last) = true
 has_end (Count count) = true
 
+-- The COUNT, or a number if there is none.
+abbrev pub count_or : ℕ → RuleEnd → ℕ
+count_or none Never = none
+count_or none (Until last) = none
+count_or none (Count count) = count
+
 -- The recurrence has positions, and no other list.
 abbrev pub ranks_alone : Recurrence → Bool
 ranks_alone r = not (length r.pattern.set_positions == 0) && ((length r.pattern.months == 0) && ((length r.pattern.weeks == 0) && ((length r.pattern.year_days == 0) && ((length r.pattern.month_days == 0) && ((length r.pattern.weekdays == 0) && ((length r.times.hours == 0) && ((length r.times.minutes == 0) && (length r.times.seconds == 0))))))))

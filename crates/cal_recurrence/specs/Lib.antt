@@ -23,6 +23,7 @@ pub mod SetFaultText
 pub mod SetText
 pub mod SetWritten
 pub mod SetMeaning
+pub mod Cursors
 pub mod ZonedSet
 pub mod ZonedSetLaws
 pub mod CountedSet

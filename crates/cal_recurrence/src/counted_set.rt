@@ -1,15 +1,18 @@
 //! Recurrence sets whose `COUNT` is counted only as far as a search needs.
-ghost use Rattle.std.specs.Prelude.{◌≡◌, true, pos, slice_get};
-ghost use Rattle.cal_recurrence.specs.CountedSet.{ascend_from, first_number, whole_rule};
+ghost use Rattle.std.specs.Prelude.{◌≡◌, ℤ, pos, slice_get};
+ghost use Rattle.cal_recurrence.specs.CountedSet.{first_number};
+ghost use Rattle.cal_recurrence.specs.Cursors.{resumed_rule};
 ghost use Rattle.cal_recurrence.specs.DateTimeRule.{readings_from};
 ghost use Rattle.cal_recurrence.specs.DateTimeSet.{is_in_set, set_readings_after, set_readings_from};
 ghost use Rattle.cal_recurrence.specs.SetMeaning.{counted_rule};
+ghost use Rattle.cal_recurrence.specs.declared.reading_cursor.ReadingCursor.{ReadingCursor};
+ghost use Rattle.cal_recurrence.specs.declared.recurrence.Recurrence.{Recurrence};
 
 use crate::counting::Uncounted;
 use crate::date_time_rule::DateTimeRule;
 use crate::date_time_set::{DateTimeSet, DateTimeSetReadings};
-use crate::readings::RuleReadings;
-use crate::recurrence::{Recurrence, RuleEnd};
+use crate::reading_cursor::ReadingCursor;
+use crate::recurrence::Recurrence;
 use cal_date::day_number::to_date;
 use cal_datetime::{PlainDateTime, midnight};
 use std::marker::Model;
@@ -25,35 +28,20 @@ pub struct CountedSet<'a> {
 }
 
 impl<'a> Model for CountedSet<'a> {
-    ghost use Rattle.std.specs.Prelude.{◌≡◌, true};
+    ghost use Rattle.std.specs.Prelude.{◌≡◌};
     ghost use Rattle.cal_recurrence.specs.declared.date_time_set.DateTimeSet.{DateTimeSet};
 
     ghost Value = { DateTimeSet };
 
-    ghost use Rattle.cal_recurrence.specs.CountedSet.{ascend_from, whole_set};
+    ghost use Rattle.cal_recurrence.specs.CountedSet.{unread, whole_set};
 
-    ghost view = { λ counted. whole_set counted.set counted.left };
+    ghost view = { λ counted. whole_set counted.set counted.left.readings };
 
-    ghost invariant = { λ counted. ascend_from counted.set.rule.until counted.left ≡ true };
+    ghost invariant = { λ counted.
+        counted.left.readings ≡ unread counted.set.rule counted.left.left };
 }
 
 impl Recurrence {
-    /// Returns the rule from a start, which ends before the readings of a `COUNT`, and these
-    /// readings.
-    pub(crate) fn uncounted(&self, start: PlainDateTime) -> (DateTimeRule, RuleReadings)
-        ensures whole { whole_rule result.0 result.1 ≡ counted_rule self.now start }
-        ensures order { ascend_from result.0.until result.1 ≡ true }
-    {
-        if let RuleEnd::Count(_) = self.end {
-            // The first reading of the range.
-            let none = midnight(to_date(0));
-            return (self.rule_until(start, Some(none)), self.readings(start));
-        }
-        let rule = self.date_time_rule(start);
-        let left = rule.first_readings(0);
-        (rule, left)
-    }
-
     /// Returns the set of the readings from a start with others (`RDATE`) and without exceptions
     /// (`EXDATE`). For `FREQ=DAILY;COUNT=3` from 2024-01-01 9:00 on without 2024-01-02 9:00, it has
     /// 9:00 on 1 and 3 January 2024.
@@ -67,7 +55,24 @@ impl Recurrence {
         ensures dates { result.dates.now ≡ dates.now }
         ensures exceptions { result.exceptions.now ≡ exceptions.now }
     {
-        let (mut rule, left) = self.uncounted(start);
+        self.counted_set_at(start, self.reading_cursor(), dates, exceptions)
+    }
+
+    /// Returns the set of the readings like `counted_set`, which goes on from a cursor. For
+    /// `FREQ=DAILY;COUNT=3` from 2024-01-01 9:00 on, and a cursor with 2 readings left after this
+    /// one, it has 9:00 on 1, 2 and 3 January 2024.
+    pub fn counted_set_at<'a>(
+        &self,
+        start: PlainDateTime,
+        cursor: ReadingCursor,
+        dates: &'a [PlainDateTime],
+        exceptions: &'a [PlainDateTime],
+    ) -> CountedSet<'a>
+        ensures rule { result.rule ≡ resumed_rule self.now start cursor }
+        ensures dates { result.dates.now ≡ dates.now }
+        ensures exceptions { result.exceptions.now ≡ exceptions.now }
+    {
+        let (mut rule, left) = self.uncounted(start, cursor);
         if !dates.is_empty() {
             // A search for each of the other readings would search for a day of the rule again.
             rule.settle();
@@ -77,10 +82,7 @@ impl Recurrence {
             dates,
             exceptions,
         };
-        CountedSet {
-            set,
-            left: Uncounted::new(left),
-        }
+        CountedSet { set, left }
     }
 }
 
@@ -90,15 +92,24 @@ impl<'a> DateTimeSet<'a> {
     pub fn counted(&self) -> CountedSet<'a>
         ensures { result ≡ self.now }
     {
-        let left = self.rule.first_readings(0);
         CountedSet {
             set: self.copy(),
-            left: Uncounted::new(left),
+            left: Uncounted::none(&self.rule),
         }
     }
 }
 
 impl<'a> CountedSet<'a> {
+    /// Returns how far the searches counted, for another set of the same recurrence and start. For
+    /// `FREQ=DAILY;COUNT=1000` from 2024-01-01 9:00 on, after a search for the first reading from
+    /// 2025-01-01 on, fewer than 700 readings are left.
+    pub fn cursor(&self) -> ReadingCursor
+        ensures { (its : Recurrence) (start : ℤ) (c : ReadingCursor) → self.now.rule ≡ resumed_rule its start c
+            → resumed_rule its start result ≡ self.now.rule }
+    {
+        self.left.cursor(&self.set.rule)
+    }
+
     /// Returns the first reading of the set after a reading, or from it on.
     fn search(&mut self, reading: PlainDateTime, after: bool) -> Option<PlainDateTime>
         ensures value { result ≡ slice_get (readings_from (is_in_set self.old) (first_number after reading)) 0 }

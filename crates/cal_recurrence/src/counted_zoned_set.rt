@@ -2,15 +2,21 @@
 ghost use Rattle.std.specs.Prelude.{◌≡◌, ◌↔◌, ◌+ℤ◌, ◌-ℤ◌, ◌≤ℤ◌, ◌<ℤ◌, ℤ, [], pos, IsTrue};
 ghost use Rattle.cal_datetime.specs.DateTime.{IsDateTime};
 ghost use Rattle.cal_datetime.specs.OffsetDateTime.{instant, unix_epoch};
+ghost use Rattle.cal_recurrence.specs.CountedSet.{unread, whole_rule};
+ghost use Rattle.cal_recurrence.specs.Cursors.{resumed_zone_rule};
 ghost use Rattle.cal_recurrence.specs.SetMeaning.{last_instant, zone_rule};
 ghost use Rattle.cal_recurrence.specs.Occurrences.{before_all};
 ghost use Rattle.cal_recurrence.specs.ZonedSet.{reach, HasInstant, IsNextAfter, Occurs};
+ghost use Rattle.cal_recurrence.specs.declared.reading_cursor.ReadingCursor.{ReadingCursor};
+ghost use Rattle.cal_recurrence.specs.declared.recurrence.Recurrence.{Recurrence};
 
 use crate::counting::Uncounted;
 use crate::date_or_time::DateOrTime;
+use crate::date_time_rule::DateTimeRule;
 use crate::date_time_set::DateTimeSet;
 use crate::occurrences::Occurrences;
 use crate::reach::{earliest_reading, first_moment, is_past};
+use crate::reading_cursor::ReadingCursor;
 use crate::recurrence::{Recurrence, RuleEnd};
 use crate::zoned_set::{ZonedSet, is_at, nanoseconds};
 use cal_datetime::{OffsetDateTime, PlainDateTime};
@@ -28,17 +34,17 @@ pub struct CountedZonedSet<'a> {
 }
 
 impl<'a> Model for CountedZonedSet<'a> {
-    ghost use Rattle.std.specs.Prelude.{◌≡◌, true};
+    ghost use Rattle.std.specs.Prelude.{◌≡◌};
     ghost use Rattle.cal_recurrence.specs.declared.zoned_set.ZonedSet.{ZonedSet};
 
     ghost Value = { ZonedSet };
 
-    ghost use Rattle.cal_recurrence.specs.CountedSet.{ascend_from, whole_zoned_set};
+    ghost use Rattle.cal_recurrence.specs.CountedSet.{unread, whole_zoned_set};
 
-    ghost view = { λ counted. whole_zoned_set counted.set counted.left };
+    ghost view = { λ counted. whole_zoned_set counted.set counted.left.readings };
 
     ghost invariant = { λ counted.
-        ascend_from counted.set.readings.rule.until counted.left ≡ true };
+        counted.left.readings ≡ unread counted.set.readings.rule counted.left.left };
 }
 
 impl Recurrence {
@@ -61,17 +67,49 @@ impl Recurrence {
         ensures instants { result.instants.now ≡ [] }
         ensures exceptions { result.exceptions.now ≡ [] }
     {
-        let (mut rule, left, until) = match self.end {
-            RuleEnd::Until(DateOrTime::Utc(last)) => {
-                let rule = self.rule_until(start, None);
-                let left = rule.first_readings(0);
-                (rule, left, Some(last.assume_utc()))
-            }
-            _ => {
-                let (rule, left) = self.uncounted(start);
-                (rule, left, None)
-            }
-        };
+        self.zoned_set_at(start, self.reading_cursor(), dates, exceptions, zone)
+    }
+
+    /// Returns the rule in a zone from a start, its last instant and the readings of a `COUNT` that
+    /// aren't counted.
+    fn zoned_rule(
+        &self,
+        start: PlainDateTime,
+        cursor: ReadingCursor,
+    ) -> (DateTimeRule, Uncounted, Option<OffsetDateTime>)
+        ensures whole { whole_rule result.0 result.1.readings ≡ resumed_zone_rule self.now start cursor }
+        ensures counted { result.1.readings ≡ unread result.0 result.1.left }
+        ensures until { result.2 ≡ last_instant self.now.end }
+    {
+        if let RuleEnd::Until(DateOrTime::Utc(last)) = self.end {
+            let rule = self.rule_until(start, None);
+            let left = Uncounted::none(&rule);
+            return (rule, left, Some(last.assume_utc()));
+        }
+        let (rule, left) = self.uncounted(start, cursor);
+        (rule, left, None)
+    }
+
+    /// Returns the set of the moments of the readings like `zoned_set`, which goes on from a cursor.
+    /// For `FREQ=DAILY;COUNT=2` from 2024-03-30 2:30 on in Berlin, and a cursor with one reading left
+    /// after this one, they are the same moments as without a cursor.
+    pub fn zoned_set_at<'a>(
+        &self,
+        start: PlainDateTime,
+        cursor: ReadingCursor,
+        dates: &'a [PlainDateTime],
+        exceptions: &'a [PlainDateTime],
+        zone: &'a Zone<'a>,
+    ) -> CountedZonedSet<'a>
+        ensures rule { result.readings.rule ≡ resumed_zone_rule self.now start cursor }
+        ensures dates { result.readings.dates.now ≡ dates.now }
+        ensures readings { result.readings.exceptions.now ≡ exceptions.now }
+        ensures zone { result.zone.now ≡ zone.now }
+        ensures until { result.until ≡ last_instant self.now.end }
+        ensures instants { result.instants.now ≡ [] }
+        ensures exceptions { result.exceptions.now ≡ [] }
+    {
+        let (mut rule, left, until) = self.zoned_rule(start, cursor);
         if !dates.is_empty() {
             rule.settle();
         }
@@ -87,10 +125,7 @@ impl Recurrence {
             instants: &[],
             exceptions: &[],
         };
-        CountedZonedSet {
-            set,
-            left: Uncounted::new(left),
-        }
+        CountedZonedSet { set, left }
     }
 }
 
@@ -111,15 +146,22 @@ impl<'a> ZonedSet<'a> {
             instants: self.instants,
             exceptions: self.exceptions,
         };
-        let left = set.readings.rule.first_readings(0);
-        CountedZonedSet {
-            set,
-            left: Uncounted::new(left),
-        }
+        let left = Uncounted::none(&set.readings.rule);
+        CountedZonedSet { set, left }
     }
 }
 
 impl<'a> CountedZonedSet<'a> {
+    /// Returns how far the searches counted, for another set of the same recurrence, start and zone.
+    /// For `FREQ=DAILY;COUNT=1000` from 2024-01-01 9:00 on in Berlin, after a search for the first
+    /// occurrence from 2025-01-01 on, fewer than 700 readings are left.
+    pub fn cursor(&self) -> ReadingCursor
+        ensures { (its : Recurrence) (start : ℤ) (c : ReadingCursor) → self.now.readings.rule ≡ resumed_zone_rule its start c
+            → resumed_zone_rule its start result ≡ self.now.readings.rule }
+    {
+        self.left.cursor(&self.set.readings.rule)
+    }
+
     /// Returns the set with other instants (`RDATE` in UTC) and without exceptions (`EXDATE` in UTC),
     /// in place of those that it has. For 2:30 on two days from 2024-03-30 on in Berlin, with
     /// 2024-04-02 12:00 UTC and without 2024-03-31 1:30 UTC, it has 2024-03-30 2:30 +01:00:00 and

@@ -1,55 +1,91 @@
 //! The readings of a `COUNT`, counted as far as a search needs them.
-ghost use Rattle.std.specs.Prelude.{◌≡◌, ◌<◌, true, false, [], length};
-ghost use Rattle.cal_recurrence.specs.CountedSet.{ascend_from, whole_rule};
+ghost use Rattle.std.specs.Prelude.{◌≡◌, ◌<◌, ◌-◌, ◌∷◌, false, true, [], length, MatchOption};
+ghost use Rattle.cal_recurrence.specs.CountedSet.{unread, whole_rule};
+ghost use Rattle.cal_recurrence.specs.Cursors.{resumed_rule, StandsFor};
 
 use crate::date_time_rule::DateTimeRule;
+use crate::reading_cursor::ReadingCursor;
 use crate::readings::RuleReadings;
-use std::marker::Model;
+use crate::recurrence::{Recurrence, RuleEnd};
+use cal_date::day_number::to_date;
+use cal_datetime::{PlainDateTime, midnight};
 
 /// How many readings are counted first. Most counts are smaller.
 const FIRST_STEP: u32 = 64;
 
-/// The readings of a rule that aren't counted yet. Contracts see their list.
+/// The readings of a `COUNT` that aren't counted yet.
 #[derive(Debug, Drop)]
 pub(crate) struct Uncounted {
-    readings: RuleReadings,
+    pub(crate) readings: RuleReadings,
+    /// The maximum number of the readings.
+    pub(crate) left: u32,
     /// The number of readings to count next.
     step: u32,
 }
 
-impl Model for Uncounted {
-    ghost use Rattle.std.specs.Prelude.{ℤ, List};
-
-    ghost Value = { List ℤ };
-
-    ghost view = { λ left. left.readings };
-}
-
 impl Uncounted {
-    pub(crate) fn new(readings: RuleReadings) -> Self
-        ensures { result ≡ readings }
+    /// Creates the readings of a `COUNT`, of which there are at most `left`.
+    fn new(readings: RuleReadings, left: u32) -> Self
+        ensures readings { result.readings ≡ readings }
+        ensures left { result.left ≡ left }
     {
         Uncounted {
             readings,
+            left,
             step: FIRST_STEP,
         }
+    }
+
+    /// Returns no readings, for a rule without a `COUNT`.
+    pub(crate) fn none(rule: &DateTimeRule) -> Self
+        ensures readings { result.readings ≡ [] }
+        ensures left { result.left ≡ 0 }
+    {
+        Uncounted::new(rule.first_readings(0), 0)
+    }
+
+    /// Returns how far a rule is counted that ends at the last reading that is.
+    pub(crate) fn cursor(&self, rule: &DateTimeRule) -> ReadingCursor
+        requires { self.now.readings ≡ unread rule.now self.now.left }
+        ensures { StandsFor rule.now self.now.readings result }
+    {
+        match rule.until() {
+            Some(last) => ReadingCursor {
+                last: Some(last),
+                left: self.left,
+            },
+            None => ReadingCursor {
+                last: None,
+                left: 0,
+            },
+        }
+    }
+
+    /// Counts the next reading.
+    fn count_one(&mut self) -> Option<PlainDateTime>
+        ensures { MatchOption result ((self.old.readings ≡ []) × (self.new ≡ self.old))
+            (λ z. (self.old.readings ≡ z ∷ self.new.readings) × (self.new.left ≡ self.old.left - 1)) }
+    {
+        let reading = self.readings.next()?;
+        self.left = self.left.saturating_sub(1);
+        Some(reading)
     }
 
     /// Counts some readings, twice as many each time, and moves the end of the rule to the last of
     /// them. Returns `false` if no readings are left.
     pub(crate) fn count_on(&mut self, rule: &mut DateTimeRule) -> bool
-        requires { ascend_from rule.old.until self.old ≡ true }
-        ensures whole { whole_rule rule.new self.new ≡ whole_rule rule.old self.old }
-        ensures order { ascend_from rule.new.until self.new ≡ true }
-        ensures fewer { result ≡ true → length self.new < length self.old }
-        ensures none { result ≡ false → self.old ≡ [] }
+        requires { self.old.readings ≡ unread rule.old self.old.left }
+        ensures whole { whole_rule rule.new self.new.readings ≡ whole_rule rule.old self.old.readings }
+        ensures counted { self.new.readings ≡ unread rule.new self.new.left }
+        ensures fewer { result ≡ true → length self.new.readings < length self.old.readings }
+        ensures none { result ≡ false → self.old.readings ≡ [] }
     {
-        let Some(first) = self.readings.next() else {
+        let Some(first) = self.count_one() else {
             return false;
         };
         let mut last = first;
         'count: for _ in 1..self.step {
-            let Some(reading) = self.readings.next() else {
+            let Some(reading) = self.count_one() else {
                 break;
             };
             last = reading;
@@ -57,5 +93,38 @@ impl Uncounted {
         self.step = self.step.saturating_mul(2);
         rule.end_at(last);
         true
+    }
+}
+
+impl Recurrence {
+    /// Returns the rule from a start, which ends at the last reading that is counted, and the
+    /// readings of a `COUNT` that aren't.
+    pub(crate) fn uncounted(
+        &self,
+        start: PlainDateTime,
+        cursor: ReadingCursor,
+    ) -> (DateTimeRule, Uncounted)
+        ensures whole { whole_rule result.0 result.1.readings ≡ resumed_rule self.now start cursor }
+        ensures counted { result.1.readings ≡ unread result.0 result.1.left }
+    {
+        let mut rule = self.date_time_rule(start);
+        let RuleEnd::Count(_) = self.end else {
+            let left = Uncounted::none(&rule);
+            return (rule, left);
+        };
+        if let Some(last) = cursor.last {
+            let left = Uncounted::new(rule.first_after(last, cursor.left), cursor.left);
+            rule.end_at(last);
+            return (rule, left);
+        }
+        let mut left = Uncounted::new(rule.first_readings(cursor.left), cursor.left);
+        let Some(first) = left.count_one() else {
+            // The first reading of the range.
+            rule.end_at(midnight(to_date(0)));
+            let none = Uncounted::none(&rule);
+            return (rule, none);
+        };
+        rule.end_at(first);
+        (rule, left)
     }
 }

@@ -1,7 +1,7 @@
 //! The iterator over the readings of a rule.
 ghost use Rattle.std.specs.Prelude.{◌≡◌, length, List, take};
 ghost use Rattle.std.specs.Iterator.{YieldsFirst, item_count};
-ghost use Rattle.cal_recurrence.specs.DateTimeRule.{occurrences};
+ghost use Rattle.cal_recurrence.specs.DateTimeRule.{occurrences, occurrences_after};
 
 use crate::date_time_rule::DateTimeRule;
 use cal_datetime::PlainDateTime;
@@ -44,6 +44,21 @@ impl DateTimeRule {
         ensures { result ≡ take count (occurrences self.now) }
     {
         self.first_of(u128::from(count))
+    }
+
+    /// Returns an iterator over the first `count` readings of the rule after a reading.
+    pub(crate) fn first_after(&self, reading: PlainDateTime, count: u32) -> RuleReadings
+        ensures { result ≡ take count (occurrences_after self.now reading) }
+    {
+        if count == 0 {
+            return self.first_readings(0);
+        }
+        let front = self.next_after(reading);
+        RuleReadings {
+            rule: self.copy(),
+            front,
+            left: u128::from(count),
+        }
     }
 
     /// Returns an iterator over the first `count` readings of the rule.

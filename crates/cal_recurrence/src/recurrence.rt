@@ -147,8 +147,11 @@ impl Recurrence {
         }
     }
 
-    /// Returns the rule from a start, without a `COUNT`, which a rule doesn't have. For
+    /// Returns the rule of the days from a start, without a `COUNT`, which a rule doesn't have. For
     /// `FREQ=DAILY;COUNT=3` it is the rule of every day, without an end.
+    ///
+    /// The rule has no periods within days. For `FREQ=HOURLY;INTERVAL=6` it has every sixth day, so
+    /// use [`Self::date_time_rule`] for a recurrence whose `times.clock` is set.
     pub fn rule(&self, start: Date) -> Rule
         ensures { result ≡ rule_of self.now.pattern start (last_of self.now.end) }
     {
@@ -158,6 +161,9 @@ impl Recurrence {
     /// Returns an iterator over the days from a start, in ascending order. For
     /// `FREQ=MONTHLY;BYDAY=-1FR;COUNT=12` and 2024-01-01 they are the last Fridays of the months of
     /// 2024.
+    ///
+    /// These are the days of [`Self::rule`]. For `FREQ=HOURLY;INTERVAL=6` they are every sixth day,
+    /// so use [`Self::readings`] for a recurrence whose `times.clock` is set.
     pub fn days(&self, start: Date) -> RuleDays
         ensures { result ≡ days_of self.now start }
     {
