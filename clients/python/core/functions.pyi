@@ -1,5 +1,12 @@
 # The functions of the module `_core`, as types.pyi has its types. Those with a doc string are
-# public, and those of units are members of SignedDuration.
+# public, and those of units are members of SignedDuration. An editor takes the names from the imports.
+from typing import Any
+
+from .enums import Choice, Month, Weekday
+from .formats import Format
+from .schedules import Workdays
+from .types import Date, Fits, Int, OffsetDateTime, Period, PlainDateTime, SignedDuration, Time
+from .types import UtcOffset, _Rule, _Zone
 
 # ---- months, weekdays and years
 
@@ -152,8 +159,8 @@ class Policy(Choice):
     by the length of the gap, and `Earlier` back. In a fold, `Compatible` and `Earlier` mean the
     first. `Reject` means neither."""
 
-# ---- columns, which columns.py prepares. A class has the columns that a call writes. A name has
-# the arguments that fotsevindre.h says.
+# ---- columns, which columns.py prepares. A class has the columns that a function writes. The functions
+# have the arguments of fotsevindre.h.
 
 class DateColumns: "Julian days in 32 bits, or `datetime64[D]` if the dates were."
 class CalendarDateColumns: "Years in 32 bits, and months and days in 8."
@@ -175,65 +182,90 @@ class TextColumns:
     """The bytes of strings, one after another, and their bounds, one more than rows: a string is
     `texts[bounds[k]:bounds[k + 1]]`, and has no bytes in a row without one."""
 
-dates_from_julian_days: DateColumns = """Creates the dates of Julian days.
+def dates_from_julian_days(julian_days: object) -> DateColumns:
+    """Creates the dates of Julian days.
 
->>> tuple(dates_from_julian_days([2451545, 366963560]))
-(array('i', [2451545, -2147483648]), array('B', [0, 18]), 1)
-"""
-dates_from_calendar_dates: DateColumns = "Creates the dates of years, months and days."
-dates_from_ordinal_dates: DateColumns = "Creates the dates of years and ordinals."
-dates_from_iso_week_dates: DateColumns = "Creates the dates of ISO years, weeks and weekdays."
-dates_to_calendar_dates: CalendarDateColumns = "Returns the years, months and days of dates."
-dates_to_ordinal_dates: OrdinalDateColumns = "Returns the years and ordinals of dates."
-dates_to_iso_week_dates: IsoWeekDateColumns = "Returns the ISO years, weeks and weekdays."
-dates_weekdays: WeekdayColumns = "Returns the weekdays of dates, from Monday, 0."
-calendar_dates_to_iso_week_dates: IsoWeekDateColumns = "Converts years, months and days."
-dates_add_days: DateColumns = "Returns the dates some days later."
-dates_add_months: DateColumns = "Returns the dates like `Date.checked_add_months`."
-dates_add_workdays: DateColumns = "Returns the dates like `Workdays.checked_add_workdays`."
-dates_workdays_between: NumberColumns = """Counts the days like `Workdays.workdays_between`.
+    >>> tuple(dates_from_julian_days([2451545, 366963560]))
+    (array('i', [2451545, -2147483648]), array('B', [0, 18]), 1)
+    """
+def dates_from_calendar_dates(years: object, months: object, days: object) -> DateColumns:
+    "Creates the dates of years, months and days."
+def dates_from_ordinal_dates(years: object, ordinals: object) -> DateColumns:
+    "Creates the dates of years and ordinals."
+def dates_from_iso_week_dates(years: object, weeks: object, weekdays: object) -> DateColumns:
+    "Creates the dates of ISO years, weeks and weekdays."
+def dates_to_calendar_dates(dates: object) -> CalendarDateColumns:
+    "Returns the years, months and days of dates."
+def dates_to_ordinal_dates(dates: object) -> OrdinalDateColumns:
+    "Returns the years and ordinals of dates."
+def dates_to_iso_week_dates(dates: object) -> IsoWeekDateColumns:
+    "Returns the ISO years, weeks and weekdays."
+def dates_weekdays(dates: object) -> WeekdayColumns:
+    "Returns the weekdays of dates, from Monday, 0."
+def calendar_dates_to_iso_week_dates(years: object, months: object,
+                                     days: object) -> IsoWeekDateColumns:
+    "Converts years, months and days."
+def dates_add_days(dates: object, days: object) -> DateColumns:
+    "Returns the dates some days later."
+def dates_add_months(dates: object, months: object) -> DateColumns:
+    "Returns the dates like `Date.checked_add_months`."
+def dates_add_workdays(dates: object, days: object, workdays: Workdays) -> DateColumns:
+    "Returns the dates like `Workdays.checked_add_workdays`."
+def dates_workdays_between(dates: object, others: object, workdays: Workdays) -> NumberColumns:
+    """Counts the days like `Workdays.workdays_between`.
 
->>> tuple(dates_workdays_between([Date(2000, 1, 1)], Date(2001, 1, 1), Workdays()))
-(array('i', [260]), array('B', [0]), 0)
-"""
-dates_parse: DateColumns = """Parses strings in a buffer of bytes like `Date.parse`.
+    >>> tuple(dates_workdays_between([Date(2000, 1, 1)], Date(2001, 1, 1), Workdays()))
+    (array('i', [260]), array('B', [0]), 0)
+    """
+def dates_parse(texts: object, bounds: object) -> DateColumns:
+    """Parses strings in a buffer of bytes like `Date.parse`.
 
-String k is the bytes from bound k to bound k + 1.
+    String k is the bytes from bound k to bound k + 1.
 
->>> tuple(dates_parse(b"2024-02-292024-0602024-02-30", [0, 10, 18, 28]))
-(array('i', [2460370, 2460370, -2147483648]), array('B', [0, 0, 64]), 1)
-"""
-moments_parse: MomentColumns = "Parses such strings like `parse_rfc3339`."
-dates_calendar_texts: TextColumns = """Returns the calendar dates of dates, one after another.
+    >>> tuple(dates_parse(b"2024-02-292024-0602024-02-30", [0, 10, 18, 28]))
+    (array('i', [2460370, 2460370, -2147483648]), array('B', [0, 0, 64]), 1)
+    """
+def moments_parse(texts: object, bounds: object) -> MomentColumns:
+    "Parses such strings like `parse_rfc3339`."
+def dates_calendar_texts(dates: object) -> TextColumns:
+    """Returns the calendar dates of dates, one after another.
 
->>> tuple(dates_calendar_texts([Date(2024, 2, 29)]))
-(b'2024-02-29', array('i', [0, 10]), array('B', [0]), 0)
-"""
-moments_texts: TextColumns = """Returns the strings of RFC 3339, one after another.
+    >>> tuple(dates_calendar_texts([Date(2024, 2, 29)]))
+    (b'2024-02-29', array('i', [0, 10]), array('B', [0]), 0)
+    """
+def moments_texts(dates: object, times: object, offsets: object) -> TextColumns:
+    """Returns the strings of RFC 3339, one after another.
 
-The times are nanoseconds since midnight, and the offsets seconds."""
-times_round: TimeColumns = """Rounds times of day, in nanoseconds since midnight, like `Time.round`.
+    The times are nanoseconds since midnight, and the offsets seconds."""
+def times_round(times: object, unit: SignedDuration, mode: RoundingMode) -> TimeColumns:
+    """Rounds times of day, in nanoseconds since midnight, like `Time.round`.
 
->>> tuple(times_round([32_850_000_000_000], SignedDuration(minutes=15), RoundingMode.HalfCeil))
-(array('Q', [33300000000000]), array('B', [0]), 0)
-"""
-pairs_round: PairColumns = "Rounds dates and times of day like `PlainDateTime.round`."
-durations_parse: DurationColumns = """Parses strings in a buffer of bytes like `SignedDuration.parse`.
+    >>> tuple(times_round([32_850_000_000_000], SignedDuration(minutes=15), RoundingMode.HalfCeil))
+    (array('Q', [33300000000000]), array('B', [0]), 0)
+    """
+def pairs_round(dates: object, times: object, unit: SignedDuration,
+                mode: RoundingMode) -> PairColumns:
+    "Rounds dates and times of day like `PlainDateTime.round`."
+def durations_parse(texts: object, bounds: object) -> DurationColumns:
+    """Parses strings in a buffer of bytes like `SignedDuration.parse`.
 
->>> tuple(durations_parse(b"PT1H30MPT0.5S", [0, 7, 13]))
-(array('q', [5400, 0]), array('i', [0, 500000000]), array('B', [0, 0]), 0)
-"""
-durations_texts: TextColumns = """Returns the strings of durations, one after another, like `str`.
+    >>> tuple(durations_parse(b"PT1H30MPT0.5S", [0, 7, 13]))
+    (array('q', [5400, 0]), array('i', [0, 500000000]), array('B', [0, 0]), 0)
+    """
+def durations_texts(seconds: object, nanoseconds: object) -> TextColumns:
+    """Returns the strings of durations, one after another, like `str`.
 
-The durations are seconds and nanoseconds, which don't differ in sign."""
-dates_parse_format: DateColumns = "Parses strings in a buffer of bytes like `Date.strptime`."
-dates_format: TextColumns = """Returns the strings of dates by a format, one after another.
+    The durations are seconds and nanoseconds, which don't differ in sign."""
+def dates_parse_format(texts: object, bounds: object, format: str | Format) -> DateColumns:
+    "Parses strings in a buffer of bytes like `Date.strptime`."
+def dates_format(dates: object, format: str | Format) -> TextColumns:
+    """Returns the strings of dates by a format, one after another.
 
->>> tuple(dates_format([Date(2024, 2, 29)], "%A"))
-(b'Thursday', array('i', [0, 8]), array('B', [0]), 0)
-"""
-_zone_offsets: OffsetColumns = ...
-_zone_instants: InstantColumns = ...
-_zoned_add_days: InstantColumns = ...
-_zoned_add_months: InstantColumns = ...
-_zoned_starts_of_day: InstantColumns = ...
+    >>> tuple(dates_format([Date(2024, 2, 29)], "%A"))
+    (b'Thursday', array('i', [0, 8]), array('B', [0]), 0)
+    """
+def _zone_offsets(seconds: object, zone: _Zone) -> OffsetColumns: ...
+def _zone_instants(readings: object, zone: _Zone) -> InstantColumns: ...
+def _zoned_add_days(seconds: object, days: object, zone: _Zone) -> InstantColumns: ...
+def _zoned_add_months(seconds: object, months: object, zone: _Zone) -> InstantColumns: ...
+def _zoned_starts_of_day(seconds: object, zone: _Zone) -> InstantColumns: ...
