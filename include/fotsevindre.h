@@ -1562,6 +1562,12 @@ size_t fots_dates_parse(const char *bytes, size_t bytes_length, const int32_t *b
 size_t fots_moments_parse(const char *bytes, size_t bytes_length, const int32_t *bounds, size_t bounds_length, int32_t *dates,
     size_t dates_length, uint64_t *times, size_t times_length, int32_t *offsets, size_t offsets_length, uint8_t *statuses, size_t length);
 
+/* Parse like fots_date_parse_iso and fots_moment_parse_iso, in the same way. */
+size_t fots_dates_parse_iso(const char *bytes, size_t bytes_length, const int32_t *bounds, size_t bounds_length, int32_t *dates,
+    size_t dates_length, uint8_t *statuses, size_t length);
+size_t fots_moments_parse_iso(const char *bytes, size_t bytes_length, const int32_t *bounds, size_t bounds_length, int32_t *dates,
+    size_t dates_length, uint64_t *times, size_t times_length, int32_t *offsets, size_t offsets_length, uint8_t *statuses, size_t length);
+
 /* Parses like fots_duration_parse, in the same way: the seconds and the nanoseconds of durations. */
 size_t fots_durations_parse(const char *bytes, size_t bytes_length, const int32_t *bounds, size_t bounds_length, int64_t *seconds,
     size_t seconds_length, int32_t *nanoseconds, size_t nanoseconds_length, uint8_t *statuses, size_t length);

@@ -226,6 +226,23 @@ static void read_back(size_t n, size_t bytes_length)
         errors += single.status == FOTS_OK ? 0 : 1;
     }
     check(counted == errors, "the texts of no moment", (long long)counted, (long long)errors);
+    errors = 0;
+    counted = fots_dates_parse_iso(bytes, bytes_length, bounds, n + 1, found, n, statuses, n);
+    for (size_t k = 0; k < n; k++) {
+        fots_parse_date_result single = fots_date_parse_iso(bytes + bounds[k], (size_t)(bounds[k + 1] - bounds[k]));
+        check(statuses[k] == single.status && found[k] == single.date.julian_day, "a date in ISO 8601", (long long)k, statuses[k]);
+        errors += single.status == FOTS_OK ? 0 : 1;
+    }
+    check(counted == errors, "the texts of no date in ISO 8601", (long long)counted, (long long)errors);
+    errors = 0;
+    counted = fots_moments_parse_iso(bytes, bytes_length, bounds, n + 1, found, n, found_times, n, found_offsets, n, statuses, n);
+    for (size_t k = 0; k < n; k++) {
+        fots_parse_moment_result single = fots_moment_parse_iso(bytes + bounds[k], (size_t)(bounds[k + 1] - bounds[k]));
+        check(statuses[k] == single.status && found[k] == single.date.julian_day && found_times[k] == single.time
+            && found_offsets[k] == single.offset.seconds, "a moment in ISO 8601", (long long)k, statuses[k]);
+        errors += single.status == FOTS_OK ? 0 : 1;
+    }
+    check(counted == errors, "the texts of no moment in ISO 8601", (long long)counted, (long long)errors);
 }
 
 /* Changes a byte in some texts. */
@@ -281,9 +298,21 @@ static void invalid_texts(void)
         check(statuses[k] == (k == 0 || k == 1 || k == 9 ? FOTS_UNEXPECTED_END : FOTS_INVALID_BOUNDS) && found_times[k] == FOTS_NO_TIME,
             "a moment that is none", (long long)k, statuses[k]);
     }
+    check(fots_dates_parse_iso(text, 20, wrong, 11, found, 10, statuses, 10) == 9, "texts that are none in ISO 8601", 0, 0);
+    for (size_t k = 0; k < 10; k++) {
+        check(statuses[k] == expected[k], "a text that is none in ISO 8601", (long long)k, statuses[k]);
+    }
+    static const char forms[] = "2024-02-29 22:59:59.25+0020240229T225959,25Z2024-02-29T22:59";
+    const int32_t between[] = {0, 25, 44, 60};
+    check(fots_moments_parse_iso(forms, 60, between, 4, found, 3, found_times, 3, found_offsets, 3, statuses, 3) == 1, "a moment without its offset", 0, 0);
+    check(found[0] == 2460370 && found[1] == 2460370 && found_times[0] == 82799250000000 && found_times[1] == 82799250000000 && found_offsets[1] == 0,
+        "moments in ISO 8601", found[0], (long long)found_times[1]);
+    check(statuses[2] == FOTS_UNEXPECTED_END && found[2] == FOTS_NO_VALUE, "the end of a moment", statuses[2], found[2]);
     statuses[0] = 77;
     bounds[0] = 77;
     bytes[0] = 77;
+    check(fots_dates_parse_iso(text, 20, wrong, 1, found, 1, statuses, 1) == FOTS_LENGTH_MISMATCH, "a bound too few in ISO 8601", 0, 0);
+    check(fots_moments_parse_iso(text, 20, wrong, 2, found, 1, found_times, 1, found_offsets, 2, statuses, 1) == FOTS_LENGTH_MISMATCH, "two offsets in ISO 8601", 0, 0);
     check(fots_dates_parse(text, 20, wrong, 1, found, 1, statuses, 1) == FOTS_LENGTH_MISMATCH, "a bound too few", 0, 0);
     check(fots_dates_parse(text, 20, wrong, 0, found, 0, statuses, 0) == FOTS_LENGTH_MISMATCH, "no bound", 0, 0);
     check(fots_moments_parse(text, 20, wrong, 2, found, 1, found_times, 1, found_offsets, 2, statuses, 1) == FOTS_LENGTH_MISMATCH, "two offsets", 0, 0);

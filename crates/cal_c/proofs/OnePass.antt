@@ -1,17 +1,25 @@
 -- The items of numbers, one after the other.
-use Rattle.std.proofs.Common.{◌≡◌, ℕ, ◌-◌, ◌≤◌, List, [], ◌∷◌, ◌++◌, length, map, take, drop, get_or, sym, ap, ◌∙◌, subst, arith, append_assoc, length-append}
+use Rattle.std.proofs.Common.{◌≡◌, ℕ, ◌-◌, ◌<◌, ◌≤◌, List, [], ◌∷◌, ◌++◌, length, map, take, drop, get_or, refl, sym, ap, ◌∙◌, subst, arith, append_assoc, append-nil, length-append}
 use Rattle.std.proofs.lemmas.List.{take_all, length-map}
-use Rattle.std.specs.Prelude.{Bool, true, false, ◌&&◌, IsTrue}
+use Rattle.std.specs.Prelude.{Bool, true, false, ◌&&◌, ◌||◌, nat_lt, IsTrue}
+use Rattle.cal_format.specs.declared.fields.Fields.{Fields}
 use Rattle.cal_format.specs.declared.item.Item.{Item}
+use Rattle.cal_format.specs.declared.item.Item.TheVariants as item
+use Rattle.cal_format.specs.declared.item.Name.{Name}
+use Rattle.cal_format.specs.declared.item.Padding.TheVariants as padding
 use Rattle.cal_format.specs.declared.moment.Moment.{Moment}
-use Rattle.cal_format.specs.Reading.{shows_within, show_within}
+use Rattle.cal_format.specs.Reading.{is_apart, begins_apart, shows_within, show_within}
+use Rattle.cal_format.specs.Scanning.{HasFields}
+use Rattle.cal_format.specs.Shown.{AreShown}
 use Rattle.cal_format.specs.Text.{item_text, text_of}
+use Rattle.cal_format.proofs.OnePass.{first-or}
 use Rattle.cal_c.specs.Formats.{item_parts, parts}
-use Rattle.cal_c.specs.OnePass.{IsItemOf, AreItemsOf, IsFormatOf, PrintsItem, PrintsItems}
+use Rattle.cal_c.specs.OnePass.{IsItemOf, AreItemsOf, IsFormatOf, ScansItems, PrintsItem, PrintsItems}
+use Rattle.cal_c.proofs.IsoDates.{byte-one}
 use Rattle.cal_c.specs.declared.formats.format_parts.FormatItem.{FormatItem}
 use Rattle.cal_c.specs.declared.formats.format_parts.FormatParts.{FormatParts}
 
-both-true : (a b : Bool) → IsTrue a → IsTrue b → IsTrue (a && b)
+pub both-true : (a b : Bool) → IsTrue a → IsTrue b → IsTrue (a && b)
 both-true true b h k = k
 both-true false b h k = cc
 
@@ -26,6 +34,58 @@ all-of P Q R (p ∷ ps) both some first others =
     every : IsItemOf p P → AreItemsOf ps Q → (items : List Item) → p ∷ ps ≡ map item_parts items → R items
     every f rest [] e = absurd (omega (arith, ap length e))
     every f rest (i ∷ items) e = both i items (f.every i (ap (λ l. get_or l 0 (parts 0 0)) e)) (rest.every items (ap (λ l. drop 1 l) e))
+
+-- The same, with the numbers that the items have.
+pub with-parts : (Q : List Item → Type 0) (ps : List FormatItem) → AreItemsOf ps Q → AreItemsOf ps (λ l. Q l × (ps ≡ map item_parts l))
+with-parts Q ps found = record { items = found.items; parts_are = found.parts_are; every = λ l e. (found.every l e, e) }
+
+-- These numbers are only this item.
+pub only-item : (P : Item → Type 0) (p : FormatItem) (i : Item) → p ≡ item_parts i → ((j : Item) → item_parts i ≡ item_parts j → j ≡ i) → P i → IsItemOf p P
+only-item P p i is one has = record { item = i; part_is = is; every = λ j e. subst P (sym (one j (sym is ∙ e))) has }
+
+-- No numbers are no items.
+none-has : (f : Fields) (text : List ℕ) → HasFields [] f f text text
+none-has f text = record {
+  fit = tt;
+  in_range = refl;
+  text_is = refl;
+  kept = λ c e. refl;
+  marked = λ c h. refl;
+  shown = λ before are. subst (λ l. AreShown l f.shown) (sym (append-nil before)) are;
+}
+
+pub none-scanned : (f : Fields) (text : List ℕ) (ps : List FormatItem) → length ps < 1 → AreItemsOf ps (ScansItems f f text text)
+none-scanned f text (p ∷ ps) low = absurd (omega (arith, low))
+none-scanned f text [] low = record { items = []; parts_are = refl; every = every }
+  where
+    every : (others : List Item) → [] ≡ map item_parts others → ScansItems f f text text others
+    every [] e = record { has = none-has f text; apart = refl }
+    every (i ∷ others) e = absurd (omega (arith, ap length e))
+
+-- The items begin with one that no digit begins.
+pub begins-first : (ps : List FormatItem) (i : Item) → 1 ≤ length ps → get_or ps 0 (parts 0 0) ≡ item_parts i → ((j : Item) → item_parts i ≡ item_parts j → IsTrue (is_apart j)) → (items : List Item) → ps ≡ map item_parts items
+    → IsTrue (begins_apart items)
+begins-first [] i some e apart items f = absurd (omega (arith, some))
+begins-first (p ∷ ps) i some e apart [] f = refl
+begins-first (p ∷ ps) i some e apart (j ∷ items) f = first-or (is_apart j) _ (apart j (sym e ∙ ap (λ l. get_or l 0 (parts 0 0)) f))
+
+pub byte-apart : (b : ℕ) → IsTrue (nat_lt b 48 || nat_lt 57 b) → (j : Item) → item_parts (item.Literal b) ≡ item_parts j → IsTrue (is_apart j)
+byte-apart b h j e = subst (λ i. IsTrue (is_apart i)) (sym (byte-one b j e)) h
+
+pub name-apart : (k : Name) (j : Item) → item_parts (item.Name k) ≡ item_parts j → IsTrue (is_apart j)
+name-apart k (item.Name l) e = refl
+name-apart k (item.Signed d p) e = refl
+name-apart k item.OffsetSign e = refl
+name-apart k item.TimestampSign e = refl
+name-apart k (item.Literal b) e = absurd (omega (arith, ap (λ p. p.kind) e))
+name-apart k (item.Number d padding.Zero) e = absurd (omega (arith, ap (λ p. p.kind) e))
+name-apart k (item.Number d padding.Space) e = absurd (omega (arith, ap (λ p. p.kind) e))
+name-apart k (item.Number d padding.None) e = absurd (omega (arith, ap (λ p. p.kind) e))
+name-apart k item.Fraction e = absurd (omega (arith, ap (λ p. p.kind) e))
+name-apart k item.Decimals e = absurd (omega (arith, ap (λ p. p.kind) e))
+name-apart k item.TimestampMinus e = absurd (omega (arith, ap (λ p. p.kind) e))
+name-apart k item.OffsetMinus e = absurd (omega (arith, ap (λ p. p.kind) e))
+name-apart k item.Abbreviation e = absurd (omega (arith, ap (λ p. p.kind) e))
 
 pub format-of : (f : FormatParts) (ps : List FormatItem) (P Q : List Item → Type 0) → f.length ≤ 64 → ps ≡ take f.length f.items → length ps ≡ f.length → AreItemsOf ps P → ((items : List Item) → P items → Q items)
     → IsFormatOf f Q

@@ -8,6 +8,7 @@ pub mod Moments
 pub mod Schedule
 pub mod Weekmasks
 pub mod TextColumns
+pub mod IsoColumns
 pub mod RecurrenceTexts
 pub mod Recurrences
 pub mod RecurrenceParts

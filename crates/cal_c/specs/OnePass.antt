@@ -1,8 +1,10 @@
 -- What holds of the items with some numbers.
 use Rattle.std.specs.Prelude.{◌≡◌, ℕ, ◌+◌, List, [], ◌++◌, length, take, map, IsTrue}
+use Rattle.cal_format.specs.declared.fields.Fields.{Fields}
 use Rattle.cal_format.specs.declared.item.Item.{Item}
 use Rattle.cal_format.specs.declared.moment.Moment.{Moment}
-use Rattle.cal_format.specs.Reading.{shows_within, show_within}
+use Rattle.cal_format.specs.Reading.{ends_before, are_apart, shows_within, show_within}
+use Rattle.cal_format.specs.Scanning.{HasField, HasFields}
 use Rattle.cal_format.specs.Text.{item_text, text_of}
 use Rattle.cal_c.specs.Formats.{item_parts, HasItems, IsFormat}
 use Rattle.cal_c.specs.declared.formats.format_parts.FormatItem.{FormatItem}
@@ -24,6 +26,16 @@ pub record AreItemsOf (parts : List FormatItem) (P : List Item → Type 0) : Typ
 pub record IsFormatOf (f : FormatParts) (P : List Item → Type 0) : Type 0 where
   pub format : IsFormat f
   pub every : (items : List Item) → HasItems f items → P items
+
+-- An item was parsed at the front of a text, and the items after it can't continue it.
+pub record ScansItem (old new : Fields) (text rest : List ℕ) (others : List FormatItem) (i : Item) : Type 0 where
+  pub has : HasField i old new text rest
+  pub apart : (items : List Item) → others ≡ map item_parts items → IsTrue (ends_before i items)
+
+-- The same of items.
+pub record ScansItems (old new : Fields) (text rest : List ℕ) (items : List Item) : Type 0 where
+  pub has : HasFields items old new text rest
+  pub apart : IsTrue (are_apart items)
 
 -- An item shows only components of a range, and its text stands in the buffer between two positions.
 pub record PrintsItem (low high : ℕ) (v : Moment) (old new : List ℕ) (at end : ℕ) (i : Item) : Type 0 where

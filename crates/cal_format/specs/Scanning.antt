@@ -1,19 +1,22 @@
 -- Numbers and names of a text, read item by item.
-use Rattle.std.specs.Prelude.{◌≡◌, ◌≢◌, ℕ, ◌<◌, ◌≤◌, ◌^◌, ◌++◌, ◌||◌, IsTrue, List, [], ◌∷◌, Option, Some, None, false, get_or, if◌then◌else◌, ◌==◌, ℤ, pos, neg_ℤ}
+use Rattle.std.specs.Prelude.{◌≡◌, ◌≢◌, ℕ, ◌+◌, ◌*◌, ◌/◌, ◌%◌, ◌<◌, ◌≤◌, ◌^◌, ◌++◌, ◌||◌, IsTrue, List, [], ◌∷◌, Option, Some, None, false, get_or, if◌then◌else◌, ◌==◌, ℤ, pos, neg_ℤ}
 use Rattle.cal_text.specs.Shape.{Shape, unmatched_bytes}
-use Rattle.cal_time.specs.Date.{IsDate, HasCalendarDate}
+use Rattle.cal_time.specs.Date.{IsDate, HasCalendarDate, HasOrdinalDate, weekday_at}
+use Rattle.cal_time.specs.IsoWeekDate.{HasIsoWeekDate}
+use Rattle.cal_time.specs.Time.{IsTime, hour_of, minute_of, second_of, nanosecond_of}
+use Rattle.cal_datetime.specs.DateTime.{IsDateTime, time_at}
 use Rattle.cal_format.specs.declared.fields.Fields.{Fields}
 use Rattle.cal_format.specs.declared.item.Item.{Item}
 use Rattle.cal_format.specs.declared.item.Item.TheVariants as item
 use Rattle.cal_format.specs.declared.item.Component.{Component}
-use Rattle.cal_format.specs.declared.item.Component.TheVariants.{Year, Month, Day}
+use Rattle.cal_format.specs.declared.item.Component.TheVariants.{Year, IsoYear, Month, Day, Ordinal, IsoWeek, Weekday, Hour, Hour12, Minute, Second, Period, Millisecond, Microsecond, Nanosecond}
 use Rattle.cal_format.specs.declared.moment.Moment.{Moment}
 use Rattle.cal_format.specs.Form.{ItemShape, numbered_item, numbered_text, IsNumber, AreNumbers}
-use Rattle.cal_format.specs.Moment.{number, width_of, moment_of_date}
+use Rattle.cal_format.specs.Moment.{number, width_of, moment_of_date, moment_of_time, moment_of_date_time}
 use Rattle.cal_format.specs.Ranges.{item_error, first_range_error}
 use Rattle.cal_format.specs.Text.{sign, text_of}
-use Rattle.cal_format.specs.Reading.{DeterminesDate, index, mark_of, item_component, shows, any_shows}
-use Rattle.cal_format.specs.Shown.{AreShown, is_calendar}
+use Rattle.cal_format.specs.Reading.{DeterminesDate, DeterminesTime, DeterminesDateTime, holds_time, index, mark_of, item_component, shows, any_shows}
+use Rattle.cal_format.specs.Shown.{AreShown, is_calendar, is_ordinal, is_week, is_clock}
 
 -- The number of a component in the fields of a text.
 abbrev pub number_at : Component → Fields → ℕ
@@ -59,14 +62,49 @@ pub record HasFields (items : List Item) (old new : Fields) (text rest : List �
   pub marked : (c : Component) → IsTrue (mark_of c old.shown.marks) → number_at c new ≡ number_at c old
   pub shown : (before : List Item) → AreShown before old.shown → AreShown (before ++ items) new.shown
 
--- The fields have the numbers of a year, a month and a day, and of nothing else. This is their date.
-pub record IsDateOfFields (f : Fields) (n : ℕ) : Type 0 where
+-- A day has the numbers of the calendar date, the ordinal date or the week date in the fields.
+pub record HasDateNumbers (f : Fields) (n : ℕ) : Type 0 where
+  pub calendar : IsTrue (is_calendar f.shown.marks) → HasCalendarDate (pos (number_at Year f)) (number_at Month f) (number_at Day f) n
+  pub ordinal : IsTrue (is_ordinal f.shown.marks) → HasOrdinalDate (pos (number_at Year f)) (number_at Ordinal f) n
+  pub week : IsTrue (is_week f.shown.marks) → HasIsoWeekDate (pos (number_at IsoYear f)) (number_at IsoWeek f) ((number_at Weekday f + 6) % 7) n
+
+-- The fields have the numbers of one of these dates, of a year from 0 to 9999, and of nothing else
+-- of a date but the weekday. This day has the numbers of the date, and no other day has.
+pub record IsNumberedDate (f : Fields) (n : ℕ) : Type 0 where
   pub date : IsDate n
-  pub fixed : IsTrue f.shown.is_fixed
-  pub calendar : IsTrue (is_calendar f.shown)
+  pub shape : IsTrue (is_calendar f.shown.marks || (is_ordinal f.shown.marks || is_week f.shown.marks))
   pub year : number_at Year f ≤ 9_999
-  pub has : HasCalendarDate (pos (number_at Year f)) (number_at Month f) (number_at Day f) n
-  pub every : (w : ℕ) → IsDate w → HasCalendarDate (pos (number_at Year f)) (number_at Month f) (number_at Day f) w → w ≡ n
+  pub iso_year : number_at IsoYear f ≤ 9_999
+  pub has : HasDateNumbers f n
+  pub only : (w : ℕ) → IsDate w → HasDateNumbers f w → w ≡ n
+
+-- This day also has the weekday of the fields.
+pub record IsDateOfFields (f : Fields) (n : ℕ) : Type 0 where
+  pub numbered : IsNumberedDate f n
+  pub weekday : IsTrue (mark_of Weekday f.shown.marks) → number_at Weekday f ≡ weekday_at n + 1
+
+-- An hour has the number in the fields, or the number with its half of the day.
+pub record HasHour (f : Fields) (h : ℕ) : Type 0 where
+  pub hour : IsTrue (mark_of Hour f.shown.marks) → number_at Hour f ≡ h
+  pub hour12 : mark_of Hour f.shown.marks ≡ false → (number_at Hour12 f ≡ (h + 11) % 12 + 1) × (number_at Period f ≡ h / 12)
+
+-- The nanoseconds of a second: nanoseconds, microseconds or milliseconds.
+abbrev pub nanosecond_at : Fields → ℕ
+nanosecond_at f =
+    if mark_of Nanosecond f.shown.marks then number_at Nanosecond f
+    else (if mark_of Microsecond f.shown.marks then number_at Microsecond f * 1_000
+    else (if mark_of Millisecond f.shown.marks then number_at Millisecond f * 1_000_000
+    else 0))
+
+-- The fields have the numbers of a time of day, one number for each of its parts. This is their
+-- time of day.
+pub record IsTimeOfFields (f : Fields) (t : ℕ) : Type 0 where
+  pub time : IsTime t
+  pub shape : IsTrue (is_clock f.shown.marks)
+  pub hour : HasHour f (hour_of t)
+  pub minute : number_at Minute f ≡ minute_of t
+  pub second : number_at Second f ≡ second_of t
+  pub nanosecond : nanosecond_at f ≡ nanosecond_of t
 
 -- The seconds with this sign, which is 1 for minus.
 abbrev pub signed_seconds : ℕ → ℕ → ℤ
@@ -89,3 +127,19 @@ pub record IsOneDate (items : List Item) (n : ℕ) (text : List ℕ) : Type 0 wh
   pub held : AreHeld (moment_of_date n) items
   pub text_is : text ≡ text_of items (moment_of_date n)
   pub every : (w : ℕ) → IsDate w → AreHeld (moment_of_date w) items → text ≡ text_of items (moment_of_date w) → w ≡ n
+
+-- The same of a time of day, and of a date-time.
+pub record IsOneTime (items : List Item) (t : ℕ) (text : List ℕ) : Type 0 where
+  pub determines : DeterminesTime items
+  pub time : IsTime t
+  pub holds : IsTrue (holds_time items t)
+  pub text_is : text ≡ text_of items (moment_of_time t)
+  pub every : (u : ℕ) → IsTime u → IsTrue (holds_time items u) → text ≡ text_of items (moment_of_time u) → u ≡ t
+
+pub record IsOnePair (items : List Item) (z : ℤ) (text : List ℕ) : Type 0 where
+  pub determines : DeterminesDateTime items
+  pub range : IsDateTime z
+  pub held : AreHeld (moment_of_date_time z) items
+  pub holds : IsTrue (holds_time items (time_at z))
+  pub text_is : text ≡ text_of items (moment_of_date_time z)
+  pub every : (y : ℤ) → IsDateTime y → AreHeld (moment_of_date_time y) items → IsTrue (holds_time items (time_at y)) → text ≡ text_of items (moment_of_date_time y) → y ≡ z

@@ -1,9 +1,9 @@
 -- The components that items show.
-use Rattle.std.specs.Prelude.{◌≡◌, ℕ, ◌+◌, List, [], ◌∷◌, min, max, Option, Some, None, Bool, true, false, nat_le, not, ◌&&◌, ◌||◌}
+use Rattle.std.specs.Prelude.{◌≡◌, ℕ, ◌+◌, List, [], ◌∷◌, min, max, Option, Some, None, Bool, true, false, nat_le, not, ◌&&◌, ◌||◌, if◌then◌else◌}
 use Rattle.cal_format.specs.declared.item.Item.{Item}
 use Rattle.cal_format.specs.declared.item.Item.TheVariants as item
 use Rattle.cal_format.specs.declared.item.Component.{Component}
-use Rattle.cal_format.specs.declared.item.Component.TheVariants.{Year, Century, YearOfCentury, IsoYear, Month, Day}
+use Rattle.cal_format.specs.declared.item.Component.TheVariants.{Year, Century, YearOfCentury, IsoYear, Month, Day, Ordinal, IsoWeek, Weekday, DaysFromMonday, DaysFromSunday, SundayWeekday, SundayWeek, MondayWeek, Hour, Hour12, Minute, Second, Period, Subsecond1, Subsecond2, Millisecond, Subsecond4, Subsecond5, Microsecond, Subsecond7, Subsecond8, Nanosecond}
 use Rattle.cal_format.specs.declared.item.Padding.TheVariants as padding
 use Rattle.cal_format.specs.declared.shown.Shown.{Shown}
 use Rattle.cal_format.specs.Reading.{index, item_component, any_shows, mark_of}
@@ -54,7 +54,41 @@ pub record AreShown (items : List Item) (s : Shown) : Type 0 where
   pub end : s.end ≡ highest items
   pub fixed : s.is_fixed ≡ are_fixed items
 
--- Only a year, a month and a day are shown.
-abbrev pub is_calendar : Shown → Bool
-is_calendar s =
-    nat_le s.end 6 && (mark_of Year s.marks && (mark_of Month s.marks && (mark_of Day s.marks && not (mark_of Century s.marks || (mark_of YearOfCentury s.marks || mark_of IsoYear s.marks)))))
+-- A component of a date is shown that no calendar date, ordinal date or week date has.
+abbrev pub shows_rare : List Bool → Bool
+shows_rare m =
+    mark_of Century m || (mark_of YearOfCentury m || (mark_of DaysFromMonday m || (mark_of DaysFromSunday m || (mark_of SundayWeekday m || (mark_of SundayWeek m || mark_of MondayWeek m)))))
+
+-- A calendar date is shown, perhaps with its weekday, or an ordinal date, or a week date, and no
+-- other component of a date.
+abbrev pub is_calendar : List Bool → Bool
+is_calendar m =
+    (mark_of Year m && (mark_of Month m && mark_of Day m)) && not (mark_of IsoYear m || (mark_of Ordinal m || (mark_of IsoWeek m || shows_rare m)))
+
+abbrev pub is_ordinal : List Bool → Bool
+is_ordinal m =
+    (mark_of Year m && mark_of Ordinal m) && not (mark_of IsoYear m || (mark_of Month m || (mark_of Day m || (mark_of IsoWeek m || (mark_of Weekday m || shows_rare m)))))
+
+abbrev pub is_week : List Bool → Bool
+is_week m =
+    (mark_of IsoYear m && (mark_of IsoWeek m && mark_of Weekday m)) && not (mark_of Year m || (mark_of Month m || (mark_of Day m || (mark_of Ordinal m || shows_rare m))))
+
+-- An hour is shown, by one number or by a half of the day, and no second without a minute, no part
+-- of a second without a second, and at most one such part, in milliseconds, microseconds or
+-- nanoseconds.
+abbrev pub shows_hour_once : List Bool → Bool
+shows_hour_once m = if mark_of Hour m then not (mark_of Hour12 m || mark_of Period m) else mark_of Hour12 m && mark_of Period m
+
+abbrev pub shows_rare_part : List Bool → Bool
+shows_rare_part m = mark_of Subsecond1 m || (mark_of Subsecond2 m || (mark_of Subsecond4 m || (mark_of Subsecond5 m || (mark_of Subsecond7 m || mark_of Subsecond8 m))))
+
+abbrev pub shows_one_part : List Bool → Bool
+shows_one_part m =
+    if mark_of Nanosecond m then not (mark_of Microsecond m || mark_of Millisecond m) else not (mark_of Microsecond m && mark_of Millisecond m)
+
+abbrev pub shows_part : List Bool → Bool
+shows_part m = mark_of Nanosecond m || (mark_of Microsecond m || mark_of Millisecond m)
+
+abbrev pub is_clock : List Bool → Bool
+is_clock m =
+    shows_hour_once m && ((mark_of Minute m || not (mark_of Second m)) && ((mark_of Second m || not (shows_part m)) && (shows_one_part m && not (shows_rare_part m))))

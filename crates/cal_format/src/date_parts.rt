@@ -103,7 +103,7 @@ pub(crate) fn calendar_date(year: u64, month: u64, day: u64) -> Option<Date>
     }
 }
 
-fn ordinal_date(year: u64, ordinal: u64) -> Option<Date>
+pub(crate) fn ordinal_date(year: u64, ordinal: u64) -> Option<Date>
     requires { (year < 10000) × (ordinal < 1000) }
     ensures every { (n : ℕ) → IsDate n → HasOrdinalDate (pos year) ordinal n → result ≡ Some n }
     ensures in_range { IfSome result IsDate }
@@ -112,7 +112,7 @@ fn ordinal_date(year: u64, ordinal: u64) -> Option<Date>
     Date::from_ordinal_date(year as i32, ordinal as u16).ok()
 }
 
-fn iso_week_date(year: u64, week: u64, weekday: u8) -> Option<Date>
+pub(crate) fn iso_week_date(year: u64, week: u64, weekday: u8) -> Option<Date>
     requires { (year < 10000) × (week < 100) × (weekday < 7) }
     ensures every { (n : ℕ) → IsDate n → HasIsoWeekDate (pos year) week weekday n
         → result ≡ Some n }

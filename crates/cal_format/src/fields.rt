@@ -1,17 +1,22 @@
 //! The numbers of components.
-ghost use Rattle.std.specs.Prelude.{◌≡◌, ℕ, ◌==◌, [], false, IsTrue, IfSome, IfNone, if◌then◌else◌};
+ghost use Rattle.std.specs.Prelude.{◌≡◌, ℕ, ◌+◌, ◌%◌, ◌<◌, ◌≤◌, ◌==◌, List, [], false, pos, Some, IsTrue, IfSome, IfNone, if◌then◌else◌};
+ghost use Rattle.cal_time.specs.Date.{IsDate, HasCalendarDate, HasOrdinalDate};
+ghost use Rattle.cal_time.specs.IsoWeekDate.{HasIsoWeekDate};
 ghost use Rattle.cal_format.specs.declared.item.Component.{Component};
-ghost use Rattle.cal_format.specs.Reading.{index, mark_of, is_component, item_component};
+ghost use Rattle.cal_format.specs.declared.item.Component.TheVariants.{Year, IsoYear, Month, Day, Ordinal, IsoWeek, Weekday};
+ghost use Rattle.cal_format.specs.declared.item.Item.{Item};
+ghost use Rattle.cal_format.specs.Reading.{index, mark_of, is_component, item_component, show_within};
 ghost use Rattle.cal_format.specs.Values.{number_in};
-ghost use Rattle.cal_format.specs.Scanning.{number_at, field_of, HasField, IsNoField, IsDateOfFields};
+ghost use Rattle.cal_format.specs.Scanning.{number_at, field_of, HasField, IsNoField, IsNumberedDate, IsDateOfFields, HasHour, nanosecond_at, IsTimeOfFields};
 ghost use Rattle.cal_format.specs.Shown.{AreShown};
 
-use crate::date_parts::calendar_date;
+use crate::date_parts::{calendar_date, iso_week_date, ordinal_date};
 use crate::form::scan_item;
 use crate::item::{Component, Item};
 use crate::shown::Shown;
+use crate::time_parts::time_with;
 use cal_text::Scanner;
-use cal_time::Date;
+use cal_time::{Date, Time};
 
 /// The numbers that a text has for components, and 0 for each component without a number.
 #[derive(Debug, Drop)]
@@ -75,27 +80,181 @@ impl Fields {
         }
     }
 
-    /// Returns the date of the numbers of a year, a month and a day. Returns `None` if no date has
-    /// them, if other components have numbers too, or if an item of a width that varies was parsed.
-    /// The numbers 2024, 2 and 29 have the date 2024-02-29.
-    pub fn calendar_date(&self) -> Option<Date>
+    /// Returns `true` if the items that were parsed show only components with an index from `low` to
+    /// below `high`. Dates have the indices from 0 to 13, and times of day from 14 to 27.
+    #[inline(always)]
+    pub fn are_within(&self, low: usize, high: usize) -> bool
+        requires { (low ≤ 34) × (high ≤ 34) }
+        ensures { (items : List Item) → AreShown items self.now.shown
+            → result ≡ show_within low high items }
+    {
+        self.shown.is_within(low, high)
+    }
+
+    /// Returns the date of the numbers of a calendar date, perhaps with its weekday, of an ordinal
+    /// date or of a week date. Returns `None` if no date has them, or if other components of a date
+    /// have numbers too. The numbers 2024, 2 and 29 have the date 2024-02-29.
+    pub fn date(&self) -> Option<Date>
         ensures value { IfSome result (IsDateOfFields self.now) }
         ensures none { IfNone result ((n : ℕ) → ¬ IsDateOfFields self.now n) }
     {
-        if !self.shown.is_fixed() {
+        let date = self.numbered_date()?;
+        if self.shown.shows(Component::Weekday) {
+            let weekday = u64::from(date.weekday().number_from_monday());
+            if self.get(Component::Weekday) != weekday {
+                return None;
+            }
+        }
+        Some(date)
+    }
+
+    /// Returns the date of the numbers, whatever the number of the weekday beside them.
+    #[inline(always)]
+    fn numbered_date(&self) -> Option<Date>
+        ensures value { IfSome result (IsNumberedDate self.now) }
+        ensures none { IfNone result ((n : ℕ) → ¬ IsNumberedDate self.now n) }
+    {
+        if self.get(Component::Year) > 9_999 || self.get(Component::IsoYear) > 9_999 {
             return None;
         }
-        if !self.shown.is_calendar() {
-            return None;
+        if self.shown.is_calendar() {
+            let date = self.calendar_date()?;
+            return Some(date);
         }
-        let year = self.get(Component::Year);
+        if self.shown.is_ordinal() {
+            let date = self.ordinal_date()?;
+            return Some(date);
+        }
+        if self.shown.is_week() {
+            let date = self.week_date()?;
+            return Some(date);
+        }
+        None
+    }
+
+    #[inline(always)]
+    fn calendar_date(&self) -> Option<Date>
+        requires { number_at Year self.now ≤ 9_999 }
+        ensures every { (n : ℕ) → IsDate n
+            → HasCalendarDate (pos (number_at Year self.now)) (number_at Month self.now) (number_at Day self.now) n
+            → result ≡ Some n }
+        ensures in_range { IfSome result IsDate }
+        ensures value { IfSome result
+            (HasCalendarDate (pos (number_at Year self.now)) (number_at Month self.now) (number_at Day self.now)) }
+    {
         let month = self.get(Component::Month);
         let day = self.get(Component::Day);
-        if year > 9_999 || month > 99 || day > 99 {
+        if month > 99 || day > 99 {
             return None;
         }
-        let date = calendar_date(year, month, day)?;
-        Some(date)
+        calendar_date(self.get(Component::Year), month, day)
+    }
+
+    #[inline(always)]
+    fn ordinal_date(&self) -> Option<Date>
+        requires { number_at Year self.now ≤ 9_999 }
+        ensures every { (n : ℕ) → IsDate n
+            → HasOrdinalDate (pos (number_at Year self.now)) (number_at Ordinal self.now) n
+            → result ≡ Some n }
+        ensures in_range { IfSome result IsDate }
+        ensures value { IfSome result
+            (HasOrdinalDate (pos (number_at Year self.now)) (number_at Ordinal self.now)) }
+    {
+        let ordinal = self.get(Component::Ordinal);
+        if ordinal > 999 {
+            return None;
+        }
+        ordinal_date(self.get(Component::Year), ordinal)
+    }
+
+    #[inline(always)]
+    fn week_date(&self) -> Option<Date>
+        requires { number_at IsoYear self.now ≤ 9_999 }
+        ensures every { (n : ℕ) → IsDate n
+            → HasIsoWeekDate (pos (number_at IsoYear self.now)) (number_at IsoWeek self.now) ((number_at Weekday self.now + 6) % 7) n
+            → result ≡ Some n }
+        ensures in_range { IfSome result IsDate }
+        ensures value { IfSome result
+            (HasIsoWeekDate (pos (number_at IsoYear self.now)) (number_at IsoWeek self.now) ((number_at Weekday self.now + 6) % 7)) }
+    {
+        let week = self.get(Component::IsoWeek);
+        if week > 99 {
+            return None;
+        }
+        // Any number of a weekday fits: `date` rejects another one than the weekday of the day.
+        let weekday = (self.get(Component::Weekday) % 7 + 6) % 7;
+        iso_week_date(self.get(Component::IsoYear), week, weekday as u8)
+    }
+
+    /// Returns the time of day of the numbers, one for each of its parts. Returns `None` if no time
+    /// has them, or if other components of a time of day have numbers too. The numbers 11 and 59
+    /// have the time 11:59.
+    pub fn time(&self) -> Option<Time>
+        ensures value { IfSome result (IsTimeOfFields self.now) }
+        ensures none { IfNone result ((t : ℕ) → ¬ IsTimeOfFields self.now t) }
+    {
+        if !self.shown.is_clock() {
+            return None;
+        }
+        let hour = self.hour()?;
+        let minute = self.get(Component::Minute);
+        let second = self.get(Component::Second);
+        let nanosecond = self.nanosecond()?;
+        if minute > 59 || second > 59 {
+            return None;
+        }
+        Some(time_with(hour, minute as u8, second as u8, nanosecond))
+    }
+
+    /// Returns the hour.
+    #[inline(always)]
+    fn hour(&self) -> Option<u8>
+        ensures value { IfSome result (λ h. (h ≤ 23) × HasHour self.now h) }
+        ensures none { IfNone result ((h : ℕ) → h ≤ 23 → ¬ HasHour self.now h) }
+    {
+        if self.shown.shows(Component::Hour) {
+            let hour = self.get(Component::Hour);
+            return if hour <= 23 { Some(hour as u8) } else { None };
+        }
+        let hour = self.get(Component::Hour12);
+        let period = self.get(Component::Period);
+        if hour == 0 || hour > 12 || period > 1 {
+            return None;
+        }
+        Some((hour % 12 + period * 12) as u8)
+    }
+
+    /// Returns the nanoseconds of the second, or `None` if they are a second or more.
+    #[inline(always)]
+    fn nanosecond(&self) -> Option<u32>
+        ensures value { IfSome result (λ n. (n ≤ 999_999_999) × (nanosecond_at self.now ≡ n)) }
+        ensures none { IfNone result (999_999_999 < nanosecond_at self.now) }
+    {
+        if self.shown.shows(Component::Nanosecond) {
+            let nanosecond = self.get(Component::Nanosecond);
+            return if nanosecond <= 999_999_999 {
+                Some(nanosecond as u32)
+            } else {
+                None
+            };
+        }
+        if self.shown.shows(Component::Microsecond) {
+            let microsecond = self.get(Component::Microsecond);
+            return if microsecond <= 999_999 {
+                Some(microsecond as u32 * 1_000)
+            } else {
+                None
+            };
+        }
+        if self.shown.shows(Component::Millisecond) {
+            let millisecond = self.get(Component::Millisecond);
+            return if millisecond <= 999 {
+                Some(millisecond as u32 * 1_000_000)
+            } else {
+                None
+            };
+        }
+        Some(0)
     }
 
     /// Returns the number of a component.

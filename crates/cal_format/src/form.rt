@@ -92,6 +92,7 @@ fn scan_number(scanner: &mut Scanner, pad: Padding, component: Component) -> Opt
 {
     match pad {
         Padding::Zero => match component.width() {
+            1 => scan_one_digit(scanner),
             2 => scan_two_digits(scanner),
             3 => scan_three_digits(scanner),
             4 => scan_four_digits(scanner),
@@ -100,6 +101,17 @@ fn scan_number(scanner: &mut Scanner, pad: Padding, component: Component) -> Opt
         Padding::Space => scan_after_spaces(scanner, component.width() - 1),
         Padding::None => scan_decimal(scanner, component.most_digits() - 1),
     }
+}
+
+/// Parses one digit.
+#[inline(always)]
+fn scan_one_digit(scanner: &mut Scanner) -> Option<u64>
+    ensures scans { Scans (Digits 1) scanner.old.rest.now scanner.new.rest.now result }
+    ensures value { IfSome result (ParsesDigits scanner.old.rest.now scanner.new.rest.now 1) }
+    ensures range { IfSome result (λ n. n < 10) }
+{
+    let number = scanner.digit()?;
+    Some(u64::from(number))
 }
 
 /// Parses two digits.

@@ -1,8 +1,8 @@
 //! Parsing in one pass.
-ghost use Rattle.std.specs.Prelude.{◌≡◌, IsTrue, IfSome};
+ghost use Rattle.std.specs.Prelude.{◌≡◌, [], IsTrue, IfSome};
 ghost use Rattle.cal_format.specs.declared.moment.Moment.{Moment};
-ghost use Rattle.cal_format.specs.Reading.{are_apart};
-ghost use Rattle.cal_format.specs.Scanning.{fields_of, HasFields, IsOneDate};
+ghost use Rattle.cal_format.specs.Reading.{are_apart, DeterminesDate, DeterminesTime, DeterminesDateTime};
+ghost use Rattle.cal_format.specs.Scanning.{fields_of, HasFields, IsOneDate, IsOneTime, IsOnePair};
 ghost use Rattle.cal_format.specs.Text.{text_of};
 ghost use Rattle.cal_format.specs.Values.{Holds, IsPrinted, first_contradiction};
 
@@ -11,9 +11,10 @@ use crate::format::Format;
 use crate::item::Item;
 use crate::moment::Moment;
 use crate::parsing::find_moment;
+use cal_datetime::PlainDateTime;
 use cal_text::Scanner;
-use cal_time::Date;
 use cal_time::error::Component as Named;
+use cal_time::{Date, Time};
 
 /// Parses a text in one pass. Returns the moment that the items hold and print as this text, or
 /// `None` for another text, or if two items show the same component.
@@ -38,21 +39,57 @@ pub(crate) fn parse_once(items: &Format, text: &[u8]) -> Option<Moment>
     }
 }
 
-/// Parses the text of a date in one pass, by its year, its month and its day. Returns `None` for
-/// another text, and if the items show more or less.
-pub(crate) fn parse_calendar_once(items: &Format, text: &[u8]) -> Option<Date>
+/// Parses the text of a date in one pass. Returns `None` for another text, and if the items show
+/// more of a date than its numbers and its weekday.
+pub(crate) fn parse_date_once(items: &Format, text: &[u8]) -> Option<Date>
+    requires { DeterminesDate items.now }
     ensures { IfSome result (λ n. IsOneDate items.now n text.now) }
 {
     let mut fields = Fields::new();
-    let mut scanner = Scanner { rest: text };
-    if !scan_fields(items.items(), &mut scanner, &mut fields) {
+    if !scan_whole(items.items(), text, &mut fields) {
         return None;
     }
-    if !scanner.rest.is_empty() {
-        return None;
-    }
-    let date = fields.calendar_date()?;
+    let date = fields.date()?;
     Some(date)
+}
+
+/// Parses the text of a time of day in one pass. Returns `None` for another text, and if the items
+/// show a part of it by two numbers.
+pub(crate) fn parse_time_once(items: &Format, text: &[u8]) -> Option<Time>
+    requires { DeterminesTime items.now }
+    ensures { IfSome result (λ t. IsOneTime items.now t text.now) }
+{
+    let mut fields = Fields::new();
+    if !scan_whole(items.items(), text, &mut fields) {
+        return None;
+    }
+    let time = fields.time()?;
+    Some(time)
+}
+
+/// Parses the text of a date and a time of day in one pass, like `parse_date_once` and
+/// `parse_time_once`.
+pub(crate) fn parse_pair_once(items: &Format, text: &[u8]) -> Option<PlainDateTime>
+    requires { DeterminesDateTime items.now }
+    ensures { IfSome result (λ z. IsOnePair items.now z text.now) }
+{
+    let mut fields = Fields::new();
+    if !scan_whole(items.items(), text, &mut fields) {
+        return None;
+    }
+    let date = fields.date()?;
+    let time = fields.time()?;
+    Some(PlainDateTime::new(date, time))
+}
+
+/// Parses the items up to the end of a text, and sets the numbers of their components. Returns
+/// `false` at a byte that doesn't fit, or at a number out of range.
+#[inline(always)]
+fn scan_whole(items: &[Item], text: &[u8], fields: &mut Fields) -> bool
+    ensures { IsTrue result → HasFields items.now fields.old fields.new text.now [] }
+{
+    let mut scanner = Scanner { rest: text };
+    scan_fields(items, &mut scanner, fields) && scanner.rest.is_empty()
 }
 
 /// Parses the items at the front of a text, and sets the numbers of their components. Returns

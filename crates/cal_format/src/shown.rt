@@ -3,7 +3,7 @@ ghost use Rattle.std.specs.Prelude.{◌≡◌, ◌==◌, ◌≤◌, ◌++◌, �
 ghost use Rattle.cal_format.specs.declared.item.Component.{Component};
 ghost use Rattle.cal_format.specs.declared.item.Item.{Item};
 ghost use Rattle.cal_format.specs.Reading.{index, mark_of, item_component, shows};
-ghost use Rattle.cal_format.specs.Shown.{AreShown, low_of, end_of, is_fixed, is_calendar};
+ghost use Rattle.cal_format.specs.Shown.{AreShown, low_of, end_of, is_fixed, shows_rare, is_calendar, is_ordinal, is_week, shows_hour_once, shows_part, shows_one_part, shows_rare_part, is_clock};
 
 use crate::item::{Component, Item, Padding};
 
@@ -65,18 +65,128 @@ impl Shown {
         self.is_fixed
     }
 
-    /// Returns `true` if the items show a year, a month and a day, and nothing else.
+    /// Returns `true` if a calendar date is shown, perhaps with its weekday, and no other component
+    /// of a date.
+    #[inline(always)]
     pub(crate) fn is_calendar(&self) -> bool
-        ensures { result ≡ is_calendar self.now }
+        ensures { result ≡ is_calendar self.now.marks }
     {
-        let other = self.shows(Component::Century)
-            || self.shows(Component::YearOfCentury)
-            || self.shows(Component::IsoYear);
-        self.end <= 6
-            && self.shows(Component::Year)
+        let date = self.shows(Component::Year)
             && self.shows(Component::Month)
-            && self.shows(Component::Day)
-            && !other
+            && self.shows(Component::Day);
+        let other = self.shows(Component::IsoYear)
+            || self.shows(Component::Ordinal)
+            || self.shows(Component::IsoWeek);
+        date && !other && !self.shows_rare()
+    }
+
+    /// Returns `true` if an ordinal date is shown, and no other component of a date.
+    #[inline(always)]
+    pub(crate) fn is_ordinal(&self) -> bool
+        ensures { result ≡ is_ordinal self.now.marks }
+    {
+        let date = self.shows(Component::Year) && self.shows(Component::Ordinal);
+        let other = self.shows(Component::IsoYear)
+            || self.shows(Component::Month)
+            || self.shows(Component::Day)
+            || self.shows(Component::IsoWeek)
+            || self.shows(Component::Weekday);
+        date && !other && !self.shows_rare()
+    }
+
+    /// Returns `true` if a week date is shown, and no other component of a date.
+    #[inline(always)]
+    pub(crate) fn is_week(&self) -> bool
+        ensures { result ≡ is_week self.now.marks }
+    {
+        let date = self.shows(Component::IsoYear)
+            && self.shows(Component::IsoWeek)
+            && self.shows(Component::Weekday);
+        let other = self.shows(Component::Year)
+            || self.shows(Component::Month)
+            || self.shows(Component::Day)
+            || self.shows(Component::Ordinal);
+        date && !other && !self.shows_rare()
+    }
+
+    /// Returns `true` if a component of a date is shown that no calendar date, ordinal date or week
+    /// date has.
+    #[inline(always)]
+    fn shows_rare(&self) -> bool
+        ensures { result ≡ shows_rare self.now.marks }
+    {
+        self.shows(Component::Century)
+            || self.shows(Component::YearOfCentury)
+            || self.shows(Component::DaysFromMonday)
+            || self.shows(Component::DaysFromSunday)
+            || self.shows(Component::SundayWeekday)
+            || self.shows(Component::SundayWeek)
+            || self.shows(Component::MondayWeek)
+    }
+
+    /// Returns `true` if a time of day is shown, by one number for each of its parts.
+    #[inline(always)]
+    pub(crate) fn is_clock(&self) -> bool
+        ensures { result ≡ is_clock self.now.marks }
+    {
+        let minute = self.shows(Component::Minute);
+        let second = self.shows(Component::Second);
+        self.shows_hour_once()
+            && (minute || !second)
+            && (second || !self.shows_part())
+            && self.shows_one_part()
+            && !self.shows_rare_part()
+    }
+
+    /// Returns `true` if an hour is shown by one number, or by one and a half of the day.
+    #[inline(always)]
+    fn shows_hour_once(&self) -> bool
+        ensures { result ≡ shows_hour_once self.now.marks }
+    {
+        let hour12 = self.shows(Component::Hour12);
+        let period = self.shows(Component::Period);
+        if self.shows(Component::Hour) {
+            !(hour12 || period)
+        } else {
+            hour12 && period
+        }
+    }
+
+    /// Returns `true` if milliseconds, microseconds or nanoseconds are shown.
+    #[inline(always)]
+    fn shows_part(&self) -> bool
+        ensures { result ≡ shows_part self.now.marks }
+    {
+        self.shows(Component::Nanosecond)
+            || self.shows(Component::Microsecond)
+            || self.shows(Component::Millisecond)
+    }
+
+    /// Returns `true` if at most one of them is shown.
+    #[inline(always)]
+    fn shows_one_part(&self) -> bool
+        ensures { result ≡ shows_one_part self.now.marks }
+    {
+        let microsecond = self.shows(Component::Microsecond);
+        let millisecond = self.shows(Component::Millisecond);
+        if self.shows(Component::Nanosecond) {
+            !(microsecond || millisecond)
+        } else {
+            !(microsecond && millisecond)
+        }
+    }
+
+    /// Returns `true` if another part of the second is shown.
+    #[inline(always)]
+    fn shows_rare_part(&self) -> bool
+        ensures { result ≡ shows_rare_part self.now.marks }
+    {
+        self.shows(Component::Subsecond1)
+            || self.shows(Component::Subsecond2)
+            || self.shows(Component::Subsecond4)
+            || self.shows(Component::Subsecond5)
+            || self.shows(Component::Subsecond7)
+            || self.shows(Component::Subsecond8)
     }
 
     /// Returns `true` if the items show only components with an index from `low` to below `high`.

@@ -29,7 +29,7 @@ pub(crate) fn time_of(items: &Format, fields: &Fields) -> Time
 }
 
 /// Returns the time of day with these parts.
-fn time_with(hour: u8, minute: u8, second: u8, nanosecond: u32) -> Time
+pub(crate) fn time_with(hour: u8, minute: u8, second: u8, nanosecond: u32) -> Time
     requires { (hour ≤ 23) × (minute ≤ 59) × (second ≤ 59) × (nanosecond ≤ 999_999_999) }
     ensures value { result ≡ time_with hour minute second nanosecond }
     ensures in_range { IsTime result }

@@ -14,7 +14,7 @@ ghost use Rattle.cal_format.specs.Text.{text_of};
 use crate::determines::{shows_date, shows_moment, shows_offset, shows_time};
 use crate::error::ParseError;
 use crate::format::Format;
-use crate::one_pass::parse_calendar_once;
+use crate::one_pass::{parse_date_once, parse_pair_once, parse_time_once};
 use crate::value::{DATE_END, MOMENT_END, OFFSET_END, TIME_END};
 use cal_datetime::{OffsetDateTime, PlainDateTime};
 use cal_time::{Date, Time, UtcOffset};
@@ -199,10 +199,8 @@ impl DateFormat {
         ensures error { IfErr result (IsRejection self.now text.now) }
         ensures determines { DeterminesDate self.now }
     {
-        if self.format.shown.is_calendar() {
-            if let Some(date) = parse_calendar_once(&self.format, text) {
-                return Ok(date);
-            }
+        if let Some(date) = parse_date_once(&self.format, text) {
+            return Ok(date);
         }
         match self.format.parse(text) {
             Ok(moment) => Ok(moment.date),
@@ -228,6 +226,9 @@ impl TimeFormat {
         ensures error { IfErr result (IsRejection self.now text.now) }
         ensures determines { DeterminesTime self.now }
     {
+        if let Some(time) = parse_time_once(&self.format, text) {
+            return Ok(time);
+        }
         match self.format.parse(text) {
             Ok(moment) => Ok(moment.time),
             Err(error) => Err(error),
@@ -287,6 +288,9 @@ impl DateTimeFormat {
         ensures error { IfErr result (IsRejection self.now text.now) }
         ensures determines { DeterminesDateTime self.now }
     {
+        if let Some(date_time) = parse_pair_once(&self.format, text) {
+            return Ok(date_time);
+        }
         match self.format.parse(text) {
             Ok(moment) => Ok(PlainDateTime::new(moment.date, moment.time)),
             Err(error) => Err(error),

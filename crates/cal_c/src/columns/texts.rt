@@ -2,4 +2,5 @@
 mod durations;
 mod formats;
 mod formatting;
+mod iso;
 mod parsing;

@@ -1,23 +1,25 @@
 //! Printing and parsing by the numbers of a format in one pass, without a format of its own.
-ghost use Rattle.std.specs.Prelude.{◌≡◌, ◌*◌, ◌≤◌, List, None, IsTrue, IfSome, length};
+ghost use Rattle.std.specs.Prelude.{◌≡◌, ◌*◌, ◌≤◌, List, [], None, IsTrue, IfSome, length, map};
 ghost use Rattle.cal_format.specs.declared.item.Item.{Item};
 ghost use Rattle.cal_format.specs.Moment.{IsMoment};
-ghost use Rattle.cal_format.specs.Reading.{shows_within, show_within};
-ghost use Rattle.cal_format.specs.Scanning.{HasField, HasFields, IsOneDate};
+ghost use Rattle.cal_format.specs.Reading.{begins_apart, ends_before, shows_within, show_within};
+ghost use Rattle.cal_format.specs.Scanning.{IsOneDate, IsOneTime, IsOnePair};
 ghost use Rattle.cal_format.specs.Text.{text_of};
-ghost use Rattle.cal_c.specs.Formats.{HasItems, IsFormat};
+ghost use Rattle.cal_c.specs.Formats.{HasItems, IsFormat, item_parts};
 ghost use Rattle.cal_c.specs.FormatTexts.{IsPrinted, IsUnprinted, length_error};
-ghost use Rattle.cal_c.specs.OnePass.{IsItemOf, AreItemsOf, IsFormatOf, PrintsItem, PrintsItems};
+ghost use Rattle.cal_c.specs.OnePass.{IsItemOf, AreItemsOf, IsFormatOf, ScansItem, ScansItems, PrintsItem, PrintsItems};
 
+use super::components::component_with;
 use super::format_parts::{FormatItem, FormatParts};
 use super::iso_dates::{is_iso, parse_iso};
 use super::items::item_with;
 use super::printing::{MAX_LENGTH, write};
 use super::results::LengthResult;
 use crate::status::{INVALID_FORMAT, UNSUPPORTED_ITEM};
-use cal_format::{Component, Fields, Item, Moment, Name, Padding};
+use cal_datetime::PlainDateTime;
+use cal_format::{Component, Fields, Item, Moment, Padding};
 use cal_text::Scanner;
-use cal_time::Date;
+use cal_time::{Date, Time};
 
 /// Prints a moment by the items of a format, which may show only components with an index from
 /// `low` to below `high`.
@@ -127,15 +129,26 @@ fn print_part(
         IsItemOf part (PrintsItem low high moment.now buffer.old buffer.new at end)) }
     ensures fits { IfSome result (λ end. end ≤ length buffer.old) }
 {
-    match item_with(part)? {
-        Item::Literal(byte) => Item::Literal(byte).print(moment, buffer, at),
-        item if is_within(item, low, high) => item.print(moment, buffer, at),
-        _ => None,
+    // The usual items take a shorter way.
+    match part.kind {
+        0 => Item::Literal(part.value).print(moment, buffer, at),
+        1 => {
+            let item = Item::Number(component_with(part.value)?, Padding::Zero);
+            if is_within(item, low, high) {
+                item.print(moment, buffer, at)
+            } else {
+                None
+            }
+        }
+        _ => match item_with(part)? {
+            item if is_within(item, low, high) => item.print(moment, buffer, at),
+            _ => None,
+        },
     }
 }
 
-/// Parses a date by the items of a format, which may show only a year, a month and a day. Returns
-/// `None` for another format and for a text that isn't the text of a date.
+/// Parses a date by the items of a format. Returns `None` for another format and for a text that
+/// isn't the text of a date.
 pub(super) fn parse_date_at_once(text: &[u8], format: &FormatParts) -> Option<Date>
     ensures { IfSome result (λ n. IsFormatOf format.now (λ items. IsOneDate items n text.now)) }
 {
@@ -144,55 +157,151 @@ pub(super) fn parse_date_at_once(text: &[u8], format: &FormatParts) -> Option<Da
     }
     let parts = format.parts()?;
     let mut fields = Fields::new();
-    let mut scanner = Scanner { rest: text };
-    if !scan_parts(parts, &mut scanner, &mut fields) {
+    if !scan_whole(parts, text, &mut fields) {
         return None;
     }
-    if !scanner.rest.is_empty() {
+    if !fields.are_within(0, 14) {
         return None;
     }
-    let date = fields.calendar_date()?;
+    let date = fields.date()?;
     Some(date)
+}
+
+/// Parses a time of day by the items of a format, like `parse_date_at_once`.
+pub(super) fn parse_time_at_once(text: &[u8], format: &FormatParts) -> Option<Time>
+    ensures { IfSome result (λ t. IsFormatOf format.now (λ items. IsOneTime items t text.now)) }
+{
+    let parts = format.parts()?;
+    let mut fields = Fields::new();
+    if !scan_whole(parts, text, &mut fields) {
+        return None;
+    }
+    if !fields.are_within(14, 28) {
+        return None;
+    }
+    let time = fields.time()?;
+    Some(time)
+}
+
+/// Parses a date and a time of day by the items of a format, like `parse_date_at_once`.
+pub(super) fn parse_pair_at_once(text: &[u8], format: &FormatParts) -> Option<PlainDateTime>
+    ensures { IfSome result (λ z. IsFormatOf format.now (λ items. IsOnePair items z text.now)) }
+{
+    let parts = format.parts()?;
+    let mut fields = Fields::new();
+    if !scan_whole(parts, text, &mut fields) {
+        return None;
+    }
+    if !fields.are_within(0, 28) {
+        return None;
+    }
+    let date = fields.date()?;
+    let time = fields.time()?;
+    Some(PlainDateTime::new(date, time))
+}
+
+/// Parses the whole text by the items with these numbers. Returns `false` if one of them is not an
+/// item, or at a byte or a number that doesn't fit.
+#[inline(always)]
+fn scan_whole(parts: &[FormatItem], text: &[u8], fields: &mut Fields) -> bool
+    ensures { IsTrue result → AreItemsOf parts.now (λ items.
+        ScansItems fields.old fields.new text.now [] items) }
+{
+    let mut scanner = Scanner { rest: text };
+    scan_parts(parts, &mut scanner, fields) && scanner.rest.is_empty()
 }
 
 /// Parses the items with these numbers at the front of a text. Returns `false` if one of them is
 /// not an item, or at a byte or a number that doesn't fit.
 fn scan_parts(parts: &[FormatItem], scanner: &mut Scanner, fields: &mut Fields) -> bool
     ensures { IsTrue result → AreItemsOf parts.now (λ items.
-        HasFields items fields.old fields.new scanner.old.rest.now scanner.new.rest.now) }
+        ScansItems fields.old fields.new scanner.old.rest.now scanner.new.rest.now items) }
 {
     match parts {
         [] => true,
         [part, others @ ..] => {
-            scan_part(*part, scanner, fields) && scan_parts(others, scanner, fields)
+            scan_part(*part, others, scanner, fields) && scan_parts(others, scanner, fields)
         }
     }
 }
 
+/// Parses an item before these others.
 #[inline(always)]
-fn scan_part(part: FormatItem, scanner: &mut Scanner, fields: &mut Fields) -> bool
+fn scan_part(
+    part: FormatItem,
+    others: &[FormatItem],
+    scanner: &mut Scanner,
+    fields: &mut Fields,
+) -> bool
     ensures { IsTrue result → IsItemOf part (λ item.
-        HasField item fields.old fields.new scanner.old.rest.now scanner.new.rest.now) }
+        ScansItem fields.old fields.new scanner.old.rest.now scanner.new.rest.now others.now item) }
 {
-    match item_with(part) {
-        Some(item) if is_in_calendar(item) => fields.scan(item, scanner),
+    // The usual items take a shorter way.
+    match part.kind {
+        0 => fields.scan(Item::Literal(part.value), scanner),
+        1 => match component_with(part.value) {
+            Some(component) => fields.scan(Item::Number(component, Padding::Zero), scanner),
+            None => false,
+        },
+        _ => match item_with(part) {
+            Some(item) if is_plain(item, others) => fields.scan(item, scanner),
+            _ => false,
+        },
+    }
+}
+
+/// Returns `true` for a byte, a name, and a number of a fixed width or before a byte or a name that
+/// can't continue it. Other items end the pass early, and so do components with which
+/// `Fields::date` and `Fields::time` find no value.
+#[inline(always)]
+fn is_plain(item: Item, others: &[FormatItem]) -> bool
+    ensures { IsTrue result → (items : List Item) → others.now ≡ map item_parts items
+        → IsTrue (ends_before item items) }
+{
+    match item {
+        Item::Literal(_) | Item::Name(_) => true,
+        Item::Number(component, padding) => match padding {
+            Padding::Zero | Padding::Space => is_usual(component),
+            Padding::None => is_usual(component) && begin_apart(others),
+        },
         _ => false,
     }
 }
 
-/// Returns `true` for a byte and for a year, a month or a day of a fixed width. Other items end the
-/// pass early.
 #[inline(always)]
-fn is_in_calendar(item: Item) -> bool {
-    match item {
-        Item::Literal(_) | Item::Name(Name::Month | Name::ShortMonth) => true,
-        Item::Number(Component::Year | Component::Month | Component::Day, padding) => {
-            match padding {
-                Padding::Zero | Padding::Space => true,
-                Padding::None => false,
-            }
-        }
-        _ => false,
+fn is_usual(component: Component) -> bool {
+    match component {
+        Component::Century
+        | Component::YearOfCentury
+        | Component::DaysFromMonday
+        | Component::DaysFromSunday
+        | Component::SundayWeekday
+        | Component::SundayWeek
+        | Component::MondayWeek
+        | Component::Subsecond1
+        | Component::Subsecond2
+        | Component::Subsecond4
+        | Component::Subsecond5
+        | Component::Subsecond7
+        | Component::Subsecond8 => false,
+        _ => true,
+    }
+}
+
+/// Returns `true` if there are no more items, or if the next one is a byte that is not a digit, or a
+/// name.
+#[inline(always)]
+fn begin_apart(parts: &[FormatItem]) -> bool
+    ensures { IsTrue result → (items : List Item) → parts.now ≡ map item_parts items
+        → IsTrue (begins_apart items) }
+{
+    match parts {
+        [] => true,
+        [part, ..] => match item_with(*part) {
+            Some(Item::Literal(byte)) => byte < b'0' || byte > b'9',
+            Some(Item::Name(_)) => true,
+            _ => false,
+        },
     }
 }
 

@@ -11,7 +11,7 @@ ghost use Rattle.cal_c.specs.FormatParsing.{IsParsed, IsTextOfDate, IsTextOfTime
 ghost use Rattle.cal_c.specs.Texts.{no_position, parsed_date_ok, parsed_date_error_at, parsed_moment_ok, parsed_moment_error_at};
 
 use super::format_parts::FormatParts;
-use super::one_pass::parse_date_at_once;
+use super::one_pass::{parse_date_at_once, parse_pair_at_once, parse_time_at_once};
 use super::parse_results::{ParseOffsetResult, ParseTimeResult, status_and_position};
 use crate::status::{INSUFFICIENT_FORMAT, INVALID_FORMAT};
 use crate::texts::{ParseDateResult, ParseMomentResult};
@@ -81,6 +81,9 @@ pub extern "C" fn fots_time_parse_format(text: &[u8], format: &FormatParts) -> P
     ensures value { (items : List Item) → HasItems format.now items → DeterminesTime items
         → IsParsed (IsTextOfTime items text.now) (IsRejection items text.now) parsed_time_ok parsed_time_error_at result }
 {
+    if let Some(time) = parse_time_at_once(text, format) {
+        return ParseTimeResult::ok(time);
+    }
     parse_by_format!(text, format, for_times, parse_time, ParseTimeResult)
 }
 
@@ -120,6 +123,9 @@ pub extern "C" fn fots_pair_parse_format(text: &[u8], format: &FormatParts) -> P
     ensures value { (items : List Item) → HasItems format.now items → DeterminesDateTime items
         → IsParsed (IsTextOfPair items text.now) (IsRejection items text.now) parsed_pair_ok parsed_moment_error_at result }
 {
+    if let Some(date_time) = parse_pair_at_once(text, format) {
+        return ParseMomentResult::ok(date_time.assume_utc());
+    }
     parse_by_format!(text, format, for_date_times, parse_pair, ParseMomentResult)
 }
 

@@ -5,6 +5,13 @@ use Rattle.cal_time.specs.DateText.{digits_at_least}
 use Rattle.cal_format.proofs.Forms.{counted, mapped, mapped_both}
 use Rattle.cal_format.proofs.form.scan_number.Goals as goal
 
+pub returns-in-1-clause-value : goal.returns-in-1-clause-value
+returns-in-1-clause-value c =
+    let old = c.args.scanner.now.rest.now in
+    let new = c.scan_one_digit.new.scanner.rest.now in
+    rw (c.in-Zero.is, ← c.width.ensures.value, c.in-1.is)
+    (mapped (ParsesDigits old new 1) (λ n. old ≡ digits_at_least 1 n ++ new) _ (λ n h. (printed old new 1 n (omega arith) (omega arith) h).1) c.scan_one_digit.ensures.value)
+
 pub returns-in-2-clause-value : goal.returns-in-2-clause-value
 returns-in-2-clause-value c =
     let old = c.args.scanner.now.rest.now in

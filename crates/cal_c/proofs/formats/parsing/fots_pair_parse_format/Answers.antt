@@ -10,4 +10,4 @@ pub returns-clause-value : goal.returns-clause-value
 returns-clause-value c items has determines =
     let text = c.args.text.now in
     let P : List Item → Type 0 = λ xs. IsParsed (IsTextOfPair xs text) (IsRejection xs text) parsed_pair_ok parsed_moment_error_at c.parse_pair.result in
-    at_items P c.to_format.result c.in-Some.value items c.in-Some.is (c.to_format.ensures.every items has) (subst P c.in-Some-for_date_times.ensures.same c.parse_pair.ensures)
+    at_items P c.to_format.result c.in-Some-to_format.value items c.in-Some-to_format.is (c.to_format.ensures.every items has) (subst P c.in-Some-for_date_times.ensures.same c.parse_pair.ensures)

@@ -9,4 +9,4 @@ pub returns-clause-value : goal.returns-clause-value
 returns-clause-value c items has determines =
     let text = c.args.text.now in
     let P : List Item → Type 0 = λ xs. IsParsed (IsTextOfTime xs text) (IsRejection xs text) parsed_time_ok parsed_time_error_at c.parse_time.result in
-    at_items P c.to_format.result c.in-Some.value items c.in-Some.is (c.to_format.ensures.every items has) (subst P c.in-Some-for_times.ensures.same c.parse_time.ensures)
+    at_items P c.to_format.result c.in-Some-to_format.value items c.in-Some-to_format.is (c.to_format.ensures.every items has) (subst P c.in-Some-for_times.ensures.same c.parse_time.ensures)

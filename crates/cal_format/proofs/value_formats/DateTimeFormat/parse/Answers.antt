@@ -5,6 +5,7 @@ use Rattle.cal_datetime.specs.DateTimeLaws.{IsDateTime-date_time, date_at-date_t
 use Rattle.cal_format.specs.Moment.{moment_of_date_time}
 use Rattle.cal_format.specs.Reading.{holds_time, DeterminesDateTime}
 use Rattle.cal_format.specs.Rejection.{IsParsed}
+use Rattle.cal_format.specs.Scanning.{IsOnePair}
 use Rattle.cal_format.proofs.Outcomes.{result-or, no-result}
 use Rattle.cal_format.proofs.Moments.{date_time-holds}
 use Rattle.cal_format.proofs.Alike.{date_times-alike}
@@ -39,4 +40,14 @@ returns-in-Ok c =
           rw c.new.ensures.value (IsDateTime-date_time v.date v.time parsed.value.in_range.date below, alike.1 parsed.value.numbers, subst (λ n. IsTrue (holds_time c.args.self.now n)) (sym t) parsed.value.parts, parsed.value.text_is ∙ alike.0);
       error = tt;
       determines = determines;
+    }
+
+pub returns-in-Some : goal.returns-in-Some
+returns-in-Some c =
+    let one = subst (λ l. IsOnePair l c.in-Some.date_time c.args.text.now) c.self.view_is c.in-Some.ensures in
+    record {
+      every = λ z range held holds text. ap Ok (sym (one.every z range held holds text));
+      value = (one.range, one.held, one.holds, one.text_is);
+      error = tt;
+      determines = subst DeterminesDateTime c.self.view_is c.self.invariant;
     }

@@ -1,7 +1,8 @@
-use Rattle.std.proofs.Common.{ap, refl, subst, ◌∙◌, Ok, Err}
+use Rattle.std.proofs.Common.{ap, refl, subst, sym, ◌∙◌, Ok, Err}
 use Rattle.cal_format.specs.Moment.{moment_of_time}
 use Rattle.cal_format.specs.Reading.{DeterminesTime}
 use Rattle.cal_format.specs.Rejection.{IsParsed}
+use Rattle.cal_format.specs.Scanning.{IsOneTime}
 use Rattle.cal_format.proofs.Outcomes.{result-or, no-result}
 use Rattle.cal_format.proofs.Moments.{time-holds}
 use Rattle.cal_format.proofs.Alike.{times-alike}
@@ -28,4 +29,14 @@ returns-in-Ok c =
       value = (parsed.value.in_range.time, parsed.value.parts, parsed.value.text_is ∙ alike.0);
       error = tt;
       determines = determines;
+    }
+
+pub returns-in-Some : goal.returns-in-Some
+returns-in-Some c =
+    let one = subst (λ l. IsOneTime l c.in-Some.time c.args.text.now) c.self.view_is c.in-Some.ensures in
+    record {
+      every = λ t time holds text. ap Ok (sym (one.every t time holds text));
+      value = (one.time, one.holds, one.text_is);
+      error = tt;
+      determines = subst DeterminesTime c.self.view_is c.self.invariant;
     }
