@@ -177,10 +177,10 @@ pub mod iter {
 /// Recurrences of RFC 5545: rules of days and of times of day, sets, and their strings.
 pub mod recurrence {
     pub use crate::cal_recurrence::{
-        ClockUnit, CountedSet, CountedZonedSet, DateOrTime, DateTimeRule, DateTimeSet, DateTimeSetReadings, DayCursor,
-        Occurrences, ParseRuleError, ParseRuleErrorKind, ParseSetError, ParseSetErrorKind, ReadingCursor, Recurrence,
-        RecurrenceSet, RecurrenceSetDays, RecurrenceText, RuleCount, RuleEnd, RulePart, RuleReadings, SetDays, SetInstants,
-        SetLine, SetParts, SetReadings, TimesOfDay, ZoneName, ZonedSet, fold, parse, parse_days, parse_set, unfold,
+        ClockUnit, CountedSet, CountedZonedSet, DateOrTime, DateTimeRule, DateTimeSet, DateTimeSetReadings, DayCursor, Occurrences,
+        ParseRuleError, ParseRuleErrorKind, ParseSetError, ParseSetErrorKind, ReadingCursor, Recurrence, RecurrenceSet,
+        RecurrenceSetDays, RecurrenceText, RuleCount, RuleEnd, RulePart, RuleReadings, SetDays, SetInstants, SetLine, SetParts,
+        SetReadings, TimesOfDay, ZoneName, ZonedSet, fold, parse, parse_days, parse_set, unfold,
     };
     pub use crate::schedule::{ByDay, Frequency, Pattern, Rule, RuleDays, Values};
 }

@@ -9,7 +9,8 @@ use fotsevindre::Month::{December, February, January, July, June, November};
 use fotsevindre::Weekday::{Friday, Monday, Saturday, Sunday, Thursday, Tuesday, Wednesday};
 use fotsevindre::error::TooManyValues;
 use fotsevindre::recurrence::{
-    DateOrTime, DayCursor, ParseRuleError, ParseRuleErrorKind, ReadingCursor, RecurrenceSet, RuleCount, RuleEnd, RulePart, parse, parse_days,
+    DateOrTime, DayCursor, ParseRuleError, ParseRuleErrorKind, ReadingCursor, RecurrenceSet, RuleCount, RuleEnd, RulePart, parse,
+    parse_days,
 };
 use fotsevindre::schedule::{Pattern, Values};
 use fotsevindre::{ByDay, Date, Duration, Frequency, Month, OffsetDateTime, PlainDateTime, Rule, Time, Zone};
@@ -405,7 +406,9 @@ fn pages_of_sets() {
     let berlin = Zone::parse_posix("CET-1CEST,M3.5.0,M10.5.0/3").unwrap();
     let start = at(2024_03_30, 2, 30);
     let (dates, exceptions) = ([at(2024_04_01, 12, 0)], [at(2024_04_02, 2, 30)]);
-    for text in ["FREQ=DAILY;COUNT=300", "FREQ=HOURLY;COUNT=300", "FREQ=DAILY;BYHOUR=2,3;COUNT=301", "FREQ=DAILY;UNTIL=20240501T000000Z"] {
+    for text in
+        ["FREQ=DAILY;COUNT=300", "FREQ=HOURLY;COUNT=300", "FREQ=DAILY;BYHOUR=2,3;COUNT=301", "FREQ=DAILY;UNTIL=20240501T000000Z"]
+    {
         let recurrence = parse(text.as_bytes()).unwrap();
         let whole: Vec<_> = recurrence.counted_set(start, &dates, &exceptions).readings().collect();
         let (mut cursor, mut last, mut all) = (recurrence.reading_cursor(), PlainDateTime::MIN, Vec::new());
@@ -442,9 +445,12 @@ fn pages_of_sets() {
     assert!(cursor.left < 700 && cursor.last.is_some_and(|last| last >= at(2025_03_30, 2, 30)));
     // A cursor of nothing: the readings up to its own, and the first ones after it.
     let odd = ReadingCursor { last: Some(at(2024_04_02, 0, 0)), left: 1 };
-    assert!(recurrence.counted_set_at(start, odd, &[], &[]).readings().eq(
-        [2024_03_30, 2024_03_31, 2024_04_01, 2024_04_02].map(|day| at(day, 2, 30))
-    ));
+    assert!(
+        recurrence
+            .counted_set_at(start, odd, &[], &[])
+            .readings()
+            .eq([2024_03_30, 2024_03_31, 2024_04_01, 2024_04_02].map(|day| at(day, 2, 30)))
+    );
     let none = ReadingCursor { last: None, left: 0 };
     assert_eq!(recurrence.counted_set_at(start, none, &[], &[]).readings().next(), None);
 }
