@@ -19,7 +19,7 @@
  * FOTS_INVALID_DATE, FOTS_INVALID_TIME, FOTS_INVALID_OFFSET, FOTS_INVALID_DURATION,
  * FOTS_INVALID_WEEKDAY, FOTS_INVALID_MOMENT or FOTS_MONTH_OUT_OF_RANGE. Then come the errors that a
  * call lists, in their order. After an error each number is outside its type, such as FOTS_NO_VALUE
- * for a date, so that the next call rejects it. The manual lists the calls that accept every
+ * for a date, so that the next function rejects it. The manual lists the functions that accept every
  * number.
  *
  * No call allocates, keeps a pointer or has state, so any thread can make any call at any time,
@@ -124,8 +124,19 @@ typedef struct fots_workdays {
     uint32_t weekmask;
     uint32_t holidays_length;
     fots_date holidays[FOTS_MAX_HOLIDAYS]; /* in ascending order, then zeros */
-    uint16_t marked_before[1026]; /* the holidays before each index that are days of the weekmask, then 0 */
+    uint32_t marked_before[1025]; /* the holidays before each index that are days of the weekmask, then 0 */
 } fots_workdays;
+
+/* Working days with any number of holidays, which stay in the caller's memory. fots_workdays_view_count
+ * fills the second array. After another change results can be wrong, but no function reads past the
+ * arrays. */
+typedef struct fots_workdays_view {
+    uint32_t weekmask;
+    const fots_date *holidays; /* in ascending order */
+    size_t holidays_length;
+    const uint32_t *marked_before; /* as above */
+    size_t marked_before_length; /* holidays_length + 1 */
+} fots_workdays_view;
 
 /* The maximum number of items of a format, and the bytes that the text of each takes at most. */
 #define FOTS_MAX_ITEMS 64
@@ -155,7 +166,7 @@ typedef struct fots_format {
 #define FOTS_NO_COMPONENT UINT32_C(2147483648)
 #define FOTS_NO_TIME UINT64_MAX
 
-/* The status of a call. FOTS_YEAR_OUT_OF_RANGE to FOTS_TIMESTAMP_OUT_OF_RANGE and
+/* The status of a function. FOTS_YEAR_OUT_OF_RANGE to FOTS_TIMESTAMP_OUT_OF_RANGE and
  * FOTS_DAY_OUT_OF_RANGE to FOTS_WEEKDAY_OUT_OF_RANGE name a component that is out of range; the
  * range of the latter depends on other components. FOTS_YEARS_OUT_OF_RANGE to
  * FOTS_MINUTES_OUT_OF_RANGE name a part of a text of a duration. */
@@ -594,6 +605,16 @@ typedef struct fots_parse_repeated_dates_result {
     size_t position; /* as for a date */
 } fots_parse_repeated_dates_result;
 
+typedef struct fots_parse_repeated_pairs_result {
+    int32_t status;
+    fots_date start_date; /* or {FOTS_NO_VALUE} */
+    fots_time start_time; /* or FOTS_NO_TIME */
+    uint32_t count; /* as above */
+    uint32_t unused; /* 0 */
+    fots_period period;
+    size_t position; /* as for a date */
+} fots_parse_repeated_pairs_result;
+
 typedef struct fots_share_result {
     int32_t status;
     uint32_t common; /* the days in both ranges, or 0 */
@@ -819,6 +840,25 @@ enum fots_convention {
  * 2000-04-28 by FOTS_MODIFIED_FOLLOWING. */
 fots_date_result fots_workdays_adjust(const fots_workdays *workdays, fots_date date, uint32_t convention);
 
+/* Sorts dates in place, moves each of them to the front once, and returns how many these are. What
+ * stands behind them isn't specified. 2024-12-25, 2024-01-01 and 2024-12-25 become 2024-01-01 and
+ * 2024-12-25, and 2 is returned. */
+size_t fots_dates_sort(fots_date *dates, size_t dates_length);
+
+/* Checks a weekmask and any number of holidays once for a view, writes the number of holidays that are
+ * days of the weekmask before each index, and returns the number of all of these. Errors:
+ * FOTS_INVALID_WEEKMASK, and FOTS_INVALID_HOLIDAYS unless the holidays are dates in strictly ascending
+ * order and the second array has one place more than they. Sunday 2023-12-31 and 2024-01-01: 0, 0, 1. */
+fots_number_result fots_workdays_view_count(uint32_t weekmask, const fots_date *holidays, size_t holidays_length,
+    uint32_t *marked_before, size_t marked_before_length);
+
+/* The same as for fots_workdays. Errors of the view come first: FOTS_INVALID_WEEKMASK, and
+ * FOTS_INVALID_HOLIDAYS for wrong lengths. */
+fots_component_result fots_workdays_view_contains(const fots_workdays_view *view, fots_date date);
+fots_date_result fots_workdays_view_add(const fots_workdays_view *view, fots_date date, int32_t days);
+fots_number_result fots_workdays_view_between(const fots_workdays_view *view, fots_date date, fots_date other);
+fots_date_result fots_workdays_view_adjust(const fots_workdays_view *view, fots_date date, uint32_t convention);
+
 /* Known calendars of holidays. */
 enum fots_calendar {
     FOTS_TARGET = 0, /* the payment system of the euro, since 1999 */
@@ -850,7 +890,7 @@ enum fots_calendar {
 fots_number_result fots_calendar_holidays(uint32_t calendar, fots_date first, fots_date last, fots_date *holidays,
     size_t holidays_length);
 
-/* Add working days to dates, and count them between dates, like the calls for one date. */
+/* Add working days to dates, and count them between dates, like the functions for one date. */
 size_t fots_workdays_add_dates(const fots_workdays *workdays, const int32_t *dates, size_t dates_length, const int32_t *days,
     size_t days_length, int32_t *moved, size_t moved_length, uint8_t *statuses, size_t length);
 size_t fots_workdays_between_dates(const fots_workdays *workdays, const int32_t *dates, size_t dates_length, const int32_t *others,
@@ -924,7 +964,7 @@ static inline fots_rule fots_rule_new(fots_date start, uint32_t frequency)
     return rule;
 }
 
-/* The calls check the rule first: FOTS_INVALID_DATE for start and until, FOTS_INVALID_FREQUENCY,
+/* The functions check the rule first: FOTS_INVALID_DATE for start and until, FOTS_INVALID_FREQUENCY,
  * FOTS_INVALID_WEEKDAY for week_start, FOTS_TOO_MANY_PARTS, FOTS_MONTH_OUT_OF_RANGE,
  * FOTS_INVALID_WEEKDAY, FOTS_TOO_MANY_DATES, FOTS_INVALID_DATE for dates and exceptions; then
  * FOTS_INVALID_DATE for `date`. The examples have the last Fridays from 2024-01-01 on. */
@@ -1237,6 +1277,11 @@ fots_parse_pair_range_result fots_pair_interval_parse(const char *text, size_t l
  * FOTS_MISSING_START and FOTS_PERIOD_NOT_POSITIVE. */
 fots_parse_repeated_dates_result fots_repeated_dates_parse(const char *text, size_t length);
 
+/* Parses a repeated interval of dates and times, such as "R12/2024-01-31T09:00/P1M", to its start, its
+ * period and the number of its occurrences; fots_pair_nth_period returns each of them. Two ends repeat
+ * their exact duration. Errors: as for dates, but a period may have a duration. */
+fots_parse_repeated_pairs_result fots_repeated_pairs_parse(const char *text, size_t length);
+
 /* Return a duration or a period as such a text, without parts that are zero; "PT0S" if all are.
  * FOTS_INVALID_PERIOD. {5400, 0} is "PT1H30M". */
 fots_text_result fots_duration_text(fots_duration duration);
@@ -1289,7 +1334,7 @@ uint32_t fots_weeks_in_year(int32_t year);
 fots_pair_result fots_add_to_pair(fots_date date, fots_time time, fots_duration duration);
 fots_pair_result fots_sub_from_pair(fots_date date, fots_time time, fots_duration duration);
 
-/* Returns the date and time rounded as by fots_time_round, where 24:00 is the next date;
+/* Returns the date and time rounded as by fots_time_round; 24:00 is the next date;
  * FOTS_RESULT_OUT_OF_RANGE. 2024-02-29 23:50 to an hour by FOTS_HALF_CEIL is 2024-03-01 0:00. */
 fots_pair_result fots_pair_round(fots_date date, fots_time time, fots_duration unit, uint32_t mode);
 
@@ -1479,7 +1524,7 @@ fots_parse_offset_result fots_offset_parse_format(const char *text, size_t text_
 fots_parse_moment_result fots_pair_parse_format(const char *text, size_t text_length, const fots_format *format);
 fots_parse_moment_result fots_moment_parse_format(const char *text, size_t text_length, const fots_format *format);
 
-/* No pivot, in a call that takes one. */
+/* No pivot, for a function that takes one. */
 #define FOTS_NO_PIVOT (-1)
 
 /* Parse the text of a value that the format holds, or a variant of it (FORMATS.md): numbers with or
@@ -1500,7 +1545,7 @@ fots_parse_moment_result fots_moment_parse_leniently(const char *text, size_t te
  * FOTS_NO_TIME for a time, and 0 for a component with 8 or 16 bits, which the next call rejects. A
  * Unix time is INT64_MIN then, which fots_zone_offsets accepts, so check the status.
  *
- * A call returns the number of rows without a result. Each array is followed by its length. If the
+ * A function returns the number of rows without a result. Each array is followed by its length. If the
  * lengths differ, it writes nothing and returns FOTS_LENGTH_MISMATCH. A written array overlaps no
  * other, except that it may be an array of the same type that the call reads. */
 #define FOTS_LENGTH_MISMATCH SIZE_MAX
@@ -1605,7 +1650,7 @@ size_t fots_dates_format(const int32_t *dates, size_t dates_length, const fots_f
  * such as CET-1CEST,M3.5.0,M10.5.0/3, and where its changes are there. fots_zone_from_file and
  * fots_zone_from_posix check the bytes once, in 1.5 microseconds for Europe/Berlin. Keep them
  * unchanged while you use the zone; if they move, set the pointer. After a change by hand results
- * can be wrong, but no call reads past the bytes. A zone with other numbers than a call makes is an
+ * can be wrong, but no function reads past the bytes. A zone with other numbers than a function makes is an
  * invalid argument, FOTS_INVALID_ZONE. Unix times are in seconds. The examples are for
  * Europe/Berlin. */
 typedef struct fots_zone_clock {

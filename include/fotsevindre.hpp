@@ -1,6 +1,6 @@
-// Classes over the calls of fotsevindre.h for C++17 and later. The call of the same name there
+// Classes over the functions of fotsevindre.h for C++17 and later. The function of the same name there
 // documents ranges and errors: fots_moment_* for PlainDateTime and OffsetDateTime, fots_rule_* for
-// Rule, fots_recurrence_* for Recurrence. A call without a result throws an error, or returns an
+// Rule, fots_recurrence_* for Recurrence. A function without a result throws an error, or returns an
 // empty std::optional if the result is out of range.
 #ifndef FOTSEVINDRE_HPP
 #define FOTSEVINDRE_HPP
@@ -37,7 +37,7 @@ namespace fotsevindre {
 
 class Zone;
 
-// Thrown by a call without a result. status() says why.
+// Thrown by a function without a result. status() says why.
 class error : public std::runtime_error {
 public:
     explicit error(std::int32_t status, std::size_t position = SIZE_MAX)
@@ -104,7 +104,7 @@ private:
 
 namespace detail {
 
-// Marks a valid value from a call, which is not checked again.
+// Marks a valid value from a function, which is not checked again.
 struct Unchecked {};
 
 // Returns the result, or throws an error.
@@ -116,7 +116,7 @@ template <class Result> Result value_or_throw(Result result)
     return result;
 }
 
-// Returns the result of a call that parses a text, or throws an error with its position.
+// Returns the result of a function that parses a string, or throws an error with its position.
 template <class Result> Result parsed_or_throw(Result result)
 {
     if (result.status != FOTS_OK) {
@@ -131,7 +131,7 @@ inline fots_moment moment_or_throw(fots_parse_moment_result result)
     return {result.date, result.offset, result.time};
 }
 
-// Returns the result of a call that parses a recurrence, or throws a parse_rule_error.
+// Returns the result of a function that parses a recurrence, or throws a parse_rule_error.
 template <class Result> Result recurrence_or_throw(Result result)
 {
     if (result.status != FOTS_OK) {
@@ -151,7 +151,7 @@ inline std::string text(fots_text_result result)
     return std::string(value_or_throw(result).bytes, result.length);
 }
 
-// Returns the text that a call writes to a buffer.
+// Returns the string that a function writes to a buffer.
 template <class Call> std::string written(Call call)
 {
     char bytes[FOTS_MAX_ITEMS * FOTS_MAX_ITEM_LENGTH];
@@ -721,17 +721,22 @@ private:
 // so nothing drifts. To be read in a loop: for (const Date date : Steps(start, period)).
 template <class Value> class Steps {
 public:
-    // Parses a repeated interval of dates in ISO 8601, such as "R12/2024-01-31/P1M". They end after their
-    // number, or never in "R/2024-01-31/P1M".
+    // Parses a repeated interval in ISO 8601: of dates, such as "R12/2024-01-31/P1M", or of local
+    // date-times, such as "R12/2024-01-31T09:00/P1M" by Steps<PlainDateTime>. They end after their number,
+    // or never in "R/2024-01-31/P1M".
     static Steps parse(std::string_view text)
     {
-        static_assert(std::is_same<Value, Date>::value, "only dates are parsed");
-        const fots_parse_repeated_dates_result found = detail::parsed_or_throw(fots_repeated_dates_parse(detail::data(text), text.size()));
-        return Steps(Value(found.start, {}), Period(found.period, {}), found.count);
+        if constexpr (std::is_same<Value, Date>::value) {
+            const fots_parse_repeated_dates_result found = detail::parsed_or_throw(fots_repeated_dates_parse(detail::data(text), text.size()));
+            return Steps(Value(found.start, {}), Period(found.period, {}), found.count);
+        } else {
+            const fots_parse_repeated_pairs_result found = detail::parsed_or_throw(fots_repeated_pairs_parse(detail::data(text), text.size()));
+            return Steps(Value(Date(found.start_date, {}), Time(found.start_time, {})), Period(found.period, {}), found.count);
+        }
     }
     // Throws a std::invalid_argument if the period isn't positive, or has a duration and the start is a date.
     Steps(Value start, const Period &period) : Steps(start, period, 0) {}
-    // The same, of which there are only so many; 0 for all in the range.
+    // Only the first `count` of them; 0 for all in the range.
     Steps(Value start, const Period &period, std::uint32_t count) : start_(start), period_(period), count_(count)
     {
         if (!start.step_of(period, start)) {
@@ -884,30 +889,35 @@ enum class Calendar : std::uint32_t {
     DeTh = FOTS_DE_TH
 };
 
-// The days of a week without holidays: at most FOTS_MAX_HOLIDAYS, in strictly ascending order.
+// The days of a week without holidays, which are in strictly ascending order.
 class Workdays {
+    // Calls a function with a view of the working days.
+    template <class Function, class... Arguments> auto with_view(Function function, Arguments... arguments) const
+    {
+        const fots_workdays_view view = {weekmask_, holidays_.data(), holidays_.size(), marked_before_.data(), marked_before_.size()};
+        return function(&view, arguments...);
+    }
+
 public:
     // Takes Monday to Friday.
     explicit Workdays(const std::vector<Date> &holidays = {}) : Workdays({true, true, true, true, true, false, false}, holidays) {}
     // Takes the days that are marked, from Monday to Sunday.
     Workdays(std::array<bool, 7> marks, const std::vector<Date> &holidays)
     {
-        std::uint32_t weekmask = 0;
+        weekmask_ = 0;
         for (std::size_t index = 0; index < marks.size(); ++index) {
-            weekmask |= std::uint32_t{marks[index]} << index;
+            weekmask_ |= std::uint32_t{marks[index]} << index;
         }
-        std::vector<fots_date> dates = detail::dates_of_c(holidays);
-        // One more than needed, so that data() is not null.
-        dates.reserve(dates.size() + 1);
-        const fots_workdays_result made = fots_workdays_new(weekmask, dates.data(), dates.size());
-        if (made.status == FOTS_INVALID_HOLIDAYS) {
+        holidays_ = detail::dates_of_c(holidays);
+        const fots_number_result counted = count();
+        if (counted.status == FOTS_INVALID_HOLIDAYS) {
             std::size_t position = 1;
             while (holidays[position - 1] < holidays[position]) {
                 ++position;
             }
-            throw error(made.status, position);
+            throw error(counted.status, position);
         }
-        workdays_ = detail::value_or_throw(made).workdays;
+        detail::value_or_throw(counted);
     }
 
     // Takes Monday to Friday without the holidays of a calendar from one date through another.
@@ -916,30 +926,41 @@ public:
         std::vector<fots_date> dates(FOTS_MAX_HOLIDAYS);
         const fots_number_result found = detail::value_or_throw(
             fots_calendar_holidays(static_cast<std::uint32_t>(calendar), first.c(), last.c(), dates.data(), dates.size()));
+        dates.resize(static_cast<std::size_t>(found.number));
         Workdays made;
-        made.workdays_ =
-            detail::value_or_throw(fots_workdays_new(FOTS_MONDAY_TO_FRIDAY, dates.data(), static_cast<std::size_t>(found.number))).workdays;
+        made.holidays_ = std::move(dates);
+        detail::value_or_throw(made.count());
         return made;
     }
 
-    bool is_workday(Date date) const { return detail::value_or_throw(fots_workdays_contains(&workdays_, date.c())).number == 1; }
+    bool is_workday(Date date) const { return detail::value_or_throw(with_view(fots_workdays_view_contains, date.c())).number == 1; }
     std::optional<Date> next_workday(Date date) const { return checked_add_workdays(date, 1); }
     std::optional<Date> previous_workday(Date date) const { return checked_add_workdays(date, -1); }
     std::optional<Date> checked_add_workdays(Date date, std::int32_t days) const
     {
-        return Date::if_any(fots_workdays_add(&workdays_, date.c(), days));
+        return Date::if_any(with_view(fots_workdays_view_add, date.c(), days));
     }
     std::int32_t workdays_between(Date from, Date to) const
     {
-        return detail::value_or_throw(fots_workdays_between(&workdays_, from.c(), to.c())).number;
+        return detail::value_or_throw(with_view(fots_workdays_view_between, from.c(), to.c())).number;
     }
     std::optional<Date> adjust(Date date, Convention convention) const
     {
-        return Date::if_any(fots_workdays_adjust(&workdays_, date.c(), static_cast<std::uint32_t>(convention)));
+        return Date::if_any(with_view(fots_workdays_view_adjust, date.c(), static_cast<std::uint32_t>(convention)));
     }
 
 private:
-    fots_workdays workdays_;
+    // Counts the holidays that are days of the week.
+    fots_number_result count()
+    {
+        // One more than needed, so that data() is not null.
+        holidays_.reserve(holidays_.size() + 1);
+        marked_before_.resize(holidays_.size() + 1);
+        return fots_workdays_view_count(weekmask_, holidays_.data(), holidays_.size(), marked_before_.data(), marked_before_.size());
+    }
+    std::uint32_t weekmask_;
+    std::vector<fots_date> holidays_;
+    std::vector<std::uint32_t> marked_before_;
 };
 
 // The unit of the interval of a rule. Hours and shorter units are in recurrences only.
@@ -964,7 +985,7 @@ struct ByDay {
 
 // A recurrence rule of RFC 5545. An empty list excludes no day. The days of the rule are the days
 // that match and the dates, also those outside start and until, without the exceptions. If a list
-// has more than FOTS_MAX_VALUES values, the calls throw FOTS_TOO_MANY_PARTS, and for more than
+// has more than FOTS_MAX_VALUES values, the functions throw FOTS_TOO_MANY_PARTS, and for more than
 // FOTS_MAX_DATES dates or exceptions FOTS_TOO_MANY_DATES.
 class Rule {
 public:
@@ -1636,7 +1657,7 @@ private:
     {
     }
 
-    // Returns the column of a call with as many steps as Unix times, or throws a std::invalid_argument.
+    // Returns the column of a function with as many steps as Unix times, or throws a std::invalid_argument.
     template <class Call, class Step>
     InstantColumn moved(Call call, const std::vector<std::int64_t> &seconds, const std::vector<Step> &steps, Policy policy) const
     {
@@ -1651,7 +1672,7 @@ private:
         return found;
     }
 
-    // Makes a call with the struct of C.
+    // Calls a function with the struct of C.
     template <class Result, class... Parameters, class... Arguments>
     Result with(Result (*call)(const fots_zone *, Parameters...), Arguments... arguments) const
     {
@@ -1792,7 +1813,7 @@ private:
 
     ZonedDateTime(fots_moment value, const Zone *zone) noexcept : value_(value), zone_(zone) {}
 
-    // Makes a call with the struct of C.
+    // Calls a function with the struct of C.
     template <class... Parameters, class... Arguments>
     static ZonedDateTime from(const Zone *zone, fots_moment_result (*call)(const fots_zone *, Parameters...), Arguments... arguments)
     {
@@ -1846,7 +1867,7 @@ public:
     }
 
 private:
-    // Returns what a call writes, with a set of C whose arrays live until it returns.
+    // Returns what a function writes, with a set of C whose arrays live until it returns.
     template <class Call> std::vector<fots_moment> written(std::size_t count, Call call) const
     {
         const std::string &text = recurrence.text();

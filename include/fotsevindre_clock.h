@@ -9,7 +9,7 @@
 #include "fotsevindre.h"
 
 /* Returns the Unix time, with the nanoseconds of the clock of the system; {INT64_MIN, 0} if there is
- * no clock, which the calls below make FOTS_RESULT_OUT_OF_RANGE. */
+ * no clock, which the functions below make FOTS_RESULT_OUT_OF_RANGE. */
 static inline fots_duration fots_unix_time_now(void)
 {
     struct timespec now;

@@ -1,7 +1,7 @@
-/* Functions that the compiler can inline, for C and C++, for some calls of fotsevindre.h that cost
+/* Functions that the compiler can inline, for C and C++, for some functions of fotsevindre.h that cost
  * little. Each has the name of its call with `_inline`, and the same parameters, results and
  * statuses, also for invalid arguments. They are tested beside the library on every day of the
- * range, but not proved. Use them in a loop where such a call takes most of the time, and the calls
+ * range, but not proved. Use them in a loop in which such a function takes most of the time, and the functions
  * elsewhere. */
 #ifndef FOTSEVINDRE_INLINE_H
 #define FOTSEVINDRE_INLINE_H

@@ -23,6 +23,9 @@
 /* The maximum size of a file, in bytes. The files of the time zone database have below 4000. */
 #define FOTS_MAX_ZONE_BYTES 65536
 
+/* The maximum length of a name. The names of the time zone database have at most 32 bytes. */
+#define FOTS_MAX_ZONE_NAME 127
+
 /* Why no zone has a name. */
 enum fots_named_zone_error {
     FOTS_ZONE_NAMED = 0,
@@ -47,11 +50,14 @@ typedef struct fots_kept_zone {
     char name_and_bytes[];
 } fots_kept_zone;
 
-/* Returns 1 if the file of a zone with this name is in the folder of the zones, else 0. */
+/* Returns 1 if the file of a zone with this name is in the folder of the zones, else 0. A file has only
+ * one such name, so that no more zones are kept than there are files. */
 static inline int fots_is_zone_name(const char *name)
 {
     const char *const letters = "ABCDEFGHIJKLMNOPQRSTUVWXYZabcdefghijklmnopqrstuvwxyz0123456789_-+/";
-    return name[0] && (size_t)(strchr(letters, name[0]) - letters) < 52 && strspn(name, letters) == strlen(name);
+    const size_t length = strlen(name);
+    return name[0] && (size_t)(strchr(letters, name[0]) - letters) < 52 && strspn(name, letters) == length && length <= FOTS_MAX_ZONE_NAME
+        && !strstr(name, "//");
 }
 
 /* Reads a regular file of at most FOTS_MAX_ZONE_BYTES. Nothing else is opened, since a pipe would
@@ -166,6 +172,34 @@ static inline fots_named_zone fots_zone_named(const char *name)
     } while (!__atomic_compare_exchange_n(&zones, &first, kept, 0, __ATOMIC_ACQ_REL, __ATOMIC_ACQUIRE));
     result.zone = &kept->zone;
     return result;
+}
+
+/* Returns the zone with a name in memory that need not end with a zero byte, such as a string of a
+ * database. */
+static inline fots_named_zone fots_zone_named_by(const char *text, size_t length)
+{
+    char name[FOTS_MAX_ZONE_NAME + 1];
+    const fots_named_zone none = {NULL, FOTS_ZONE_NAME, FOTS_OK};
+    if (length > FOTS_MAX_ZONE_NAME || memchr(text, 0, length)) {
+        return none;
+    }
+    memcpy(name, text, length);
+    name[length] = 0;
+    return fots_zone_named(name);
+}
+
+/* Returns the reason why no zone has a name, in words. */
+static inline const char *fots_named_zone_reason(fots_named_zone found)
+{
+    switch (found.error) {
+    case FOTS_ZONE_NAMED: return "done";
+    case FOTS_ZONE_NAME: return "expected letters, digits, _, -, + and /, from a letter on";
+    case FOTS_ZONE_FILE: return "no such file in the folder of the zones";
+    case FOTS_ZONE_NOT_REGULAR: return "not a regular file";
+    case FOTS_ZONE_TOO_LONG: return "the file is too long";
+    case FOTS_ZONE_MEMORY: return "out of memory";
+    default: return fots_status_name(found.status);
+    }
 }
 
 #endif

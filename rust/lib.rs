@@ -164,7 +164,7 @@ pub mod format {
 /// Intervals and repeated intervals of ISO 8601, of dates and of local date-times.
 pub mod interval {
     pub use crate::cal_interval::date::{DateInterval, RepeatedDates};
-    pub use crate::cal_interval::plain::{DateTimeInterval, DateTimeRange};
+    pub use crate::cal_interval::plain::{DateTimeInterval, DateTimeRange, RepeatedDateTimes};
     pub use crate::cal_interval::{IntervalComponent, IntervalError, ParseIntervalError, date, plain};
 }
 

@@ -141,6 +141,28 @@ static int is_on(fots_date date, int32_t year, uint32_t month, uint32_t day)
     return date.julian_day == fots_date_from_calendar_date(year, month, day).date.julian_day;
 }
 
+/* Repeated date-times, counted from the first one by hand, and texts of none. */
+static void repeated_pairs(void)
+{
+    static const error_row errors[] = {{"R0/2024-01-31T09:00/P1M", FOTS_COUNT_OUT_OF_RANGE, SIZE_MAX}, {"R4294967296/2024-01-31T09:00/P1M", FOTS_COUNT_OUT_OF_RANGE, SIZE_MAX},
+        {"R5/P1M/2024-01-31T09:00", FOTS_MISSING_START, SIZE_MAX}, {"R5/2024-01-31T09:00/PT0S", FOTS_PERIOD_NOT_POSITIVE, SIZE_MAX},
+        {"R5/2024-01-31T09:00/2024-01-31T09:00", FOTS_PERIOD_NOT_POSITIVE, SIZE_MAX}, {"R5/2024-01-31T09:00/2024-01-31T08:59", FOTS_END_BEFORE_START, SIZE_MAX},
+        {"R5/2024-01-31/P1M", FOTS_UNEXPECTED_BYTE, 13}, {"R5/2024-01-31T09:00", FOTS_UNEXPECTED_END, 19}, {"R5/2024-02-30T09:00/P1M", FOTS_DAY_OUT_OF_RANGE, SIZE_MAX},
+        {"R5/2024-01-31T25:00/P1M", FOTS_HOUR_OUT_OF_RANGE, SIZE_MAX}};
+    const uint64_t hour = UINT64_C(3600000000000);
+    for (size_t row = 0; row < sizeof errors / sizeof errors[0]; row++) {
+        const fots_parse_repeated_pairs_result found = fots_repeated_pairs_parse(errors[row].text, strlen(errors[row].text));
+        check(found.status == errors[row].status && found.position == errors[row].position, errors[row].text, found.status, (long long)found.position);
+        check(found.start_date.julian_day == FOTS_NO_VALUE && found.start_time == FOTS_NO_TIME && found.count == 0 && found.period.years == FOTS_NO_VALUE, "no repetition", (long long)row, found.count);
+    }
+    const fots_parse_repeated_pairs_result months = fots_repeated_pairs_parse("R12/2024-01-31T09:00:00/P1M", 27), shifts = fots_repeated_pairs_parse("R/2024-01-01T08:00/2024-01-01T09:30", 35);
+    check(months.status == FOTS_OK && is_on(months.start_date, 2024, 1, 31) && months.start_time == 9 * hour && months.count == 12 && months.period.months == 1, "twelve months", months.status, months.count);
+    check(months.position == SIZE_MAX && months.unused == 0 && months.period.duration.seconds == 0, "no position", 0, 0);
+    const fots_pair_result second = fots_pair_nth_period(months.start_date, months.start_time, months.period, 1), twelfth = fots_pair_nth_period(months.start_date, months.start_time, months.period, 11);
+    check(is_on(second.date, 2024, 2, 29) && second.time == 9 * hour && is_on(twelfth.date, 2024, 12, 31), "months from the first one", second.status, twelfth.status);
+    check(shifts.status == FOTS_OK && shifts.count == 0 && shifts.period.duration.seconds == 5400 && shifts.period.days == 0, "an exact duration", shifts.status, 0);
+}
+
 /* Three texts of each interval, and those of none. */
 static void intervals(void)
 {
@@ -199,5 +221,6 @@ int main(void)
     duration_texts();
     duration_columns();
     intervals();
+    repeated_pairs();
     return ended("durations");
 }

@@ -43,10 +43,17 @@ static void *named(void *result)
 
 int main(int count, char **arguments)
 {
-    static const char *const invalid[] = {"", "/etc/passwd", "../Berlin", "Berlin ", "B\xe9rlin", "+1", "1", "_", "Berl.in", "Berlin\n"};
+    static const char *const invalid[] = {"", "/etc/passwd", "../Berlin", "Berlin ", "B\xe9rlin", "+1", "1", "_", "Berl.in", "Berlin\n", "Europe//Berlin"};
+    char longest[FOTS_MAX_ZONE_NAME + 2];
     for (size_t k = 0; k < sizeof invalid / sizeof invalid[0]; k++) {
         is_not_named(invalid[k], FOTS_ZONE_NAME, FOTS_OK);
+        check(fots_zone_named_by(invalid[k], strlen(invalid[k])).error == FOTS_ZONE_NAME, "by its length", (long long)k, 0);
     }
+    memset(longest, 'a', sizeof longest);
+    check(fots_zone_named_by("Berlin\0x", 8).error == FOTS_ZONE_NAME, "a zero byte", 0, 0);
+    check(fots_zone_named_by(longest, FOTS_MAX_ZONE_NAME + 1).error == FOTS_ZONE_NAME, "a byte too many", 0, 0);
+    check(fots_zone_named_by(longest, FOTS_MAX_ZONE_NAME).error == FOTS_ZONE_FILE, "the longest name", 0, 0);
+    check(strcmp(fots_named_zone_reason(fots_zone_named_by("", 0)), "expected letters, digits, _, -, + and /, from a letter on") == 0, "a reason", 0, 0);
     if (count > 1) {
         const char *const folder = arguments[1];
         char path[4096];
@@ -76,6 +83,7 @@ int main(int count, char **arguments)
         check(fots_zone_offset(zones[0][0], 1711846800).offset.seconds == 7200 && zones[0][0] != zones[0][1], "Berlin", 0, 0);
         write_file(folder, "Berlin", 0);
         check(fots_zone_named("Berlin").zone == zones[0][0], "read once", 0, 0);
+        check(fots_zone_named_by("Berlin and more", 6).zone == zones[0][0], "by its first bytes", 0, 0);
     }
     return ended("named zones");
 }

@@ -3,7 +3,7 @@
 #include <stdlib.h>
 #include <string.h>
 
-#include "fotsevindre.h"
+#include "fotsevindre_names.h"
 #include "testing.h"
 
 #define COUNT(values) ((int)(sizeof(values) / sizeof(values)[0]))
@@ -1078,8 +1078,26 @@ static void invalid_dates(void)
     }
 }
 
+/* Each name has its number, and back. */
+static void names(void)
+{
+    const fots_names *const tables[] = {fots_policy_names(), fots_unit_names(), fots_rounding_mode_names(), fots_day_count_names(), fots_convention_names()};
+    for (size_t at = 0; at < sizeof tables / sizeof tables[0]; at++) {
+        for (uint32_t number = 0; number < 8; number++) {
+            const char *const name = fots_name_of(tables[at], number);
+            check(!name || fots_number_named(tables[at], name, strlen(name)) == number, tables[at]->what, number, 0);
+            check(!name || strstr(tables[at]->expected, name), "an expected name", (long long)at, number);
+        }
+        check(fots_number_named(tables[at], "", 0) == FOTS_NO_NUMBER && !fots_name_of(tables[at], UINT32_MAX), "no name", (long long)at, 0);
+    }
+    check(fots_number_named(tables[0], "later", 5) == FOTS_LATER && fots_number_named(tables[0], "laterx", 6) == FOTS_NO_NUMBER, "policies", 0, 0);
+    check(fots_number_named(tables[1], "quarter", 7) == FOTS_QUARTER && fots_number_named(tables[2], "half even", 9) == FOTS_HALF_EVEN, "units and modes", 0, 0);
+    check(fots_number_named(tables[3], "30e/360", 7) == FOTS_THIRTY_E_360 && fots_number_named(tables[4], "preceding", 9) == FOTS_PRECEDING, "day counts and conventions", 0, 0);
+}
+
 int main(void)
 {
+    names();
     months();
     ranges();
     easter();

@@ -153,6 +153,119 @@ static void lists_of_holidays(void)
     same_days(31, holidays, 8, 1, FOTS_INVALID_HOLIDAYS);
 }
 
+/* Checks that a result is a date of the range or an error. */
+static void is_result(fots_date_result result)
+{
+    check(result.status ? result.date.julian_day == FOTS_NO_VALUE
+        : result.date.julian_day >= FOTS_MIN_JULIAN_DAY && result.date.julian_day <= FOTS_MAX_JULIAN_DAY, "a result", result.status,
+        result.date.julian_day);
+}
+
+/* Compares a view of many holidays with the ranks of a week, and one of few with a struct. */
+static void views(void)
+{
+    enum { MANY = 100000 };
+    fots_date *const holidays = malloc(MANY * sizeof *holidays);
+    uint32_t *const marked_before = malloc((MANY + 1) * sizeof *marked_before);
+    if (!holidays || !marked_before) {
+        check(0, "memory", 0, 0);
+        free(holidays);
+        free(marked_before);
+        return;
+    }
+    for (int index = 0; index < MANY; index++) {
+        holidays[index] = date_at(2400000 + index + index / 3);
+    }
+    for (size_t length = 0; length <= MANY; length = length < 1000 ? 2 * length + 1 : length < MANY ? MANY : length + 1) {
+        for (uint32_t weekmask = 1; weekmask <= 255; weekmask = 2 * weekmask + 1) {
+            const Week week = {weekmask, holidays, length};
+            const fots_workdays_view view = {weekmask, holidays, length, marked_before, length + 1};
+            const fots_number_result made = fots_workdays_view_count(weekmask, holidays, length, marked_before, length + 1);
+            const fots_workdays_result few = fots_workdays_new(weekmask, holidays, length);
+            check(made.status == (weekmask > 127 ? FOTS_INVALID_WEEKMASK : FOTS_OK), "a view", made.status, (long long)length);
+            check(fots_workdays_view_contains(&view, date_at(0)).status == made.status, "the weekmask of a view", made.status, weekmask);
+            for (int row = 0; made.status == FOTS_OK && row < 40; row++) {
+                const fots_date date = date_at(2400000 + (int32_t)(drawn() % 140000)), other = drawn_date();
+                const int32_t days = drawn_days();
+                const int64_t before = rank(&week, date.julian_day), after = rank(&week, (int64_t)date.julian_day + 1);
+                const fots_date_result added = fots_workdays_view_add(&view, date, days), next = fots_workdays_view_adjust(&view, date, FOTS_FOLLOWING);
+                const fots_number_result between = fots_workdays_view_between(&view, date, other);
+                check(fots_workdays_view_contains(&view, date).number == (uint32_t)(after - before), "a working day of a view", date.julian_day, (long long)length);
+                has_rank(added, &week, days > 0 ? after + days - 1 : before + days, "working days later in a view", date, days);
+                has_rank(next, &week, before, "following in a view", date, 0);
+                check(between.status ? between.status == FOTS_INVALID_DATE : between.number == rank(&week, other.julian_day) - before, "between in a view",
+                    date.julian_day, other.julian_day);
+                check(few.status || same_date(added, fots_workdays_add(&few.workdays, date, days)), "a view and a struct", date.julian_day, days);
+                check(few.status || same_date(fots_workdays_view_adjust(&view, date, FOTS_MODIFIED_PRECEDING), fots_workdays_adjust(&few.workdays, date, FOTS_MODIFIED_PRECEDING)),
+                    "a view and a struct by a convention", date.julian_day, days);
+            }
+        }
+    }
+    free(holidays);
+    free(marked_before);
+}
+
+/* Views whose arrays are wrong: each error of the view comes first, and an array stays as it was. */
+static void wrong_views(void)
+{
+    const fots_date falling[] = {{2451547}, {2451545}}, rising[] = {{2451545}, {2451547}}, beyond[] = {{FOTS_MAX_JULIAN_DAY}, {FOTS_MAX_JULIAN_DAY + 1}};
+    uint32_t counts[4] = {77, 77, 77, 77};
+    fots_workdays_view view = {31, rising, 2, counts, 3};
+    check(fots_workdays_view_count(128, rising, 2, counts, 3).status == FOTS_INVALID_WEEKMASK, "the weekmask", 0, 0);
+    check(fots_workdays_view_count(31, falling, 2, counts, 3).status == FOTS_INVALID_HOLIDAYS, "falling", 0, 0);
+    check(fots_workdays_view_count(31, beyond, 2, counts, 3).status == FOTS_INVALID_HOLIDAYS, "no date", 0, 0);
+    check(fots_workdays_view_count(31, rising, 2, counts, 4).status == FOTS_INVALID_HOLIDAYS, "a place too many", 0, 0);
+    check(fots_workdays_view_count(31, rising, 2, counts, 2).status == FOTS_INVALID_HOLIDAYS, "a place too few", 0, 0);
+    check(counts[0] == 77 && counts[1] == 77 && counts[2] == 77 && counts[3] == 77, "what stood there", counts[0], counts[2]);
+    /* 2000-01-01 was a Saturday. */
+    const fots_number_result made = fots_workdays_view_count(31, rising, 2, counts, 3);
+    check(made.status == FOTS_OK && made.number == 1 && counts[0] == 0 && counts[1] == 0 && counts[2] == 1 && counts[3] == 77, "counted", made.number, counts[2]);
+    view.marked_before_length = 2;
+    check(fots_workdays_view_add(&view, date_at(0), 1).status == FOTS_INVALID_HOLIDAYS, "a count too few", 0, 0);
+    check(fots_workdays_view_between(&view, date_at(0), date_at(0)).status == FOTS_INVALID_HOLIDAYS, "a count too few between", 0, 0);
+    check(fots_workdays_view_adjust(&view, date_at(FOTS_NO_VALUE), 9).status == FOTS_INVALID_HOLIDAYS, "a count too few first", 0, 0);
+    view.weekmask = 128;
+    check(fots_workdays_view_contains(&view, date_at(FOTS_NO_VALUE)).status == FOTS_INVALID_WEEKMASK, "the weekmask first", 0, 0);
+    view.weekmask = 31;
+    view.marked_before_length = 3;
+    check(fots_workdays_view_adjust(&view, date_at(FOTS_NO_VALUE), 9).status == FOTS_INVALID_DATE, "then the date", 0, 0);
+    check(fots_workdays_view_adjust(&view, date_at(0), 9).status == FOTS_INVALID_CONVENTION, "then the convention", 0, 0);
+    /* Any counts: some result, and no read past the arrays. */
+    for (int turn = 0; turn < DRAWN; turn++) {
+        counts[turn % 3] = (uint32_t)drawn();
+        is_result(fots_workdays_view_add(&view, date_at(2451540 + turn % 10), drawn_days()));
+        is_result(fots_workdays_view_adjust(&view, drawn_date(), (uint32_t)(drawn() % 5)));
+        check(fots_workdays_view_between(&view, date_at(FOTS_MIN_JULIAN_DAY), date_at(FOTS_MAX_JULIAN_DAY)).status == FOTS_OK, "any counts", counts[0], counts[1]);
+    }
+}
+
+static int compare_dates(const void *one, const void *other)
+{
+    const int32_t a = ((const fots_date *)one)->julian_day, b = ((const fots_date *)other)->julian_day;
+    return (a > b) - (a < b);
+}
+
+/* Sorts arrays, and compares them with those that qsort sorts and a loop thins. */
+static void sorted(void)
+{
+    static fots_date dates[300], expected[300];
+    for (int turn = 0; turn < 2000; turn++) {
+        const size_t length = drawn() % 300, range = 1 + drawn() % 400;
+        size_t kept = 0;
+        for (size_t at = 0; at < length; at++) {
+            expected[at] = dates[at] = date_at(turn % 9 == 0 ? (int32_t)drawn() : 2451545 + (int32_t)(drawn() % range));
+        }
+        qsort(expected, length, sizeof *expected, compare_dates);
+        for (size_t at = 0; at < length; at++) {
+            if (kept == 0 || expected[kept - 1].julian_day != expected[at].julian_day) {
+                expected[kept++] = expected[at];
+            }
+        }
+        check(fots_dates_sort(dates, length) == kept, "how many are sorted", turn, (long long)length);
+        check(memcmp(dates, expected, kept * sizeof *dates) == 0, "sorted", turn, (long long)kept);
+    }
+}
+
 /* Compares the columns with single calls. */
 static void columns(void)
 {
@@ -184,14 +297,6 @@ static void columns(void)
         }
     }
     check(fots_workdays_add_dates(&made.workdays, dates, 2, days, 1, found, 2, statuses, 2) == FOTS_LENGTH_MISMATCH, "a number too few", 0, 0);
-}
-
-/* Checks that a result is a date of the range or an error. */
-static void is_result(fots_date_result result)
-{
-    check(result.status ? result.date.julian_day == FOTS_NO_VALUE
-        : result.date.julian_day >= FOTS_MIN_JULIAN_DAY && result.date.julian_day <= FOTS_MAX_JULIAN_DAY, "a result", result.status,
-        result.date.julian_day);
 }
 
 /* Calls with a struct of any bytes, which no call reads past. */
@@ -228,6 +333,9 @@ static void filled_by_hand(void)
 int main(void)
 {
     lists_of_holidays();
+    views();
+    wrong_views();
+    sorted();
     columns();
     filled_by_hand();
     return ended("workdays");

@@ -497,8 +497,14 @@ void periods()
         repeated += step.calendar_text() + " ";
     }
     check(repeated == "2024-01-31 2024-02-29 2024-03-31 ", "a repeated interval");
+    std::vector<PlainDateTime> shifts;
+    for (const PlainDateTime step : Steps<PlainDateTime>::parse("R3/2024-01-31T09:00/P1M")) {
+        shifts.push_back(step);
+    }
+    check(shifts.size() == 3 && shifts[1] == PlainDateTime::parse("2024-02-29T09:00") && shifts[2] == PlainDateTime::parse("2024-03-31T09:00"), "repeated date-times");
     throws([] { DateRange::parse("2024-02-01/2024-01-01"); }, FOTS_END_BEFORE_START, "end before start", "an end before the start");
     throws([] { Steps<Date>::parse("R0/2024-01-31/P1M"); }, FOTS_COUNT_OUT_OF_RANGE, "count out of range", "no occurrence");
+    throws([] { Steps<PlainDateTime>::parse("R2/P1M/2024-01-31T09:00"); }, FOTS_MISSING_START, "missing start", "no start");
     const PlainDateTime night(january, Time::from_hms(23, 30, 0));
     check(night.checked_add_period(Period(0, 1, 0, 0, Duration::hours(2))) == PlainDateTime(Date::parse("2024-03-01"), Time::from_hms(1, 30, 0)), "a pair");
     check(night.period_until({Date::parse("2024-03-01"), Time(0)}, CalendarUnit::Month) == Period(0, 1, 0, 0, Duration::minutes(30)), "the period between pairs");

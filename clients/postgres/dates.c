@@ -60,7 +60,7 @@ Datum cal_weekday_on_or_before(PG_FUNCTION_ARGS)
 PG_FUNCTION_INFO_V1(cal_start_of);
 Datum cal_start_of(PG_FUNCTION_ARGS)
 {
-    const uint32 unit = GET_NUMBER(sql_units, 1);
+    const uint32 unit = GET_NUMBER(fots_unit_names(), 1);
     RETURN_INFINITE_DATE(0);
     PG_RETURN_DATEADT(from_date("start of", sql_start_of(GET_DATE(0), unit)));
 }
@@ -68,7 +68,7 @@ Datum cal_start_of(PG_FUNCTION_ARGS)
 PG_FUNCTION_INFO_V1(cal_end_of);
 Datum cal_end_of(PG_FUNCTION_ARGS)
 {
-    const uint32 unit = GET_NUMBER(sql_units, 1);
+    const uint32 unit = GET_NUMBER(fots_unit_names(), 1);
     RETURN_INFINITE_DATE(0);
     PG_RETURN_DATEADT(from_date("end of", sql_end_of(GET_DATE(0), unit)));
 }
@@ -167,21 +167,21 @@ Datum cal_years_between(PG_FUNCTION_ARGS)
 PG_FUNCTION_INFO_V1(cal_age);
 Datum cal_age(PG_FUNCTION_ARGS)
 {
-    const fots_number_result found = sql_age(GET_DATE(0), GET_DATE(1), GET_NUMBER(sql_leap_birthdays, 2));
+    const fots_number_result found = sql_age(GET_DATE(0), GET_DATE(1), GET_NUMBER(&sql_leap_birthdays, 2));
     return number_of("age", found.status, found.number);
 }
 
 PG_FUNCTION_INFO_V1(cal_period);
 Datum cal_period(PG_FUNCTION_ARGS)
 {
-    const fots_period_result found = fots_date_period_until_by(GET_DATE(0), GET_DATE(1), GET_NUMBER(sql_units, 2));
+    const fots_period_result found = fots_date_period_until_by(GET_DATE(0), GET_DATE(1), GET_NUMBER(fots_unit_names(), 2));
     const fots_period period = {found.years, found.months, found.weeks, found.days, {0, 0}};
     PG_RETURN_INTERVAL_P(from_period("period", found.status, period));
 }
 
 static fots_year_fraction_result day_count(FunctionCallInfo fcinfo)
 {
-    const fots_year_fraction_result found = fots_date_day_count(GET_DATE(0), GET_DATE(1), GET_NUMBER(sql_day_counts, 2));
+    const fots_year_fraction_result found = fots_date_day_count(GET_DATE(0), GET_DATE(1), GET_NUMBER(fots_day_count_names(), 2));
     succeed("day count", found.status);
     return found;
 }
@@ -252,7 +252,7 @@ PG_FUNCTION_INFO_V1(cal_round_duration);
 Datum cal_round_duration(PG_FUNCTION_ARGS)
 {
     const fots_duration_result found = fots_duration_round(
-        duration_of(PG_GETARG_INTERVAL_P(0)), duration_of(PG_GETARG_INTERVAL_P(1)), GET_NUMBER(sql_modes, 2));
+        duration_of(PG_GETARG_INTERVAL_P(0)), duration_of(PG_GETARG_INTERVAL_P(1)), GET_NUMBER(fots_rounding_mode_names(), 2));
     const fots_period period = {0, 0, 0, 0, found.duration};
     PG_RETURN_INTERVAL_P(from_period("round", found.status, period));
 }
@@ -261,7 +261,7 @@ PG_FUNCTION_INFO_V1(cal_round_local);
 Datum cal_round_local(PG_FUNCTION_ARGS)
 {
     const fots_duration unit = duration_of(PG_GETARG_INTERVAL_P(1));
-    const uint32 mode = GET_NUMBER(sql_modes, 2);
+    const uint32 mode = GET_NUMBER(fots_rounding_mode_names(), 2);
     fots_moment moment;
     fots_pair_result found;
     RETURN_INFINITE_TIMESTAMP(0);

@@ -90,7 +90,7 @@ Datum cal_series_zoned(PG_FUNCTION_ARGS)
         succeed("series", start.status);
         succeed("series", sql_series_begin(series, start.moment, moment_of(PG_GETARG_TIMESTAMPTZ(1)), period_of(PG_GETARG_INTERVAL_P(2))));
         series->zone = zone;
-        series->policy = GET_NUMBER(sql_policies, 4);
+        series->policy = GET_NUMBER(fots_policy_names(), 4);
     }
     return series_row(fcinfo, false);
 }

@@ -6,7 +6,7 @@
 #include "utils/builtins.h"
 #include "utils/memutils.h"
 
-#include "../sql/zones.h"
+#include "fotsevindre_zones.h"
 
 PG_MODULE_MAGIC;
 
@@ -152,10 +152,10 @@ Interval *from_period(const char *what, int32 status, fots_period period)
     return interval;
 }
 
-uint32 number_named(const sql_names *names, const text *name)
+uint32 number_named(const fots_names *names, const text *name)
 {
-    const uint32 number = sql_number_named(names, VARDATA_ANY(name), VARSIZE_ANY_EXHDR(name));
-    if (unlikely(number == SQL_NO_NUMBER)) {
+    const uint32 number = fots_number_named(names, VARDATA_ANY(name), VARSIZE_ANY_EXHDR(name));
+    if (unlikely(number == FOTS_NO_NUMBER)) {
         ereport(ERROR, (errcode(ERRCODE_INVALID_PARAMETER_VALUE),
                            errmsg("unknown %s \"%s\"; expected %s", names->what, text_to_cstring(name), names->expected)));
     }
@@ -177,10 +177,10 @@ void *kept_for(FunctionCallInfo call, size_t size)
 
 const fots_zone *zone_named(const text *name)
 {
-    const fots_named_zone found = sql_zone_named(VARDATA_ANY(name), VARSIZE_ANY_EXHDR(name));
+    const fots_named_zone found = fots_zone_named_by(VARDATA_ANY(name), VARSIZE_ANY_EXHDR(name));
     if (unlikely(found.zone == NULL)) {
         ereport(ERROR, (errcode(found.error == FOTS_ZONE_MEMORY ? ERRCODE_OUT_OF_MEMORY : ERRCODE_INVALID_PARAMETER_VALUE),
-                           errmsg("time zone \"%s\" not recognized", text_to_cstring(name)), errdetail("%s", sql_zone_reason(found))));
+                           errmsg("time zone \"%s\" not recognized", text_to_cstring(name)), errdetail("%s", fots_named_zone_reason(found))));
     }
     return found.zone;
 }

@@ -39,7 +39,7 @@ extern Interval *from_period(const char *what, int32 status, fots_period period)
 extern Timestamp from_local(const char *what, int32 status, fots_date date, fots_time time);
 
 /* Returns the number of a name, or raises an error that lists the names. */
-extern uint32 number_named(const sql_names *names, const text *name);
+extern uint32 number_named(const fots_names *names, const text *name);
 
 extern text *text_of(const char *bytes, size_t length);
 
@@ -53,7 +53,7 @@ extern const fots_zone *zone_named(const text *name);
 
 #define GET_DATE(n) date_of(PG_GETARG_DATEADT(n))
 #define GET_INT32(n) PG_GETARG_INT32(n)
-#define GET_NUMBER(names, n) number_named(&(names), PG_GETARG_TEXT_PP(n))
+#define GET_NUMBER(names, n) number_named((names), PG_GETARG_TEXT_PP(n))
 
 /* A function from a date to a date returns infinity as it is, like the operators of PostgreSQL. */
 #define RETURN_INFINITE_DATE(n) \

@@ -13,7 +13,7 @@ PG_FUNCTION_INFO_V1(cal_instant);
 Datum cal_instant(PG_FUNCTION_ARGS)
 {
     const fots_zone *const zone = GET_ZONE(1);
-    const uint32 policy = GET_NUMBER(sql_policies, 2);
+    const uint32 policy = GET_NUMBER(fots_policy_names(), 2);
     fots_moment local;
     RETURN_INFINITE_TIMESTAMP(0);
     local = moment_of(PG_GETARG_TIMESTAMP(0));
@@ -104,7 +104,7 @@ Datum cal_add_period_zoned(PG_FUNCTION_ARGS)
 {
     const fots_period period = period_of(PG_GETARG_INTERVAL_P(1));
     const fots_zone *const zone = GET_ZONE(2);
-    const uint32 policy = GET_NUMBER(sql_policies, 3);
+    const uint32 policy = GET_NUMBER(fots_policy_names(), 3);
     RETURN_INFINITE_TIMESTAMP(0);
     PG_RETURN_TIMESTAMPTZ(
         from_moment("add period", fots_zoned_add_period(zone, in_zone(PG_GETARG_TIMESTAMPTZ(0), zone), period, policy)));
@@ -116,14 +116,14 @@ Datum cal_period_zoned(PG_FUNCTION_ARGS)
     const fots_zone *const zone = GET_ZONE(2);
     const fots_moment from = in_zone(PG_GETARG_TIMESTAMPTZ(0), zone), to = in_zone(PG_GETARG_TIMESTAMPTZ(1), zone);
     const fots_exact_period_result found
-        = fots_zoned_period_until(zone, from, to, GET_NUMBER(sql_units, 3), GET_NUMBER(sql_policies, 4));
+        = fots_zoned_period_until(zone, from, to, GET_NUMBER(fots_unit_names(), 3), GET_NUMBER(fots_policy_names(), 4));
     PG_RETURN_INTERVAL_P(from_period("period", found.status, found.period));
 }
 
 PG_FUNCTION_INFO_V1(cal_start_of_zoned);
 Datum cal_start_of_zoned(PG_FUNCTION_ARGS)
 {
-    const uint32 unit = GET_NUMBER(sql_units, 1);
+    const uint32 unit = GET_NUMBER(fots_unit_names(), 1);
     const fots_zone *const zone = GET_ZONE(2);
     RETURN_INFINITE_TIMESTAMP(0);
     PG_RETURN_TIMESTAMPTZ(from_moment("start of", fots_zoned_start_of(zone, in_zone(PG_GETARG_TIMESTAMPTZ(0), zone), unit)));
@@ -133,7 +133,7 @@ Datum cal_start_of_zoned(PG_FUNCTION_ARGS)
 PG_FUNCTION_INFO_V1(cal_end_of_zoned);
 Datum cal_end_of_zoned(PG_FUNCTION_ARGS)
 {
-    const uint32 unit = GET_NUMBER(sql_units, 1);
+    const uint32 unit = GET_NUMBER(fots_unit_names(), 1);
     const fots_zone *const zone = GET_ZONE(2);
     RETURN_INFINITE_TIMESTAMP(0);
     PG_RETURN_TIMESTAMPTZ(from_moment("end of", fots_zoned_end_of(zone, in_zone(PG_GETARG_TIMESTAMPTZ(0), zone), unit)));

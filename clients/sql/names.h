@@ -5,44 +5,11 @@
 #include <stdint.h>
 #include <string.h>
 
-#include "fotsevindre.h"
-
-/* Names for the numbers from `first` on, and the words of an error that lists them. */
-typedef struct sql_names {
-    const char *what;
-    const char *expected;
-    uint32_t first;
-    uint32_t length;
-    const char *names[5];
-} sql_names;
-
-static const sql_names sql_policies = {
-    "policy", "compatible, earlier, later or reject", FOTS_COMPATIBLE, 4, {"compatible", "earlier", "later", "reject", 0}};
-static const sql_names sql_units = {"unit", "day, week, month, quarter or year", FOTS_DAY, 5, {"day", "week", "month", "quarter", "year"}};
-static const sql_names sql_modes = {
-    "rounding mode", "floor, ceil, trunc, half ceil or half even", FOTS_FLOOR, 5, {"floor", "ceil", "trunc", "half ceil", "half even"}};
-static const sql_names sql_day_counts = {
-    "day count", "act/360, act/365, 30/360, 30e/360 or act/act", FOTS_ACTUAL_360, 5, {"act/360", "act/365", "30/360", "30e/360", "act/act"}};
-static const sql_names sql_conventions = {"convention", "unadjusted, following, modified following, preceding or modified preceding",
-    FOTS_UNADJUSTED, 5, {"unadjusted", "following", "modified following", "preceding", "modified preceding"}};
+#include "fotsevindre_names.h"
 
 /* When someone born on 29 February has a birthday in a common year. */
 enum sql_leap_birthday { SQL_MARCH = 0, SQL_FEBRUARY = 1 };
-static const sql_names sql_leap_birthdays = {"leap birthday", "march or february", SQL_MARCH, 2, {"march", "february", 0, 0, 0}};
-
-#define SQL_NO_NUMBER UINT32_MAX
-
-/* Returns the number of a name in lower case, or SQL_NO_NUMBER. */
-static inline uint32_t sql_number_named(const sql_names *names, const char *text, size_t length)
-{
-    uint32_t index;
-    for (index = 0; index < names->length; index++) {
-        if (strlen(names->names[index]) == length && memcmp(names->names[index], text, length) == 0) {
-            return names->first + index;
-        }
-    }
-    return SQL_NO_NUMBER;
-}
+static const fots_names sql_leap_birthdays = {"leap birthday", "march or february", SQL_MARCH, 2, {"march", "february", 0, 0, 0}};
 
 /* Returns 1 if a status names a component that is out of range. */
 static inline int sql_is_component(int32_t status)

@@ -4,7 +4,7 @@
 #include <stdlib.h>
 
 #include "series.h"
-#include "zones.h"
+#include "fotsevindre_zones.h"
 
 #define ROWS 120
 
@@ -67,7 +67,7 @@ int main(void)
                 fots_moment first = start, last = start;
                 first.date.julian_day += draw % 5 == 0 ? rand() % 40000 : rand() % 5 - 2;
                 last.date.julian_day = first.date.julian_day + (draw % 2 ? rand() % 400 : 60000);
-                if (is_same(rules[rule], start, zones[zone] ? sql_zone_named(zones[zone], strlen(zones[zone])).zone : NULL, first, last)) {
+                if (is_same(rules[rule], start, zones[zone] ? fots_zone_named_by(zones[zone], strlen(zones[zone])).zone : NULL, first, last)) {
                     passed++;
                 } else {
                     failed++;

@@ -60,7 +60,7 @@ static void unit_of_date(const sql_function *function, sqlite3_context *context,
 {
     fots_date date;
     uint32_t unit;
-    if (get_date(context, values[0], &date) && get_name(context, &sql_units, count, values, 1, FOTS_DAY, &unit)) {
+    if (get_date(context, values[0], &date) && get_name(context, fots_unit_names(), count, values, 1, FOTS_DAY, &unit)) {
         set_date(context, function->call->name, function->call->date(date, (int32_t)unit));
     }
 }
@@ -157,7 +157,7 @@ static void period(const sql_function *function, sqlite3_context *context, int c
     fots_date date, other;
     uint32_t unit;
     if (get_date(context, values[0], &date) && get_date(context, values[1], &other)
-        && get_name(context, &sql_units, count, values, 2, FOTS_YEAR, &unit)) {
+        && get_name(context, fots_unit_names(), count, values, 2, FOTS_YEAR, &unit)) {
         const fots_period_result found = fots_date_period_until_by(date, other, unit);
         const fots_period parts = {found.years, found.months, found.weeks, found.days, {0, 0}};
         set_period(context, function->call->name, found.status, parts);
@@ -171,7 +171,7 @@ static int get_day_count(const sql_function *function, sqlite3_context *context,
     fots_date date, other;
     uint32_t convention;
     if (!get_date(context, values[0], &date) || !get_date(context, values[1], &other)
-        || !get_name(context, &sql_day_counts, count, values, 2, SQL_NO_NUMBER, &convention)) {
+        || !get_name(context, fots_day_count_names(), count, values, 2, FOTS_NO_NUMBER, &convention)) {
         return 0;
     }
     *found = fots_date_day_count(date, other, convention);
@@ -226,7 +226,7 @@ static void round_duration(const sql_function *function, sqlite3_context *contex
     fots_duration duration, unit;
     uint32_t mode;
     if (get_seconds(context, values[0], &duration) && get_seconds(context, values[1], &unit)
-        && get_name(context, &sql_modes, count, values, 2, FOTS_HALF_CEIL, &mode)) {
+        && get_name(context, fots_rounding_mode_names(), count, values, 2, FOTS_HALF_CEIL, &mode)) {
         set_seconds(context, function->call->name, fots_duration_round(duration, unit, mode));
     }
 }
@@ -237,7 +237,7 @@ static void round_local(const sql_function *function, sqlite3_context *context, 
     fots_duration unit;
     uint32_t mode;
     if (get_local(context, values[0], &local) && get_seconds(context, values[1], &unit)
-        && get_name(context, &sql_modes, count, values, 2, FOTS_HALF_CEIL, &mode)) {
+        && get_name(context, fots_rounding_mode_names(), count, values, 2, FOTS_HALF_CEIL, &mode)) {
         const fots_pair_result found = fots_pair_round(local.date, local.time, unit, mode);
         set_local(context, function->call->name, found.status, found.date, found.time);
     }

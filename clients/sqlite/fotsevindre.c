@@ -19,8 +19,12 @@ static void call(sqlite3_context *context, int count, sqlite3_value **values)
 
 static void release_shared(sql_shared *shared)
 {
+    int at;
     shared->uses -= 1;
     if (shared->uses == 0) {
+        for (at = 0; at < SQL_CALENDARS; at++) {
+            sqlite3_free(shared->calendars[at].blob);
+        }
         sqlite3_free(shared);
     }
 }
@@ -68,7 +72,7 @@ static int add_functions(sqlite3 *database)
     memset(shared, 0, sizeof *shared);
     shared->uses = 1;
     shared->date_format = fots_format_new("%Y-%m-%d", 8).format;
-    shared->weekdays = fots_workdays_new(FOTS_MONDAY_TO_FRIDAY, &none, 0).workdays;
+    shared->weekdays = (fots_workdays_view){FOTS_MONDAY_TO_FRIDAY, &none, 0, &shared->no_holidays, 1};
     status = add_calls(database, shared, sql_date_calls);
     status = status == SQLITE_OK ? add_calls(database, shared, sql_text_calls) : status;
     status = status == SQLITE_OK ? add_calls(database, shared, sql_workday_calls) : status;

@@ -8,7 +8,7 @@ SQLITE_EXTENSION_INIT3
 #include <string.h>
 
 #include "../sql/series.h"
-#include "../sql/zones.h"
+#include "fotsevindre_zones.h"
 
 #define ARGUMENTS 5
 
@@ -167,9 +167,9 @@ static int read_moment(cursor *one, int argument, enum sql_form form, fots_momen
 static int read_zone(cursor *one, int argument, const fots_zone **zone)
 {
     const sql_text text = sql_text_of(one->arguments[argument]);
-    const fots_named_zone found = sql_zone_named(text.bytes, text.length);
+    const fots_named_zone found = fots_zone_named_by(text.bytes, text.length);
     *zone = found.zone;
-    return found.zone ? SQLITE_OK : fail(one, sqlite3_mprintf("time zone not recognized: %s", sql_zone_reason(found)));
+    return found.zone ? SQLITE_OK : fail(one, sqlite3_mprintf("time zone not recognized: %s", fots_named_zone_reason(found)));
 }
 
 /* Reads a bound, or one end of the range of the form without it. */
@@ -202,10 +202,10 @@ static int begin_series(cursor *one, enum sql_form form)
     }
     if (one->arguments[4]) {
         const sql_text name = sql_text_of(one->arguments[4]);
-        policy = sql_number_named(&sql_policies, name.bytes, name.length);
+        policy = fots_number_named(fots_policy_names(), name.bytes, name.length);
     }
-    if (policy == SQL_NO_NUMBER) {
-        return fail(one, sqlite3_mprintf("unknown policy; expected %s", sql_policies.expected));
+    if (policy == FOTS_NO_NUMBER) {
+        return fail(one, sqlite3_mprintf("unknown policy; expected %s", fots_policy_names()->expected));
     }
     status = sql_series_begin(&one->rows.series, start, stop, parsed.period);
     one->rows.series.zone = zone;

@@ -5,7 +5,7 @@ SQLITE_EXTENSION_INIT3
 #include <stdio.h>
 #include <string.h>
 
-#include "../sql/zones.h"
+#include "fotsevindre_zones.h"
 
 /* ---- errors */
 
@@ -180,28 +180,28 @@ int get_number(sqlite3_context *context, sqlite3_value *value, int32_t *number)
 int get_zone(sqlite3_context *context, sqlite3_value *value, const fots_zone **zone)
 {
     const sql_text text = sql_text_of(value);
-    const fots_named_zone found = sql_zone_named(text.bytes, text.length);
+    const fots_named_zone found = fots_zone_named_by(text.bytes, text.length);
     *zone = found.zone;
     if (!found.zone) {
         const int shown = text.length < 60 ? (int)text.length : 60;
-        sql_fail(context, sqlite3_mprintf("time zone \"%.*s\" not recognized: %s", shown, text.bytes, sql_zone_reason(found)));
+        sql_fail(context, sqlite3_mprintf("time zone \"%.*s\" not recognized: %s", shown, text.bytes, fots_named_zone_reason(found)));
     }
     return found.zone != NULL;
 }
 
-int get_name(sqlite3_context *context, const sql_names *names, int count, sqlite3_value **values, int index, uint32_t otherwise, uint32_t *number)
+int get_name(sqlite3_context *context, const fots_names *names, int count, sqlite3_value **values, int index, uint32_t otherwise, uint32_t *number)
 {
     sql_text text = {"", 0};
     *number = otherwise;
     if (index < count) {
         text = sql_text_of(values[index]);
-        *number = sql_number_named(names, text.bytes, text.length);
+        *number = fots_number_named(names, text.bytes, text.length);
     }
-    if (*number == SQL_NO_NUMBER) {
+    if (*number == FOTS_NO_NUMBER) {
         const int shown = text.length < 60 ? (int)text.length : 60;
         sql_fail(context, sqlite3_mprintf("unknown %s \"%.*s\"; expected %s", names->what, shown, text.bytes, names->expected));
     }
-    return *number != SQL_NO_NUMBER;
+    return *number != FOTS_NO_NUMBER;
 }
 
 /* ---- results */

@@ -36,12 +36,13 @@ struct sql_function {
 struct sql_shared {
     int uses;
     fots_format date_format; /* "%Y-%m-%d" */
-    fots_workdays weekdays; /* without holidays */
+    uint32_t no_holidays; /* counts of `weekdays`: 0 */
+    fots_workdays_view weekdays; /* without holidays */
     unsigned next; /* to be replaced */
     struct {
         int length; /* of the blob */
-        fots_date blob[1 + FOTS_MAX_HOLIDAYS];
-        fots_workdays workdays;
+        fots_date *blob; /* the weekmask and the holidays, then their counts; or NULL */
+        fots_workdays_view workdays; /* of the blob */
     } calendars[SQL_CALENDARS];
 };
 
@@ -76,7 +77,7 @@ int get_period(sqlite3_context *context, sqlite3_value *value, fots_period *peri
 int get_number(sqlite3_context *context, sqlite3_value *value, int32_t *number);
 int get_zone(sqlite3_context *context, sqlite3_value *value, const fots_zone **zone);
 /* The number of a name, or of the default without the argument. */
-int get_name(sqlite3_context *context, const sql_names *names, int count, sqlite3_value **values, int index, uint32_t otherwise, uint32_t *number);
+int get_name(sqlite3_context *context, const fots_names *names, int count, sqlite3_value **values, int index, uint32_t otherwise, uint32_t *number);
 
 /* Parse without an error: a status and a position. */
 fots_parse_moment_result sql_parse_date(sqlite3_value *value);

@@ -48,16 +48,22 @@ static void calendar_step(sqlite3_context *context, int count, sqlite3_value **v
 
 static void calendar_final(sqlite3_context *context)
 {
-    static const fots_date none = {0};
     collected *const all = sqlite3_aggregate_context(context, 0);
-    const size_t length = all && all->length > 0 ? sql_sort_holidays(all->days, all->length) : 0;
-    const uint32_t weekmask = all && all->has_weekmask ? (uint32_t)all->weekmask : FOTS_MONDAY_TO_FRIDAY;
-    const fots_date *const days = length > 0 ? all->days : &none;
-    if (sql_check(context, "cal_calendar", fots_workdays_new(weekmask, days, length).status)) {
-        fots_date bytes[1 + FOTS_MAX_HOLIDAYS];
-        bytes[0].julian_day = (int32_t)weekmask;
-        memcpy(bytes + 1, days, length * sizeof *days);
-        sqlite3_result_blob(context, bytes, (int)((1 + length) * sizeof *bytes), SQLITE_TRANSIENT);
+    const size_t room = all ? all->length : 0;
+    const fots_date weekmask = {all && all->has_weekmask ? all->weekmask : (int32_t)FOTS_MONDAY_TO_FRIDAY};
+    fots_date *const bytes = sqlite3_malloc64((1 + room) * sizeof *bytes + (1 + room) * sizeof(uint32_t));
+    fots_workdays_view view;
+    if (!bytes) {
+        sqlite3_result_error_nomem(context);
+    } else {
+        bytes[0] = weekmask;
+        if (room > 0) {
+            memcpy(bytes + 1, all->days, room * sizeof *bytes);
+        }
+        if (sql_check(context, "cal_calendar", sql_workdays((uint32_t)weekmask.julian_day, bytes + 1, room, (uint32_t *)(bytes + 1 + room), &view))) {
+            sqlite3_result_blob64(context, bytes, (1 + view.holidays_length) * sizeof *bytes, SQLITE_TRANSIENT);
+        }
+        sqlite3_free(bytes);
     }
     if (all) {
         sqlite3_free(all->days);
@@ -75,15 +81,36 @@ int sql_add_calendar(sqlite3 *database)
 
 /* ---- functions of the result */
 
+/* Keeps the calendar of a blob with a number of holidays in a place. Returns 1, or 0 after an error. */
+static int keep_calendar(sql_shared *all, unsigned place, sqlite3_context *context, const void *blob, size_t holidays)
+{
+    const size_t size = (1 + holidays) * sizeof(fots_date);
+    fots_date *const kept = sqlite3_malloc64(size + (1 + holidays) * sizeof(uint32_t));
+    uint32_t *const counts = (uint32_t *)(kept + 1 + holidays);
+    if (!kept) {
+        sqlite3_result_error_nomem(context);
+        return 0;
+    }
+    memcpy(kept, blob, size);
+    if (!sql_check(context, "calendar", fots_workdays_view_count((uint32_t)kept->julian_day, kept + 1, holidays, counts, holidays + 1).status)) {
+        sqlite3_free(kept);
+        return 0;
+    }
+    sqlite3_free(all->calendars[place].blob);
+    all->calendars[place].blob = kept;
+    all->calendars[place].length = (int)size;
+    all->calendars[place].workdays = (fots_workdays_view){(uint32_t)kept->julian_day, kept + 1, holidays, counts, holidays + 1};
+    return 1;
+}
+
 /* The calendar of an argument, or Monday to Friday without it. */
 static int get_workdays(const sql_function *function, sqlite3_context *context, int count, sqlite3_value **values, int index,
-    const fots_workdays **workdays)
+    const fots_workdays_view **workdays)
 {
     sql_shared *const all = function->shared;
     const void *const blob = index < count ? sqlite3_value_blob(values[index]) : NULL;
     const int length = index < count ? sqlite3_value_bytes(values[index]) : 0, unit = (int)sizeof(fots_date);
     const unsigned place = all->next;
-    fots_workdays_result made;
     unsigned at;
     *workdays = &all->weekdays;
     if (index >= count) {
@@ -95,18 +122,13 @@ static int get_workdays(const sql_function *function, sqlite3_context *context, 
             return 1;
         }
     }
-    if (sqlite3_value_type(values[index]) != SQLITE_BLOB || length < unit || length % unit != 0 || length > (int)sizeof all->calendars[0].blob) {
+    if (sqlite3_value_type(values[index]) != SQLITE_BLOB || length < unit || length % unit != 0) {
         sqlite3_result_error(context, "expected a result of cal_calendar", -1);
         return 0;
     }
-    all->calendars[place].length = 0;
-    memcpy(all->calendars[place].blob, blob, (size_t)length);
-    made = fots_workdays_new((uint32_t)all->calendars[place].blob[0].julian_day, all->calendars[place].blob + 1, (size_t)(length / unit - 1));
-    if (!sql_check(context, "calendar", made.status)) {
+    if (!keep_calendar(all, place, context, blob, (size_t)(length / unit - 1))) {
         return 0;
     }
-    all->calendars[place].workdays = made.workdays;
-    all->calendars[place].length = length;
     all->next = (place + 1) % SQL_CALENDARS;
     *workdays = &all->calendars[place].workdays;
     return 1;
@@ -115,10 +137,10 @@ static int get_workdays(const sql_function *function, sqlite3_context *context, 
 static void between(const sql_function *function, sqlite3_context *context, int count, sqlite3_value **values)
 {
     fots_date date, other;
-    const fots_workdays *workdays;
+    const fots_workdays_view *workdays;
     if (get_date(context, values[0], &date) && get_date(context, values[1], &other)
         && get_workdays(function, context, count, values, 2, &workdays)) {
-        const fots_number_result found = fots_workdays_between(workdays, date, other);
+        const fots_number_result found = fots_workdays_view_between(workdays, date, other);
         set_number(context, function->call->name, found.status, found.number);
     }
 }
@@ -127,19 +149,19 @@ static void add(const sql_function *function, sqlite3_context *context, int coun
 {
     fots_date date;
     int32_t days;
-    const fots_workdays *workdays;
+    const fots_workdays_view *workdays;
     if (get_date(context, values[0], &date) && get_number(context, values[1], &days)
         && get_workdays(function, context, count, values, 2, &workdays)) {
-        set_date(context, function->call->name, fots_workdays_add(workdays, date, days));
+        set_date(context, function->call->name, fots_workdays_view_add(workdays, date, days));
     }
 }
 
 static void is_workday(const sql_function *function, sqlite3_context *context, int count, sqlite3_value **values)
 {
     fots_date date;
-    const fots_workdays *workdays;
+    const fots_workdays_view *workdays;
     if (get_date(context, values[0], &date) && get_workdays(function, context, count, values, 1, &workdays)) {
-        const fots_component_result found = fots_workdays_contains(workdays, date);
+        const fots_component_result found = fots_workdays_view_contains(workdays, date);
         set_number(context, function->call->name, found.status, found.number);
     }
 }
@@ -148,10 +170,10 @@ static void adjust(const sql_function *function, sqlite3_context *context, int c
 {
     fots_date date;
     uint32_t convention;
-    const fots_workdays *workdays;
-    if (get_date(context, values[0], &date) && get_name(context, &sql_conventions, count, values, 1, FOTS_UNADJUSTED, &convention)
+    const fots_workdays_view *workdays;
+    if (get_date(context, values[0], &date) && get_name(context, fots_convention_names(), count, values, 1, FOTS_UNADJUSTED, &convention)
         && get_workdays(function, context, count, values, 2, &workdays)) {
-        set_date(context, function->call->name, fots_workdays_adjust(workdays, date, convention));
+        set_date(context, function->call->name, fots_workdays_view_adjust(workdays, date, convention));
     }
 }
 

@@ -11,7 +11,7 @@ static void instant(const sql_function *function, sqlite3_context *context, int 
     const fots_zone *zone;
     uint32_t policy;
     if (get_local(context, values[0], &local) && get_zone(context, values[1], &zone)
-        && get_name(context, &sql_policies, count, values, 2, FOTS_COMPATIBLE, &policy)) {
+        && get_name(context, fots_policy_names(), count, values, 2, FOTS_COMPATIBLE, &policy)) {
         set_instant(context, function->call->name, fots_zone_moment(zone, local.date, local.time, policy));
     }
 }
@@ -95,7 +95,7 @@ static void add_period(const sql_function *function, sqlite3_context *context, i
     const fots_zone *zone;
     uint32_t policy;
     if (get_zoned(context, values[0], values[2], &zone, &moment) && get_period(context, values[1], &period)
-        && get_name(context, &sql_policies, count, values, 3, FOTS_COMPATIBLE, &policy)) {
+        && get_name(context, fots_policy_names(), count, values, 3, FOTS_COMPATIBLE, &policy)) {
         set_instant(context, function->call->name, fots_zoned_add_period(zone, moment, period, policy));
     }
 }
@@ -106,8 +106,8 @@ static void period(const sql_function *function, sqlite3_context *context, int c
     const fots_zone *zone;
     uint32_t unit, policy;
     if (get_zoned(context, values[0], values[2], &zone, &start) && get_zoned(context, values[1], values[2], &zone, &stop)
-        && get_name(context, &sql_units, count, values, 3, FOTS_YEAR, &unit)
-        && get_name(context, &sql_policies, count, values, 4, FOTS_COMPATIBLE, &policy)) {
+        && get_name(context, fots_unit_names(), count, values, 3, FOTS_YEAR, &unit)
+        && get_name(context, fots_policy_names(), count, values, 4, FOTS_COMPATIBLE, &policy)) {
         const fots_exact_period_result found = fots_zoned_period_until(zone, start, stop, unit, policy);
         set_period(context, function->call->name, found.status, found.period);
     }
@@ -119,7 +119,7 @@ static void unit_of_instant(const sql_function *function, sqlite3_context *conte
     fots_moment moment;
     const fots_zone *zone;
     uint32_t unit;
-    if (get_zoned(context, values[0], values[2], &zone, &moment) && get_name(context, &sql_units, count, values, 1, FOTS_DAY, &unit)) {
+    if (get_zoned(context, values[0], values[2], &zone, &moment) && get_name(context, fots_unit_names(), count, values, 1, FOTS_DAY, &unit)) {
         const fots_moment_result found = function->call->form ? fots_zoned_end_of(zone, moment, unit) : fots_zoned_start_of(zone, moment, unit);
         if (sql_check(context, function->call->name, found.status)) {
             sqlite3_result_int64(context, fots_moment_unix_timestamp(found.moment).number);

@@ -6,9 +6,9 @@ use crate::grammar::{DIGIT, Grammar, Matcher, maybe, times};
 use fotsevindre::error::IntervalError::{self, CountOutOfRange, EndBeforeStart, HasDuration, MissingStart, NotPositive};
 use fotsevindre::error::ParseIntervalError::{self, OutOfRange, UnexpectedByte, UnexpectedEnd};
 use fotsevindre::error::{DurationComponent, IntervalComponent};
-use fotsevindre::interval::{DateInterval, DateTimeInterval, RepeatedDates, date, plain};
+use fotsevindre::interval::{DateInterval, DateTimeInterval, RepeatedDateTimes, RepeatedDates, date, plain};
 use fotsevindre::text::period;
-use fotsevindre::{Date, DateRange, Period, PlainDateTime};
+use fotsevindre::{Date, DateRange, Period, PlainDateTime, SignedDuration};
 
 fn day(text: &str) -> Date {
     text.parse().unwrap()
@@ -105,6 +105,34 @@ fn repetitions() {
     assert_eq!(plain::parse_repeated(b"R2/2024-01-01T08:00/PT1H").unwrap().0, Some(2));
     assert_eq!(date::parse_repeated(b"12/2024-01-01/P1M"), Err(UnexpectedByte(0)));
     assert_eq!(date::parse_repeated(b"R12"), Err(UnexpectedEnd(3)));
+}
+
+#[test]
+fn repeated_date_times() {
+    let repeated = |text: &str| {
+        let (count, interval) = plain::parse_repeated(text.as_bytes()).unwrap();
+        RepeatedDateTimes::new(count, interval)
+    };
+    let months = repeated("R12/2024-01-31T09:00:00/P1M").unwrap();
+    let days = ["2024-01-31", "2024-02-29", "2024-03-31", "2024-04-30"].map(|day| Some(time(&format!("{day}T09:00"))));
+    assert_eq!([0, 1, 2, 3].map(|n| months.nth(n)), days);
+    assert_eq!((months.nth(11), months.nth(12), months.nth(-1)), (Some(time("2024-12-31T09:00")), None, None));
+    let shifts = repeated("R/2024-01-01T08:00/2024-01-01T09:30").unwrap();
+    assert_eq!((shifts.count, shifts.nth(16)), (None, Some(time("2024-01-02T08:00"))));
+    assert_eq!(shifts.period, Period::from_duration(SignedDuration::minutes(90)));
+    let mixed = repeated("R3/2024-01-31T23:00/P1MT2H").unwrap();
+    assert_eq!([1, 2, 3].map(|n| mixed.nth(n)), [Some(time("2024-03-01T01:00")), Some(time("2024-04-01T03:00")), None]);
+    let rows = [
+        ("R0/2024-01-01T08:00/P1M", CountOutOfRange),
+        ("R4294967296/2024-01-01T08:00/P1M", CountOutOfRange),
+        ("R5/P1M/2024-12-31T08:00", MissingStart),
+        ("R5/2024-01-01T08:00/PT0S", NotPositive),
+        ("R5/2024-01-01T08:00/2024-01-01T08:00", NotPositive),
+        ("R5/2024-01-01T08:00/2024-01-01T07:59", EndBeforeStart),
+    ];
+    for (text, error) in rows {
+        assert_eq!(repeated(text), Err(error), "{text}");
+    }
 }
 
 // ---- a model of the grammar

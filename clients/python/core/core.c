@@ -383,6 +383,8 @@ OF_PARSED(parse_pair_range, parse_pair_range, 0, Py_BuildValue("NN", NEW_PLAIN(s
     NEW_PLAIN(end)))
 OF_PARSED(parse_repeated_dates, parse_repeated_dates, 0, Py_BuildValue("NNI",
     new_date(state, result.start), new_period(state, result.period), (unsigned)result.count))
+OF_PARSED(parse_repeated_pairs, parse_repeated_pairs, 0, Py_BuildValue("NNI",
+    NEW_PLAIN(start), new_period(state, result.period), (unsigned)result.count))
 OF_PARSED(parse_recurrence, parse_recurrence, result.part,
     parts_of_recurrence(state, &result.recurrence))
 OF_PARSED(recurrence_text, recurrence_text, result.part,

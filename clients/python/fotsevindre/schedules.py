@@ -178,6 +178,16 @@ class Steps(Iterable[_S]):
         """
         return Steps(*_core.repeated_dates_parse(text))
 
+    @staticmethod
+    def parse_date_times(text: str) -> Steps[PlainDateTime]:
+        """Parses a repeated interval of local date-times in ISO 8601, or raises like
+        `DateRange.parse`.
+
+        >>> [str(step) for step in Steps.parse_date_times("R2/2024-01-31T09:00/P1M")]
+        ['2024-01-31 9:00:00.0', '2024-02-29 9:00:00.0']
+        """
+        return Steps(*_core.repeated_pairs_parse(text))
+
     def __iter__(self) -> Iterator[_S]:
         with contextlib.suppress(OverflowError):
             for n in range(self.count) if self.count else itertools.count():

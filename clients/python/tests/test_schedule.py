@@ -244,6 +244,8 @@ class Months(unittest.TestCase):
             self.assertEqual(PlainDateTime.parse_interval(text), shift, text)
         self.assertEqual([str(date) for date in Steps.parse("R3/2024-01-31/P1M")], ["2024-01-31", "2024-02-29", "2024-03-31"])
         self.assertEqual(Steps.parse("R/2024-01-01/2024-01-08"), Steps(day(2024, 1, 1), Period(days=7)))
+        self.assertEqual(list(Steps.parse_date_times("R3/2024-01-31T09:00/P1M")), [PlainDateTime(2024, *rest, 9) for rest in ((1, 31), (2, 29), (3, 31))])
+        self.assertEqual(Steps.parse_date_times("R/2024-01-01T08:00/2024-01-01T09:30"), Steps(PlainDateTime(2024, 1, 1, 8), Period(duration=SignedDuration(minutes=90))))
         self.assertEqual(len(list(Steps(PlainDateTime(2024, 1, 1), Period(months=1), 5))), 5)
         self.assertRaises(ValueError, Steps, day(2024, 1, 1), Period(days=7), -1)
         for text, error in (("2024-02-01/2024-01-01", ValueError), ("2024-01-01/PT1H", ValueError), ("+999999-12-31/P1D", OverflowError), ("2024-13-01/P1M", ComponentRange),
@@ -251,6 +253,8 @@ class Months(unittest.TestCase):
             self.assertRaises(error, DateRange.parse, text)
         for text in ("R0/2024-01-31/P1M", "R4294967296/2024-01-31/P1M", "R5/P1M/2024-01-31", "R5/2024-01-31/P0D", "R5/2024-01-31/PT1H", "R5/2024-01-31/2024-01-30"):
             self.assertRaises(ValueError, Steps.parse, text)
+        for text in ("R0/2024-01-31T09:00/P1M", "R5/P1M/2024-01-31T09:00", "R5/2024-01-31T09:00/PT0S", "R5/2024-01-31T09:00/2024-01-31T08:59", "R5/2024-01-31/P1M"):
+            self.assertRaises(ValueError, Steps.parse_date_times, text)
         self.assertRaises(TypeError, DateRange.parse, b"2024-01-01/P1M")
         self.assertRaises(ParseError, PlainDateTime.parse_interval, "2024-01-01/P1M")
 

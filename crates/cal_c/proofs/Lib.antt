@@ -31,6 +31,7 @@ pub mod OneZoned
 pub mod OnePair
 pub mod OneRounded
 pub mod OneRepeat
+pub mod Distinct
 pub mod Stable
 pub mod FormatItems
 pub mod FormatPrinting

@@ -5,7 +5,8 @@ use Rattle.cal_datetime.specs.DateTime.{date_at, time_at}
 use Rattle.cal_schedule.specs.Ranges.{Range}
 use Rattle.cal_interval.specs.DateTimeRanges as pairs
 use Rattle.cal_interval.specs.Ranges.{IsRangeOf}
-use Rattle.cal_interval.specs.Repeats.{IsRepeatError, IsRepeatOf}
+use Rattle.cal_interval.specs.DateTimeRepeats as repeats
+use Rattle.cal_interval.specs.Repeats.{IsIntervalError, IsIntervalRepeated, IsRepeatError, IsRepeatOf}
 use Rattle.cal_interval.specs.declared.date.interval.DateInterval.{DateInterval}
 use Rattle.cal_interval.specs.declared.date.repeated.RepeatedDates.{RepeatedDates}
 use Rattle.cal_interval.specs.declared.error.IntervalComponent.{IntervalComponent}
@@ -15,6 +16,7 @@ use Rattle.cal_interval.specs.declared.error.IntervalError.TheVariants as errors
 use Rattle.cal_interval.specs.declared.error.ParseIntervalError.{ParseIntervalError}
 use Rattle.cal_interval.specs.declared.error.ParseIntervalError.TheVariants.{UnexpectedByte, UnexpectedEnd, OutOfRange}
 use Rattle.cal_interval.specs.declared.plain.interval.DateTimeInterval.{DateTimeInterval}
+use Rattle.cal_interval.specs.declared.plain.repeated.RepeatedDateTimes.{RepeatedDateTimes}
 use Rattle.cal_c.specs.DurationTexts.{duration_part_status}
 use Rattle.cal_c.specs.Periods.{exact_period_error, exact_period_ok}
 use Rattle.cal_c.specs.Results.{no_value}
@@ -23,6 +25,7 @@ use Rattle.cal_c.specs.Texts.{no_position}
 use Rattle.cal_c.specs.declared.status.TheConstants.{OK, COUNT_OUT_OF_RANGE, END_BEFORE_START, MISSING_START, PERIOD_HAS_DURATION, PERIOD_NOT_POSITIVE, RESULT_OUT_OF_RANGE, UNEXPECTED_BYTE, UNEXPECTED_END}
 use Rattle.cal_c.specs.declared.texts.intervals.ranges.ParseDateRangeResult.{ParseDateRangeResult}
 use Rattle.cal_c.specs.declared.texts.intervals.ranges.ParsePairRangeResult.{ParsePairRangeResult}
+use Rattle.cal_c.specs.declared.texts.intervals.repeated_pairs.ParseRepeatedPairsResult.{ParseRepeatedPairsResult}
 use Rattle.cal_c.specs.declared.texts.intervals.repeats.ParseRepeatedDatesResult.{ParseRepeatedDatesResult}
 
 -- The status of a part that is out of range, and of an interval without a range.
@@ -109,6 +112,40 @@ abbrev pub dates_or_error : Result RepeatedDates IntervalError → ParseRepeated
 dates_or_error (Ok r) = repeated_dates_ok r
 dates_or_error (Err e) = repeated_dates_error_at (interval_status e) no_position
 
+-- The result of the repetition of an interval, if it has one, or of the reason why it has none.
+abbrev pub IsRepeatedResult : {I R C : Type 0} → (I → Option ℕ → R → Type 0) → (I → IntervalError → Type 0) → (Result R IntervalError → C) → Option ℕ × I → C → Type 0
+IsRepeatedResult {I} {R} {C} IsRepetition IsError value_or_error v r =
+    (its : Result R IntervalError) × IfOk its (IsRepeatOf IsRepetition v.0 v.1) × IfErr its (IsRepeatError IsError v.0 v.1) × (r ≡ value_or_error its)
+
 abbrev pub IsRepeatedDatesResult : Option ℕ × DateInterval → ParseRepeatedDatesResult → Type 0
-IsRepeatedDatesResult v r =
-    (its : Result RepeatedDates IntervalError) × IfOk its (IsRepeatOf v.0 v.1) × IfErr its (IsRepeatError v.0 v.1) × (r ≡ dates_or_error its)
+IsRepeatedDatesResult = IsRepeatedResult IsIntervalRepeated IsIntervalError dates_or_error
+
+-- ---- the same for local date-times
+abbrev pub repeated_pairs_ok : RepeatedDateTimes → ParseRepeatedPairsResult
+repeated_pairs_ok r = record {
+  status = OK;
+  start_date = julian_day_at (date_at r.start);
+  start_time = time_at r.start;
+  count = count_or_none r.count;
+  unused = 0;
+  period = (exact_period_ok r.period).period;
+  position = no_position;
+}
+
+abbrev pub repeated_pairs_error_at : ℤ → ℕ → ParseRepeatedPairsResult
+repeated_pairs_error_at s at = record {
+  status = s;
+  start_date = no_value;
+  start_time = 18_446_744_073_709_551_615;
+  count = 0;
+  unused = 0;
+  period = (exact_period_error s).period;
+  position = at;
+}
+
+abbrev pub repeated_pairs_or_error : Result RepeatedDateTimes IntervalError → ParseRepeatedPairsResult
+repeated_pairs_or_error (Ok r) = repeated_pairs_ok r
+repeated_pairs_or_error (Err e) = repeated_pairs_error_at (interval_status e) no_position
+
+abbrev pub IsRepeatedPairsResult : Option ℕ × DateTimeInterval → ParseRepeatedPairsResult → Type 0
+IsRepeatedPairsResult = IsRepeatedResult repeats.IsIntervalRepeated repeats.IsIntervalError repeated_pairs_or_error

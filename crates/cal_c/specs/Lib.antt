@@ -13,6 +13,7 @@ pub mod RecurrenceTexts
 pub mod Recurrences
 pub mod RecurrenceParts
 pub mod CheckedWorkdays
+pub mod SortedDates
 pub mod Zones
 pub mod ZoneColumns
 pub mod Periods

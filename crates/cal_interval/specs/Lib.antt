@@ -6,5 +6,6 @@ pub mod Values
 pub mod Ranges
 pub mod RangeFields
 pub mod DateTimeRanges
+pub mod DateTimeRepeats
 pub mod Repeats
 pub mod IntervalText

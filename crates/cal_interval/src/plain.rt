@@ -20,9 +20,11 @@ mod interval;
 mod numbers;
 mod range;
 mod ranges;
+mod repeated;
 
 pub use interval::DateTimeInterval;
 pub use range::DateTimeRange;
+pub use repeated::RepeatedDateTimes;
 
 /// Parses an interval of local date-times: two of them, or one and a period, with a slash between them, such
 /// as `2024-01-01T08:00/2024-01-01T09:30`, `2024-01-01T08:00/PT90M` or `P1M/2024-02-01T00:00`.

@@ -1,7 +1,7 @@
 //! Columns of dates plus working days, and of working days between dates.
 ghost use Rattle.std.specs.Prelude.{◌≡◌, IfErr, IfOk, length, pos, ◌∷◌, []};
 ghost use Rattle.cal_schedule.specs.Workdays.{nth_workday};
-ghost use Rattle.cal_c.specs.CheckedWorkdays.{week_of, IsChecked, IsDateWorkdaysLater, IsSomeDate, IsWorkdaysBetween};
+ghost use Rattle.cal_c.specs.CheckedWorkdays.{week_of, AreCounted, IsDateWorkdaysLater, IsSomeDate, IsWorkdaysBetween};
 ghost use Rattle.cal_c.specs.Columns.{int_at, nat_at, SameLength, AreRows, date_row, number_row, IsByte};
 ghost use Rattle.cal_c.specs.Results.{date_or_out_of_range, date_error, number_ok, number_error};
 ghost use Rattle.cal_c.specs.Values.{need◌else◌then◌, IsJulianDay, day_of};
@@ -57,7 +57,7 @@ fn add_row(date: i32, days: i32, workdays: &Result<RankedWorkdays<'_>, i32>) -> 
     ensures invalid_date { IfOk workdays.now (λ c. ¬ IsJulianDay date
         → date_row result.0 result.1 ≡ date_error INVALID_DATE) }
     ensures any { IfOk workdays.now (λ c. IsJulianDay date → IsSomeDate (date_row result.0 result.1)) }
-    ensures value { IfOk workdays.now (λ c. IsChecked c → IsJulianDay date → date_row result.0 result.1
+    ensures value { IfOk workdays.now (λ c. AreCounted c → IsJulianDay date → date_row result.0 result.1
         ≡ date_or_out_of_range (nth_workday (week_of c) days (day_of date))) }
 {
     let workdays = or_return!(workdays, status => (NO_VALUE, byte_status(*status)));
@@ -76,7 +76,7 @@ fn between_row(date: i32, other: i32, workdays: &Result<RankedWorkdays<'_>, i32>
         → number_row result.0 result.1 ≡ number_error INVALID_DATE) }
     ensures any { IfOk workdays.now (λ c. IsJulianDay date → IsJulianDay other
         → pos result.1 ≡ OK) }
-    ensures value { IfOk workdays.now (λ c. IsChecked c → IsJulianDay date → IsJulianDay other
+    ensures value { IfOk workdays.now (λ c. AreCounted c → IsJulianDay date → IsJulianDay other
         → number_row result.0 result.1
         ≡ number_ok (workdays_between (week_of c) (day_of date) (day_of other))) }
 {

@@ -18,6 +18,7 @@ macro_rules! interval_error_result {
 
 pub mod laws;
 mod ranges;
+mod repeated_pairs;
 mod repeats;
 
 use crate::status::{

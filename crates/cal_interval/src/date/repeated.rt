@@ -3,7 +3,7 @@ ghost use Rattle.std.specs.Prelude.{◌≡◌, ◌*ℤ◌, ℕ, IfErr, IfOk, IfS
 ghost use Rattle.cal_time.specs.Date.{IsDate};
 ghost use Rattle.cal_schedule.specs.Period.{days_of, months_of, IsDaysLater};
 ghost use Rattle.cal_schedule.specs.Steps.{IsRepeated};
-ghost use Rattle.cal_interval.specs.Repeats.{AreRepeated, AreRepeatedDays, IsOccurrence, IsPeriodError, IsRepeatError, IsRepeatOf, IsDaysError};
+ghost use Rattle.cal_interval.specs.Repeats.{AreRepeated, AreRepeatedDays, IsDaysError, IsIntervalError, IsIntervalRepeated, IsOccurrence, IsPeriodError, IsRepeatError, IsRepeatOf};
 
 use crate::date::interval::DateInterval;
 use crate::error::IntervalError;
@@ -33,8 +33,8 @@ impl RepeatedDates {
     /// `MissingStart` if the interval has no start, `HasDuration` if the period has an exact
     /// duration, `EndBeforeStart`, and `NotPositive` if the period is zero or negative.
     pub fn new(count: Option<u64>, interval: DateInterval) -> Result<Self, IntervalError>
-        ensures value { IfOk result (IsRepeatOf count interval) }
-        ensures error { IfErr result (IsRepeatError count interval) }
+        ensures value { IfOk result (IsRepeatOf IsIntervalRepeated count interval) }
+        ensures error { IfErr result (IsRepeatError IsIntervalError count interval) }
     {
         let Some(count) = occurrences(count) else {
             return Err(IntervalError::CountOutOfRange);
@@ -64,7 +64,7 @@ impl RepeatedDates {
 
 /// Returns the repetition of a period, if it is positive and has no exact duration.
 fn repeated(start: Date, period: Period, count: Option<u32>) -> Result<RepeatedDates, IntervalError>
-    ensures value { IfOk result (λ r. AreRepeated start period count r.start r.period r.count) }
+    ensures value { IfOk result (λ r. AreRepeated IsRepeated start period count r.start r.period r.count) }
     ensures error { IfErr result (IsPeriodError period) }
 {
     if !period.duration().is_zero() {

@@ -2,7 +2,7 @@
 ghost use Rattle.std.specs.Prelude.{◌≡◌, IfSome};
 ghost use Rattle.cal_time.specs.Date.{IsDate};
 ghost use Rattle.cal_schedule.specs.WorkdaysConvention.{adjusted_date, first_in_same_month, following, is_in_month_of, preceding};
-ghost use Rattle.cal_c.specs.CheckedWorkdays.{week_of, IsChecked};
+ghost use Rattle.cal_c.specs.CheckedWorkdays.{week_of, AreCounted};
 
 use crate::schedule::workdays::ranks::RankedWorkdays;
 use cal_date::day_number::to_date;
@@ -33,7 +33,7 @@ impl RankedWorkdays<'_> {
     /// Returns the first working day from a day on.
     fn following(&self, day: u32) -> Option<u32>
         requires { IsDate day }
-        ensures value { IsChecked self.now → result ≡ following (week_of self.now) day }
+        ensures value { AreCounted self.now → result ≡ following (week_of self.now) day }
         ensures range { IfSome result IsDate }
     {
         self.day_of_rank(self.rank(day))
@@ -42,7 +42,7 @@ impl RankedWorkdays<'_> {
     /// Returns the last working day up to a day.
     fn preceding(&self, day: u32) -> Option<u32>
         requires { IsDate day }
-        ensures value { IsChecked self.now → result ≡ preceding (week_of self.now) day }
+        ensures value { AreCounted self.now → result ≡ preceding (week_of self.now) day }
         ensures range { IfSome result IsDate }
     {
         self.day_of_rank(self.rank(day + 1) - 1)
@@ -51,7 +51,7 @@ impl RankedWorkdays<'_> {
     /// Moves a day by a convention.
     pub fn adjust(&self, day: u32, convention: Convention) -> Option<u32>
         requires { IsDate day }
-        ensures value { IsChecked self.now → result ≡ adjusted_date (week_of self.now) convention day }
+        ensures value { AreCounted self.now → result ≡ adjusted_date (week_of self.now) convention day }
         ensures range { IfSome result IsDate }
     {
         match convention {

@@ -3,9 +3,8 @@
 /// The maximum number of holidays.
 pub const MAX: usize = 1024;
 
-/// The number of indexes up to the maximum number of holidays, and one more, so that there is no
-/// padding.
-pub const MAX_INDEXES: usize = 1026;
+/// The number of indexes up to the maximum number of holidays.
+pub const MAX_INDEXES: usize = 1025;
 
 /// A weekmask and holidays. `fots_workdays_new` checks and fills it.
 #[repr(C)]
@@ -16,7 +15,7 @@ pub struct CheckedWorkdays {
     /// The holidays in ascending order, then zeros.
     pub holidays: [i32; MAX],
     /// The number of holidays before each index that have a marked weekday.
-    pub marked_before: [u16; MAX_INDEXES],
+    pub marked_before: [u32; MAX_INDEXES],
 }
 
 /// Checked working days.

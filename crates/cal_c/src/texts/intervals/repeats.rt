@@ -31,7 +31,7 @@ pub struct ParseRepeatedDatesResult {
 }
 
 /// Returns a number of occurrences, or 0 without an end.
-fn count_or_none(count: Option<u32>) -> u32
+pub(super) fn count_or_none(count: Option<u32>) -> u32
     ensures { result ≡ count_or_none count }
 {
     match count {

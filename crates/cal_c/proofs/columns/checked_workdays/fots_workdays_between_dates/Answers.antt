@@ -22,6 +22,6 @@ loop-row-preserved c =
       invalid_weekmask = λ m. if_refused refused _ _ (read.invalid_weekmask m) (omega (arith, ints), omega (arith, ints)) its-refused;
       too_many_holidays = λ m l. if_refused refused _ _ (read.too_many_holidays m l) (omega (arith, ints), omega (arith, ints)) its-refused;
       any = λ limits. record { error = if_read _ _ _ (read.value limits) its-invalid_date; value = λ both. if_read _ _ _ (read.value limits) its-any both.0 both.1 };
-      value = λ checked. if_read _ _ _ (read.value checked.limits) its-value checked;
+      value = λ checked. if_read _ _ _ (read.value checked.limits) its-value checked.counted;
     } in
     rows_two (λ k value status. IsWorkdaysBetween c.args.workdays.now (get_or c.args.dates.now k (pos 0)) (get_or c.args.others.now k (pos 0)) (number_row value status)) c.loop-row.numbers c.loop-row.statuses c.loop-row.row (to_z w32 (of_z w32 c.between_row.result.0)) (pos 0) c.between_row.result.1 0 (omega arith) (omega arith) c.loop-row.invariant (simp to_z-of_z here)

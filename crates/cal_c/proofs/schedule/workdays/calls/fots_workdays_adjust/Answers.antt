@@ -1,21 +1,11 @@
-use Rattle.std.proofs.Common.{ap, ◌∙◌, sym}
 use Rattle.std.proofs.lemmas.Int.{to_z-of_z}
-use Rattle.cal_schedule.specs.WorkdaysConvention.{adjusted_date}
-use Rattle.cal_c.specs.CheckedWorkdays.{week_of}
-use Rattle.cal_c.specs.Results.{date_or_out_of_range}
-use Rattle.cal_c.proofs.Schedules.{same_convention}
 use Rattle.cal_c.proofs.CheckedHolidays.{for_week}
-use Rattle.cal_c.proofs.Needs.{met}
 use Rattle.cal_c.proofs.schedule.workdays.calls.fots_workdays_adjust.Goals as goal
 
 pub returns : goal.returns
 returns c =
     let f = c.ranges.date in
     let new = c.in-Ok.ensures in
-    let at = simp to_z-of_z at c.in-Some.ensures in
-    let by = c.in-Some-valid_convention.ensures in
-    let week = week_of c.in-Ok.value in
-    for_week _ c.in-Ok.value _ _ _ new.invalid_weekmask new.too_many_holidays new.value
-    (met at.0 (met by.0 (c.adjust.result, c.adjust.ensures.range, c.date_result.ensures)))
-    (λ checked h way number. c.date_result.ensures ∙ ap date_or_out_of_range
-    (c.adjust.ensures.value checked ∙ ap (λ q. adjusted_date week q c.in-Some.value) (same_convention _ way (by.1 ∙ sym number)) ∙ ap (adjusted_date week way) at.1))
+    let any = simp to_z-of_z at c.adjust.ensures.any in
+    let value = simp to_z-of_z at c.adjust.ensures.value in
+    for_week c.args.workdays.now c.in-Ok.value _ _ _ new.invalid_weekmask new.too_many_holidays new.value any value

@@ -1,23 +1,12 @@
-use Rattle.std.proofs.Common.{ap, ◌∙◌, rules, FitsSigned, w32}
 use Rattle.std.proofs.lemmas.Int.{to_z-of_z}
-use Rattle.cal_c.specs.CheckedWorkdays.{week_of}
-use Rattle.cal_c.specs.Results.{number_ok}
-use Rattle.cal_c.specs.Values.{day_of}
-use Rattle.cal_c.specs.Weekmasks.{workdays_between}
 use Rattle.cal_c.proofs.CheckedHolidays.{for_week}
-use Rattle.cal_c.proofs.Needs.{met}
 use Rattle.cal_c.proofs.schedule.workdays.calls.fots_workdays_between.Goals as goal
 
 pub returns : goal.returns
 returns c =
     let f = c.ranges.date in
-    let new = c.in-Ok.ensures in
-    let at = simp to_z-of_z at c.in-Some.ensures in
     let g = c.ranges.other in
-    let to = simp to_z-of_z at c.in-Some-day_number.ensures in
-    let fits : FitsSigned w32 c.between.result = search rules in
-    let ok = simp to_z-of_z at c.ok.ensures in
-    let week = week_of c.in-Ok.value in
-    for_week _ c.in-Ok.value _ _ _ new.invalid_weekmask new.too_many_holidays new.value (met (at.0, to.0) (ap (λ r. r.status) c.ok.ensures))
-    (λ checked h k. ok ∙ ap number_ok
-    (c.between.ensures checked ∙ ap (λ n. workdays_between week n c.in-Some-day_number.value) at.1 ∙ ap (workdays_between week (day_of c.args.date)) to.1))
+    let new = c.in-Ok.ensures in
+    let any = simp to_z-of_z at c.between.ensures.any in
+    let value = simp to_z-of_z at c.between.ensures.value in
+    for_week c.args.workdays.now c.in-Ok.value _ _ _ new.invalid_weekmask new.too_many_holidays new.value any value

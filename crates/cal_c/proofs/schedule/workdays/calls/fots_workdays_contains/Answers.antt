@@ -1,19 +1,11 @@
-use Rattle.std.proofs.Common.{ap, refl, ◌∙◌, rules, FitsSigned, w32}
 use Rattle.std.proofs.lemmas.Int.{to_z-of_z}
-use Rattle.cal_schedule.specs.Workdays.{is_workday}
-use Rattle.cal_c.specs.CheckedWorkdays.{week_of}
-use Rattle.cal_c.specs.Results.{number_ok}
-use Rattle.cal_c.proofs.CheckedHolidays.{for_week, bit-of}
-use Rattle.cal_c.proofs.Needs.{met}
+use Rattle.cal_c.proofs.CheckedHolidays.{for_week}
 use Rattle.cal_c.proofs.schedule.workdays.calls.fots_workdays_contains.Goals as goal
 
 pub returns : goal.returns
 returns c =
     let f = c.ranges.date in
     let new = c.in-Ok.ensures in
-    let at = simp to_z-of_z at c.in-Some.ensures in
-    let fits : FitsSigned w32 c.from.result = search rules in
-    let ok = simp to_z-of_z at c.ok.ensures in
-    for_week _ c.in-Ok.value _ _ _ new.invalid_weekmask new.too_many_holidays new.value
-    (met at.0 (c.contains.result, ok ∙ ap number_ok (c.from.ensures ∙ bit-of c.contains.result c.contains.result refl)))
-    (λ checked h. ok ∙ ap number_ok (c.from.ensures ∙ bit-of c.contains.result _ (c.contains.ensures checked ∙ ap (is_workday (week_of c.in-Ok.value)) at.1)))
+    let any = simp to_z-of_z at c.contains.ensures.any in
+    let value = simp to_z-of_z at c.contains.ensures.value in
+    for_week c.args.workdays.now c.in-Ok.value _ _ _ new.invalid_weekmask new.too_many_holidays new.value any value

@@ -1,6 +1,5 @@
 use Rattle.std.proofs.Common.{◌+◌, ◌-◌, ◌/◌, ◌<◌, arith, length}
 use Rattle.cal_schedule.proofs.WorkdaysWeeks.{rises, low-more, high-less}
-use Rattle.cal_c.specs.CheckedWorkdays.{holidays_of}
 use Rattle.cal_c.specs.Values.{dates_in}
 use Rattle.cal_c.proofs.schedule.workdays.ranks.RankedWorkdays.holidays_before.Goals as goal
 
@@ -16,7 +15,7 @@ loop-low-init c =
 
 pub loop-low-preserved-then-holiday-day : goal.loop-low-preserved-then-holiday-day
 loop-low-preserved-then-holiday-day c =
-    let days = dates_in (holidays_of c.args.self.now) in
+    let days = dates_in c.args.self.now.holidays in
     let middle = c.loop-low.low + (c.loop-low.high - c.loop-low.low) / 2 in
     let low : middle < length days = omega (arith, c.loop-low.invariant.most, c.holiday_count-high.ensures.value, c.holiday_count-high.ensures.length) in
     record {
@@ -28,7 +27,7 @@ loop-low-preserved-then-holiday-day c =
 
 pub loop-low-preserved : goal.loop-low-preserved
 loop-low-preserved c =
-    let days = dates_in (holidays_of c.args.self.now) in
+    let days = dates_in c.args.self.now.holidays in
     let middle = c.loop-low.low + (c.loop-low.high - c.loop-low.low) / 2 in
     record {
       order = omega arith;

@@ -1,7 +1,7 @@
 use Rattle.std.proofs.Common.{◌+◌, ◌-◌, ◌/◌, ◌<◌, refl, arith, length}
 use Rattle.std.proofs.lemmas.Int.{ints, to_z-of_z}
 use Rattle.cal_schedule.proofs.WorkdaysWeeks.{rises}
-use Rattle.cal_c.specs.CheckedWorkdays.{holidays_of, week_of}
+use Rattle.cal_c.specs.CheckedWorkdays.{week_of}
 use Rattle.cal_c.specs.Values.{dates_in}
 use Rattle.cal_schedule.proofs.WorkdaysSearch.{step, passed-more, left-less}
 use Rattle.cal_c.proofs.schedule.workdays.ranks.RankedWorkdays.holidays_passed.Goals as goal
@@ -19,7 +19,7 @@ loop-low-init c =
 pub loop-low-preserved-then-marked-rank : goal.loop-low-preserved-then-marked-rank
 loop-low-preserved-then-marked-rank c =
     let w = week_of c.args.self.now in
-    let days = dates_in (holidays_of c.args.self.now) in
+    let days = dates_in c.args.self.now.holidays in
     let middle = c.loop-low.low + (c.loop-low.high - c.loop-low.low) / 2 in
     let low : middle < length days = omega (arith, c.loop-low.invariant.most, c.holiday_count-high.ensures.value, c.holiday_count-high.ensures.length) in
     record {
@@ -34,7 +34,7 @@ loop-low-preserved-then-marked-rank c =
 pub loop-low-preserved : goal.loop-low-preserved
 loop-low-preserved c =
     let w = week_of c.args.self.now in
-    let days = dates_in (holidays_of c.args.self.now) in
+    let days = dates_in c.args.self.now.holidays in
     let middle = c.loop-low.low + (c.loop-low.high - c.loop-low.low) / 2 in
     let low : middle < length days = omega (arith, c.loop-low.invariant.most, c.holiday_count-high.ensures.value, c.holiday_count-high.ensures.length) in
     record {
