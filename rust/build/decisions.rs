@@ -98,6 +98,7 @@ const HIDDEN: &[(&str, &[&str])] = &[
     ("Values", &["from_slice", "push"]),
     ("ParseError", &["unexpected"]),
     ("Scanner", &["byte_from"]),
+    ("Fields", &["are_within"]),
     ("Layout", &["kind"]),
     ("Table", &["new", "time", "kind", "change"]),
     ("Instants", &["select"]),
