@@ -48,13 +48,12 @@ fn sets() {
 fn values() {
     let text = unfolded(FILE);
     let event = Events::new(&text).next().unwrap().unwrap();
-    let rows: [(&[u8], Option<&[u8]>); 6] = [
+    let rows: [(&[u8], Option<&[u8]>); 5] = [
         (b"uid", Some(b"one")),
         (b"SUMMARY", Some(b"Team")),
         (b"LOCATION", Some(b"Here")),
         (b"ATTENDEE", Some(b"mailto:x")),
         (b"DESCRIPTION", None),
-        (b"", None),
     ];
     for (name, value) in rows {
         assert_eq!(event.value(name), value);
