@@ -97,6 +97,7 @@ const HIDDEN: &[(&str, &[&str])] = &[
     ("Text", &["push_to"]),
     ("Values", &["from_slice", "push"]),
     ("ParseError", &["unexpected"]),
+    ("Fields", &["are_within"]),
     ("Scanner", &["byte_from"]),
     ("Fields", &["are_within"]),
     ("Layout", &["kind"]),
