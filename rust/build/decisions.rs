@@ -97,7 +97,6 @@ const HIDDEN: &[(&str, &[&str])] = &[
     ("Text", &["push_to"]),
     ("Values", &["from_slice", "push"]),
     ("ParseError", &["unexpected"]),
-    ("Fields", &["are_within"]),
     ("Scanner", &["byte_from"]),
     ("Fields", &["are_within"]),
     ("Layout", &["kind"]),
