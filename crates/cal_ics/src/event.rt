@@ -18,18 +18,18 @@ pub struct Event<'a> {
 }
 
 impl<'a> Event<'a> {
-    /// Parses the set of the event, as [`parse_event_set`] does. Positions of errors count from the
-    /// start of the lines of the event. For `DTSTART:20240101` and `RRULE:FREQ=DAILY;COUNT=3`, the
-    /// set has 1, 2 and 3 January 2024.
+    /// Parses the set of the event: its lines `DTSTART`, `RRULE`, `RDATE` and `EXDATE`. Positions of
+    /// errors count from the start of the lines of the event. For `DTSTART:20240101` and
+    /// `RRULE:FREQ=DAILY;COUNT=3`, the set has 1, 2 and 3 January 2024.
     pub fn set(&self) -> Result<SetParts<'a>, ParseSetError>
         ensures { IsEventSet self.now.lines.now result }
     {
         parse_event_set(self.lines)
     }
 
-    /// Returns the value of the first line of the event with this name, as [`first_value`] does, or
-    /// `None` without such a line. The value can have escapes, such as `\,`. For
-    /// `SUMMARY;LANGUAGE=en:Meeting`, the value of `summary` is `Meeting`.
+    /// Returns the value of the first line of the event with this name, or `None` without such a
+    /// line. The value can have escapes, such as `\,`. For `SUMMARY;LANGUAGE=en:Meeting`, the value
+    /// of `summary` is `Meeting`.
     pub fn value(&self, name: &[u8]) -> Option<&'a [u8]>
         ensures { option_map (λ value. value.now) result
             ≡ slice_get (values_named name.now self.now.lines.now) 0 }

@@ -20,8 +20,8 @@ fn set_line(depth: usize, line: &[u8]) -> &[u8]
 }
 
 /// Parses the set of the lines of an event: its lines `DTSTART`, `RRULE`, `RDATE` and `EXDATE`, as
-/// [`parse_set`](cal_recurrence::parse_set) does. Other lines are ignored, as are those of components
-/// in the event, such as `VALARM`.
+/// `cal_recurrence::parse_set` does. Other lines are ignored, as are those of components in the
+/// event, such as `VALARM`.
 ///
 /// Returns the error of the first invalid line, or else `Missing` if there is no `DTSTART`. Positions
 /// count from the start of the lines. For `DTSTART:20240101` and `SUMMARY:Event`, the set has 1

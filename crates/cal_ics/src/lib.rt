@@ -1,6 +1,6 @@
 //! Events of calendar files (iCalendar, RFC 5545) and their recurrence sets.
 //!
-//! The text of a file has its lines unfolded first, by [`unfold`](cal_recurrence::unfold). Then
+//! The text of a file has its lines unfolded first, by `cal_recurrence::unfold`. Then
 //! [`first_event`] finds the next event, and [`Event::set`] parses its set.
 //!
 //! These components and properties aren't applied: `VTODO`, `VJOURNAL`, `VFREEBUSY`, `EXRULE`,

@@ -74,9 +74,8 @@ fn find_end(lines: &[u8]) -> Option<End<'_>>
     None
 }
 
-/// Finds the first event of a calendar with unfolded lines, as [`unfold`](cal_recurrence::unfold)
-/// returns them, or returns `Ok(None)` without one. The next event is the first one of
-/// [`Event::rest`].
+/// Finds the first event of a calendar with unfolded lines, as `unfold` returns them, or returns
+/// `Ok(None)` without one. The next event is the first one of [`Event::rest`].
 ///
 /// Lines end with LF or CR LF. Names match in any case. Components in the event, such as `VALARM`,
 /// have their own `BEGIN` and `END`.
