@@ -271,6 +271,15 @@ static fots_workdays any_fots_workdays(void)
     return fots_workdays_new((uint32_t)number(0, 127), drawn_days, length).workdays;
 }
 
+static fots_workdays_view any_fots_workdays_view(void)
+{
+    static uint32_t counts[sizeof drawn_days / sizeof *drawn_days + 1];
+    const size_t length = any_holidays();
+    const fots_workdays_view view = {(uint32_t)number(0, 127), drawn_days, length, counts, length + 1};
+    fots_workdays_view_count(view.weekmask, view.holidays, length, counts, length + 1);
+    return view;
+}
+
 static fots_rule any_fots_rule(void)
 {
     static fots_recurrence recurrence;
