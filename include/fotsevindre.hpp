@@ -1242,6 +1242,15 @@ inline std::size_t errors_or_throw(std::size_t errors)
     return errors;
 }
 
+// Throws an exception unless two columns have the same length. An empty vector can have a null pointer,
+// which the functions for C don't take.
+inline void check_lengths(std::size_t one, std::size_t other)
+{
+    if (one != other) {
+        throw std::invalid_argument("columns of different lengths");
+    }
+}
+
 } // namespace detail
 
 // Rounds times of day to multiples of a unit that divides 24 hours.
@@ -1260,7 +1269,8 @@ inline PairColumn round_pairs(const std::vector<std::int32_t> &dates, const std:
 {
     PairColumn found{std::vector<std::int32_t>(dates.size()), std::vector<std::uint64_t>(dates.size()),
         std::vector<std::uint8_t>(dates.size()), 0};
-    if (!dates.empty() || !times.empty()) {
+    detail::check_lengths(dates.size(), times.size());
+    if (!dates.empty()) {
         found.errors = detail::errors_or_throw(fots_pairs_round(dates.data(), dates.size(), times.data(), times.size(), unit.c(),
             static_cast<std::uint32_t>(mode), found.dates.data(), found.dates.size(), found.times.data(), found.times.size(),
             found.statuses.data(), found.statuses.size()));
@@ -1285,7 +1295,8 @@ inline TextColumn duration_texts(const std::vector<std::int64_t> &seconds, const
 {
     const std::size_t rows = seconds.size();
     TextColumn found{std::string(rows * FOTS_MAX_DURATION_LENGTH, ' '), std::vector<std::int32_t>(rows + 1), std::vector<std::uint8_t>(rows), 0};
-    if (rows || !nanoseconds.empty()) {
+    detail::check_lengths(rows, nanoseconds.size());
+    if (rows) {
         found.errors = detail::errors_or_throw(fots_durations_texts(seconds.data(), rows, nanoseconds.data(), nanoseconds.size(),
             &found.bytes[0], found.bytes.size(), found.bounds.data(), rows + 1, found.statuses.data(), rows));
     }
