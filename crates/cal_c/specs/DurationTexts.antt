@@ -42,7 +42,7 @@ parsed_period_ok p = record { status = OK; period = (exact_period_ok p).period; 
 abbrev pub parsed_period_error_at : ℤ → ℕ → ParsePeriodResult
 parsed_period_error_at s at = record { status = s; period = (exact_period_error s).period; position = at }
 
--- The result with the text of a period, filled with zeros up to 88 bytes.
+-- The result with the string of a period, filled with zeros up to 88 bytes.
 abbrev pub period_text_ok : List ℕ → PeriodTextResult
 period_text_ok text = record { status = OK; length = length text; bytes = text ++ replicate (88 - length text) 0 }
 

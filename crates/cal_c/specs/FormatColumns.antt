@@ -1,4 +1,4 @@
--- Columns of dates in the texts of a format.
+-- Columns of dates in the strings of a format.
 use Rattle.std.specs.Prelude.{◌≡◌, ℕ, ◌*◌, ℤ, pos, List, [], min, max, IsTrue}
 use Rattle.cal_time.specs.Date.{julian_day_at}
 use Rattle.cal_format.specs.declared.item.Item.{Item}
@@ -26,7 +26,7 @@ pub record IsDateByFormatRow (f : FormatParts) (bytes : List ℕ) (from to : ℤ
   pub bounds : (AreBoundsWithin bytes from to → ⊥) → r ≡ date_error INVALID_BOUNDS
   pub read : AreBoundsWithin bytes from to → IsDateByFormat f (bytes_between bytes from to) r
 
--- The bytes of room for each text of a format: 15 for each item, and at least 15.
+-- The bytes of room for each string of a format: 15 for each item, and at least 15.
 abbrev pub room_for_text : FormatParts → ℕ
 room_for_text f = max 1 (min f.length 64) * 15
 

@@ -1,4 +1,4 @@
--- Values from texts of formats.
+-- Values from strings of formats.
 use Rattle.std.specs.Prelude.{◌≡◌, ℕ, ℤ, pos, unsigned_abs, List, IsTrue}
 use Rattle.cal_time.specs.Date.{IsDate}
 use Rattle.cal_time.specs.Time.{IsTime}
@@ -20,8 +20,8 @@ use Rattle.cal_c.specs.declared.formats.parse_results.ParseTimeResult.{ParseTime
 use Rattle.cal_c.specs.declared.formats.parse_results.ParseOffsetResult.{ParseOffsetResult}
 use Rattle.cal_c.specs.declared.texts.ParseMomentResult.{ParseMomentResult}
 
--- ---- texts of values that the items hold
--- The items hold this date, time of day, offset, date-time or moment, and print it as the text.
+-- ---- strings of values that the items hold
+-- The items hold this date, time of day, offset, date-time or moment, and print it as the string.
 abbrev pub IsTextOfDate : List Item → List ℕ → ℕ → Type 0
 IsTextOfDate items text n = IsDate n × AreHeld (moment_of_date n) items × (text ≡ text_of items (moment_of_date n))
 
@@ -71,7 +71,7 @@ parse_position (UnexpectedEnd at) = at
 parse_position (OutOfRange why) = no_position
 parse_position (Contradiction c) = unsigned_abs (component_status c)
 
--- The result is the value of the text, or says why the text is rejected.
+-- The result is the value of the string, or says why the string is rejected.
 pub record IsParsed {T R : Type 0} (IsText : T → Type 0) (Rejects : ParseError → Type 0) (ok : T → R) (error_at : ℤ → ℕ → R) (r : R) : Type 0 where
   pub value : (v : T) → IsText v → r ≡ ok v
   pub error : (((v : T) × IsText v) → ⊥) → (e : ParseError) × Rejects e × (r ≡ error_at (parse_status e) (parse_position e))

@@ -83,8 +83,8 @@ format_error TooLong = format_error_at TOO_MANY_ITEMS no_position
 abbrev pub SpellsFormat : Syntax → List ℕ → List Item → Type 0
 SpellsFormat s bytes items = Spells s bytes items [] × (length items ≤ 64)
 
--- The result is the format that a text spells. Else the text is not UTF-8 from a position on, or no
--- item begins at a position, or there are too many items.
+-- The result is the format that a string spells. Else the string is not UTF-8 from a position on,
+-- or no item begins at a position, or there are too many items.
 pub record IsFormatOf (s : Syntax) (bytes : List ℕ) (r : FormatResult) : Type 0 where
   pub not_utf8 : (IsUtf8 bytes → ⊥) → r ≡ format_error_at UNEXPECTED_BYTE (utf8_valid_len bytes)
   pub value : IsUtf8 bytes → (items : List Item) → SpellsFormat s bytes items → r ≡ format_ok items

@@ -1,4 +1,4 @@
--- Columns of texts in all formats of ISO 8601.
+-- Columns of strings in all formats of ISO 8601.
 use Rattle.std.specs.Prelude.{◌≡◌, ℕ, ℤ, List}
 use Rattle.cal_time.specs.Date.{julian_day_at}
 use Rattle.cal_time.specs.declared.error.ComponentRange.{ComponentRange}

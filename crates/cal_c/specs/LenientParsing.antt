@@ -1,4 +1,4 @@
--- Values from variants of texts of formats.
+-- Values from variants of strings of formats.
 use Rattle.std.specs.Prelude.{ℕ, ℤ, pos, negsuc, min, List, Option, Some, None}
 use Rattle.cal_time.specs.Date.{IsDate}
 use Rattle.cal_time.specs.Time.{IsTime}
@@ -18,8 +18,8 @@ pivot_of (negsuc n) = None
 abbrev pub lenient_of : List Item → ℤ → LenientFormat
 lenient_of items pivot = record { format = items; pivot = pivot_of pivot }
 
--- The format holds this date, time of day, date-time or moment, and the text is a variant of what it
--- prints of it.
+-- The format holds this date, time of day, date-time or moment, and the string is a variant of what
+-- it prints of it.
 abbrev pub IsVariantOfDate : LenientFormat → List ℕ → ℕ → Type 0
 IsVariantOfDate f text n = IsDate n × IsRead f (moment_of_date n) text
 

@@ -27,7 +27,7 @@ pub record IsFormatOf (f : FormatParts) (P : List Item → Type 0) : Type 0 wher
   pub format : IsFormat f
   pub every : (items : List Item) → HasItems f items → P items
 
--- An item was parsed at the front of a text, and the items after it can't continue it.
+-- An item was parsed at the front of a string, and the items after it can't continue it.
 pub record ScansItem (old new : Fields) (text rest : List ℕ) (others : List FormatItem) (i : Item) : Type 0 where
   pub has : HasField i old new text rest
   pub apart : (items : List Item) → others ≡ map item_parts items → IsTrue (ends_before i items)
@@ -37,7 +37,8 @@ pub record ScansItems (old new : Fields) (text rest : List ℕ) (items : List It
   pub has : HasFields items old new text rest
   pub apart : IsTrue (are_apart items)
 
--- An item shows only components of a range, and its text stands in the buffer between two positions.
+-- An item shows only components of a range, and its string stands in the buffer between two
+-- positions.
 pub record PrintsItem (low high : ℕ) (v : Moment) (old new : List ℕ) (at end : ℕ) (i : Item) : Type 0 where
   pub within : IsTrue (shows_within low high i)
   pub text : take end new ≡ take at old ++ item_text [] v i

@@ -1,4 +1,4 @@
--- The result of a text that doesn't parse.
+-- The result of a string that doesn't parse.
 use Rattle.std.specs.Prelude.{ℕ, ℤ}
 use Rattle.cal_text.specs.declared.error.ParseError.{ParseError}
 use Rattle.cal_text.specs.declared.error.ParseError.TheVariants.{UnexpectedByte, UnexpectedEnd, OutOfRange}

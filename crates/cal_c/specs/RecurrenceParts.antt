@@ -100,7 +100,7 @@ no_parts = record {
   unused = 0;
 }
 
--- The result of parsing: the parts of the recurrence, or the first wrong part of the text.
+-- The result of parsing: the parts of the recurrence, or the first wrong part of the string.
 abbrev pub parse_recurrence_result : Result Recurrence ParseRuleError → ParseRecurrenceResult
 parse_recurrence_result (Ok its) = record { status = OK; part = 0; position = no_position; recurrence = parts_of its }
 parse_recurrence_result (Err fault) = record { status = reason_status fault.reason; part = error_part fault.reason; position = fault.position; recurrence = no_parts }

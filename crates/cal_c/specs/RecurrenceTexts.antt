@@ -53,26 +53,26 @@ error_part Missing = 0
 abbrev pub recurrence_ok : ℕ → RecurrenceResult
 recurrence_ok count = record { status = OK; part = 0; length = count; position = no_position }
 
--- The result with an error outside the text.
+-- The result with an error outside the string.
 abbrev pub recurrence_error : ℤ → RecurrenceResult
 recurrence_error s = record { status = s; part = 0; length = 0; position = no_position }
 
--- The result with the first wrong part of the text.
+-- The result with the first wrong part of the string.
 abbrev pub recurrence_parse_error : ParseRuleError → RecurrenceResult
 recurrence_parse_error fault =
     record { status = reason_status fault.reason; part = error_part fault.reason; length = 0; position = fault.position }
 
--- The result with a text, filled with zeros up to 4064 bytes.
+-- The result with a string, filled with zeros up to 4064 bytes.
 abbrev pub recurrence_text_ok : List ℕ → RecurrenceTextResult
 recurrence_text_ok text =
     record { status = OK; part = 0; position = no_position; length = length text; bytes = text ++ replicate (4064 - length text) 0 }
 
--- The result with the first wrong part of the text.
+-- The result with the first wrong part of the string.
 abbrev pub recurrence_text_error : ParseRuleError → RecurrenceTextResult
 recurrence_text_error fault =
     record { status = reason_status fault.reason; part = error_part fault.reason; position = fault.position; length = 0; bytes = replicate 4064 0 }
 
--- The result of parsing a text and writing its recurrence.
+-- The result of parsing a string and writing its recurrence.
 abbrev pub recurrence_text_result : Result Recurrence ParseRuleError → RecurrenceTextResult
 recurrence_text_result (Ok its) = recurrence_text_ok (text_of its)
 recurrence_text_result (Err fault) = recurrence_text_error fault

@@ -1,5 +1,5 @@
--- Columns of texts. One array has the bytes of all texts, and one has the start of each text, which
--- is the end of the text before it.
+-- Columns of strings. One array has the bytes of all strings, and one has the start of each string,
+-- which is the end of the string before it.
 use Rattle.std.specs.Prelude.{◌≡◌, ℕ, ◌+◌, ◌*◌, ◌<◌, ◌≤◌, ℤ, pos, ◌≤ℤ◌, unsigned_abs, List, [], length, drop, count_by}
 use Rattle.std.specs.List.{between}
 use Rattle.cal_time.specs.Date.{IsDate, julian_day_at}
@@ -31,7 +31,7 @@ pub record AreBoundsWithin (bytes : List ℕ) (from to : ℤ) : Type 0 where
 abbrev pub bytes_between : List ℕ → ℤ → ℤ → List ℕ
 bytes_between bytes from to = between (unsigned_abs from) (unsigned_abs to) bytes
 
--- The text of row k.
+-- The string of row k.
 abbrev pub text_at : List ℕ → List ℤ → ℕ → List ℕ
 text_at bytes bounds k = bytes_between bytes (int_at bounds k) (int_at bounds (k + 1))
 
@@ -40,7 +40,7 @@ pub record HasRoomFor (longest rows bytes : ℕ) : Type 0 where
   pub room : rows * longest ≤ bytes
   pub few : rows * longest ≤ 2_147_483_647
 
--- The texts follow each other from the front, each between its bounds and with its result. The
+-- The strings follow each other from the front, each between its bounds and with its result. The
 -- bytes after them are unchanged, and the rows with an error are counted.
 pub record ArePrinted (old new : List ℕ) (bounds : List ℤ) (statuses : List ℕ) (refused : ℕ) (Row : ℕ → List ℕ → ℕ → Type 0) : Type 0 where
   pub first : int_at bounds 0 ≡ pos 0

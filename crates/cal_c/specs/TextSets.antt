@@ -1,4 +1,4 @@
--- Recurrence sets of a text and lists of readings: their readings, and their moments in a zone.
+-- Recurrence sets of a string and lists of readings: their readings, and their moments in a zone.
 use Rattle.std.specs.Prelude.{◌≡◌, ◌⊎◌, ℕ, zero, suc, ◌<◌, ◌≤◌, min, ℤ, pos, List, [], All, get_or, length, map, Option}
 use Rattle.cal_time.specs.Date.{julian_day_at}
 use Rattle.cal_datetime.specs.DateTime.{date_at, time_at}

@@ -1,4 +1,4 @@
--- Texts for C, and the results of parsing.
+-- Strings for C, and the results of parsing.
 use Rattle.std.specs.Prelude.{◌≡◌, ◌⊎◌, ℕ, ◌-◌, ◌<◌, ℤ, List, ◌++◌, length, replicate}
 use Rattle.cal_time.specs.Date.{julian_day_at}
 use Rattle.cal_time.specs.Month.{month_of_index, name}
@@ -16,8 +16,8 @@ use Rattle.cal_c.specs.declared.texts.TextResult.{TextResult}
 use Rattle.cal_c.specs.declared.texts.ParseDateResult.{ParseDateResult}
 use Rattle.cal_c.specs.declared.texts.ParseMomentResult.{ParseMomentResult}
 
--- ---- texts
--- The result with a text, filled with zeros up to 40 bytes.
+-- ---- strings
+-- The result with a string, filled with zeros up to 40 bytes.
 abbrev pub text_ok : List ℕ → TextResult
 text_ok text = record { status = OK; length = length text; bytes = text ++ replicate (40 - length text) 0 }
 

@@ -78,8 +78,7 @@ pub record HasRule (p : CheckedParts) : Type 0 where
   pub second : HasPlaces p.other
   pub calm : IsCalm (yearly_in p.one) (yearly_in p.other)
 
--- The mark of the parts says that there is no rule, or that there is one, and then the two changes
--- are a rule.
+-- The mark of the parts says whether there is a rule. If there is one, the two changes are a rule.
 abbrev pub HasRuleOrNone : CheckedParts → Type 0
 HasRuleOrNone p = (p.rule ≡ 1) ⊎ ((p.rule ≡ 2) × HasRule p)
 
@@ -188,14 +187,14 @@ abbrev pub IsMomentInZone : Timeline → LocalAndOffset → MomentResult → Typ
 IsMomentInZone z m r =
     let offset = zones.offset_at z (unix_seconds (instant m)) in IsMomentOrError RESULT_OUT_OF_RANGE (local_at (instant m) offset) offset r
 
--- ---- texts
--- The text of a local date-time at an offset, with an abbreviation of at most 15 bytes.
+-- ---- strings
+-- The string of a local date-time at an offset, with an abbreviation of at most 15 bytes.
 pub record IsPrintedAt (a : List ℕ) (local offset : ℤ) (items : List Item) (old new : List ℕ) (r : LengthResult) : Type 0 where
   pub out_of_range : (IsDateTime local → ⊥) → IsUnprinted old new r (length_error RESULT_OUT_OF_RANGE)
   pub unsupported_item : IsDateTime local → 15 < length a → IsUnprinted old new r (length_error UNSUPPORTED_ITEM)
   pub text : IsDateTime local → length a ≤ 15 → IsWritten (text_in_zone a items (moment_of_offset_date_time (record { local = local; offset = offset }))) old new r
 
--- The text of the same instant by the clocks of the zone.
+-- The string of the same instant by the clocks of the zone.
 abbrev pub IsPrintedInZone : List ℕ → Timeline → LocalAndOffset → List Item → List ℕ → List ℕ → LengthResult → Type 0
 IsPrintedInZone bytes z m items old new r =
     let kind = zones.kind_at z (unix_seconds (instant m)) in

@@ -23,7 +23,7 @@ ghost use Rattle.cal_c.specs.Texts.{HasDateSyntax, HasMomentSyntax, HasDateError
 use cal_duration::{duration, period};
 use cal_text::{date, julian_day, offset, offset_date_time, plain, rfc3339, time, unix};
 
-/// States that a text is a date, has no form of a date, or has a component out of range.
+/// States that a string is a date, has no form of a date, or has a component out of range.
 pub fn date_cases(text: &[u8])
     ensures { ((n : ℕ) × IsDate n × IsDateText text.now n) ⊎ (¬ HasDateSyntax text.now)
         ⊎ ((why : ComponentRange) × HasDateError text.now why) }
@@ -31,7 +31,7 @@ pub fn date_cases(text: &[u8])
     let _ = date::parse(text);
 }
 
-/// States that a text is a Julian day of a date, has no such form, or is out of range.
+/// States that a string is a Julian day of a date, has no such form, or is out of range.
 pub fn julian_day_cases(text: &[u8])
     ensures { ((n : ℕ) × IsDate n × (text.now ≡ julian_text n)) ⊎ (¬ HasSome IsJulianForm text.now)
         ⊎ ((why : ComponentRange) × HasError IsJulianForm IsJulianDayError text.now why) }
@@ -39,7 +39,7 @@ pub fn julian_day_cases(text: &[u8])
     let _ = julian_day::parse(text);
 }
 
-/// States that a text is a moment, has no such form, or has a component out of range.
+/// States that a string is a moment, has no such form, or has a component out of range.
 pub fn moment_cases(text: &[u8])
     ensures { ((m : LocalAndOffset) × IsMomentText text.now m) ⊎ (¬ HasMomentSyntax text.now)
         ⊎ ((why : ComponentRange) × HasMomentError text.now why) }
@@ -47,7 +47,7 @@ pub fn moment_cases(text: &[u8])
     let _ = rfc3339::parse(text);
 }
 
-/// States that a text is a Unix time of a moment, has no such form, or is out of range.
+/// States that a string is a Unix time of a moment, has no such form, or is out of range.
 pub fn unix_cases(text: &[u8])
     ensures { ((m : LocalAndOffset) × IsUnixText text.now m) ⊎ (¬ HasSome HasUnixForm text.now)
         ⊎ ((why : ComponentRange) × HasError HasUnixForm IsUnixTimeError text.now why) }
@@ -55,7 +55,7 @@ pub fn unix_cases(text: &[u8])
     let _ = unix::parse(text);
 }
 
-/// States that a text is a time of day, has no such form, or has a component out of range.
+/// States that a string is a time of day, has no such form, or has a component out of range.
 pub fn time_cases(text: &[u8])
     ensures { ((t : ℕ) × IsTimeText text.now t) ⊎ (¬ HasSome HasTimeForm text.now)
         ⊎ ((why : ComponentRange) × HasError HasTimeForm IsTimeError text.now why) }
@@ -63,7 +63,7 @@ pub fn time_cases(text: &[u8])
     let _ = time::parse(text);
 }
 
-/// States that a text is an offset, has no such form, or has a component out of range.
+/// States that a string is an offset, has no such form, or has a component out of range.
 pub fn offset_cases(text: &[u8])
     ensures { ((o : ℤ) × IsOffsetText text.now o) ⊎ (¬ HasSome HasOffsetForm text.now)
         ⊎ ((why : ComponentRange) × HasError HasOffsetForm IsOffsetError text.now why) }
@@ -71,7 +71,7 @@ pub fn offset_cases(text: &[u8])
     let _ = offset::parse(text);
 }
 
-/// States that a text is a date-time, has no such form, or has a component out of range.
+/// States that a string is a date-time, has no such form, or has a component out of range.
 pub fn pair_cases(text: &[u8])
     ensures { ((p : ℤ) × IsPlainText text.now p) ⊎ (¬ HasSome HasPlainForm text.now)
         ⊎ ((why : ComponentRange) × HasError HasPlainForm IsPlainError text.now why) }
@@ -79,7 +79,7 @@ pub fn pair_cases(text: &[u8])
     let _ = plain::parse(text);
 }
 
-/// States that a text is a date-time at an offset, has no such form, or has a component out of
+/// States that a string is a date-time at an offset, has no such form, or has a component out of
 /// range.
 pub fn offset_date_time_cases(text: &[u8])
     ensures { ((m : LocalAndOffset) × IsOffsetDateTimeText text.now m)
@@ -90,7 +90,7 @@ pub fn offset_date_time_cases(text: &[u8])
     let _ = offset_date_time::parse(text);
 }
 
-/// States that a text is a duration, has no such form, or has a part out of range.
+/// States that a string is a duration, has no such form, or has a part out of range.
 pub fn duration_cases(text: &[u8])
     ensures { ((v : ℤ) × IsDurationText text.now v) ⊎ (¬ HasSome HasDurationForm text.now)
         ⊎ ((why : DurationComponent)
@@ -99,7 +99,7 @@ pub fn duration_cases(text: &[u8])
     let _ = duration::parse(text);
 }
 
-/// States that a text is a period, has no such form, or has a part out of range.
+/// States that a string is a period, has no such form, or has a part out of range.
 pub fn period_cases(text: &[u8])
     ensures { ((p : Parts) × IsPeriodText text.now p) ⊎ (¬ HasSome HasPeriodForm text.now)
         ⊎ ((why : DurationComponent)

@@ -1,6 +1,7 @@
 //! The statuses. The header has them as an enum. The statuses from `YEAR_OUT_OF_RANGE` to
-//! `TIMESTAMP_OUT_OF_RANGE`, and from `DAY_OUT_OF_RANGE` to `WEEKDAY_OUT_OF_RANGE`, name a component
-//! that is out of range, as do those of the parts of a duration, from `YEARS_OUT_OF_RANGE` on.
+//! `TIMESTAMP_OUT_OF_RANGE`, and from `DAY_OUT_OF_RANGE` to `WEEKDAY_OUT_OF_RANGE`, name a
+//! component that is out of range, as do those of the parts of a duration, from
+//! `YEARS_OUT_OF_RANGE` on.
 ghost use Rattle.std.specs.Prelude.{◌≡◌};
 ghost use Rattle.cal_c.specs.Statuses.{component_status};
 
@@ -9,7 +10,7 @@ use cal_time::error::{Component, ComponentRange};
 /// The call returns a value.
 pub const OK: i32 = 0;
 
-/// The exact result is out of range, or there is none.
+/// The exact result is out of range, or doesn't exist.
 pub const RESULT_OUT_OF_RANGE: i32 = 1;
 
 /// The date is not a Julian day from -363521074 to 366963559.
@@ -31,7 +32,7 @@ pub const INVALID_WEEKDAY: i32 = 6;
 /// The count is above 255.
 pub const INVALID_COUNT: i32 = 7;
 
-/// A byte of the text is wrong: no text of the form has it there.
+/// A byte of the string is wrong: no string of the form has it there.
 pub const UNEXPECTED_BYTE: i32 = 8;
 
 /// The date, the time of day or the offset of the moment is invalid.
@@ -83,10 +84,10 @@ pub const SECONDS_OUT_OF_RANGE: i32 = 28;
 
 pub const TIMESTAMP_OUT_OF_RANGE: i32 = 29;
 
-/// The bounds of a text are not within the bytes, in order.
+/// The bounds of a string are not within the bytes, in order.
 pub const INVALID_BOUNDS: i32 = 30;
 
-/// The text ends too early: more bytes could complete it.
+/// The string ends too early: more bytes could complete it.
 pub const UNEXPECTED_END: i32 = 31;
 
 /// A part of the recurrence has an unknown name.
@@ -116,13 +117,13 @@ pub const TOO_MANY_ITEMS: i32 = 39;
 /// An item of the format shows something that the value doesn't have.
 pub const UNSUPPORTED_ITEM: i32 = 40;
 
-/// The texts of the format don't determine a value, or show more than one.
+/// The strings of the format don't determine a value, or show more than one.
 pub const INSUFFICIENT_FORMAT: i32 = 41;
 
-/// The buffer has no room for the text.
+/// The buffer has no room for the string.
 pub const BUFFER_TOO_SHORT: i32 = 42;
 
-/// A component of a text isn't the component of the value that the others determine.
+/// A component of a string isn't the component of the value that the others determine.
 pub const CONTRADICTION: i32 = 43;
 
 /// A list of dates of a rule has more than 1024 dates.

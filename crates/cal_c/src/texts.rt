@@ -1,4 +1,4 @@
-//! Texts and the results of parsing.
+//! Strings and the results of parsing.
 ghost use Rattle.std.specs.Prelude.{◌≡◌, ◌≤◌, length};
 ghost use Rattle.cal_c.specs.Texts.{parsed_date_error_at, parsed_moment_error_at, parsed_date_ok, parsed_moment_ok, text_ok, text_error};
 ghost use Rattle.cal_c.specs.ParseErrors.{of_parse_error};
@@ -16,10 +16,10 @@ mod intervals;
 pub mod iso;
 pub mod parsing;
 
-/// The bytes of a text: enough for the longest one and a zero byte.
+/// The bytes of a string: enough for the longest one and a zero byte.
 const CAPACITY: usize = 40;
 
-/// A text in ASCII, followed by zero bytes.
+/// A string in ASCII, followed by zero bytes.
 #[repr(C)]
 #[derive(Clone, Copy, Debug)]
 pub struct TextResult {

@@ -1,4 +1,4 @@
-//! Time zones, from the bytes of TZif files or from POSIX texts.
+//! Time zones, from the bytes of TZif files or from POSIX strings.
 //!
 //! A zone is its bytes and what a call found in them, which checks them once. Other calls check in
 //! a few steps that the bytes have all parts. No call keeps a pointer.

@@ -61,14 +61,14 @@ abbrev pub IsLater : DateOrMoment → ℤ → LocalAndOffset → Type 0
 IsLater (read.Date form n) d m = IsDayLater n d m
 IsLater (read.Moment form from) d m = IsMomentLater from d m
 
--- The text is the number of days between two dates, or otherwise a duration.
+-- The string is the number of days between two dates, or otherwise a duration.
 abbrev pub until_text : DateOrMoment → DateOrMoment → List ℕ
 until_text from to =
     if is_date from && is_date to then signed_decimal (julian_day_at (day_of to) -ℤ julian_day_at (day_of from))
     else duration.text (instant (moment_of to) -ℤ instant (moment_of from))
 
--- With a unit, the text is the number of whole units, truncated toward zero. Otherwise it is a period
--- or a duration.
+-- With a unit, the string is the number of whole units, truncated toward zero. Otherwise it is a
+-- period or a duration.
 abbrev pub IsMeasured : WorkWeek → Measure → DateOrMoment → DateOrMoment → List ℕ → Type 0
 IsMeasured workdays (measure.Units unit) from to words = (z : ℤ) × IsCount workdays unit (moment_of from) (moment_of to) z × (words ≡ signed_decimal z)
 IsMeasured workdays measure.Period from to words = IsPeriodText (IsPeriodBetween (moment_of from) (moment_of to)) words
@@ -156,8 +156,8 @@ clock_of (Until own target measure) = own
 clock_of (Since own target measure) = own
 clock_of other = None
 
--- The words replace the text that was read. `keep` leaves it as it is. TEXT of `until` and `since`
--- must be given: if other fields have it, it is put in at each line.
+-- The words replace the string that was read. `keep` leaves it as it is. TEXT of `until` and
+-- `since` must be given: if other fields have it, it is put in at each line.
 abbrev pub IsAnswerTo : Option Clock → WorkWeek → Request → List ℕ → DateOrMoment → List ℕ → Type 0
 IsAnswerTo clock workdays (To form) text found words = IsInForm form (moment_of found) words
 IsAnswerTo clock workdays ToIso text found words = IsInForm (form_iso found) (moment_of found) words
@@ -171,11 +171,11 @@ IsAnswerTo clock workdays (PrintAt place items) text found words = IsPrintedAt p
 IsAnswerTo clock workdays (Keep bounds) text found words = (lies_in bounds found ≡ Some true) × (words ≡ text)
 IsAnswerTo clock workdays other text found words = ⊥
 
--- The answer to the date or moment of a text by a filter.
+-- The answer to the date or moment of a string by a filter.
 abbrev pub IsAnswerBy : Filter → List ℕ → DateOrMoment → List ℕ → Type 0
 IsAnswerBy filter text found words = IsAnswerTo filter.clock filter.workdays filter.request text found words
 
--- `keep` answers with the text itself.
+-- `keep` answers with the string itself.
 abbrev pub keeps : Request → Bool
 keeps (Keep bounds) = true
 keeps other = false
@@ -191,7 +191,8 @@ compares (Keep bounds) found = is_some (lies_in bounds found)
 compares other found = false
 
 -- ---- no answer
--- A policy rejects the time to which a moment moves. Otherwise it is out of range, or has no text.
+-- A policy rejects the time to which a moment moves. Otherwise it is out of range, or has no
+-- string.
 abbrev pub why_rejected : LocalTimeError → NoAnswer
 why_rejected Skipped = why.Skipped
 why_rejected Repeated = why.Repeated
@@ -214,7 +215,7 @@ IsWhyUnanswered clock workdays (Move by) found any = IsWhyNotMoved clock workday
 IsWhyUnanswered clock workdays (MoveAt own by) found any = IsWhyUnmoved own workdays by (moment_of found) any
 IsWhyUnanswered clock workdays other found any = any ≡ why.None
 
--- ---- the answer to a text
+-- ---- the answer to a string
 -- The words that replace it, or None if its line is left out, or why it has no answer.
 abbrev pub Answer : Type 0
 Answer = Result (Option (List ℕ)) NoAnswer
@@ -225,17 +226,18 @@ HasNone filter text found any =
     (leaves_out filter.request found ≡ false) × ((words : List ℕ) → ¬ IsAnswerBy filter text found words)
     × IsWhyUnanswered filter.clock filter.workdays filter.request found any
 
--- The text is read, as this date or moment. With a clock, its local time is a reading of the clock.
+-- The string is read, as this date or moment. With a clock, its local time is a reading of the
+-- clock.
 abbrev pub IsReadAs : Filter → List ℕ → DateOrMoment → Type 0
 IsReadAs filter text found =
     (first : DateOrMoment) × IsFoundBy filter.assumptions filter.readers text first × IsPlaced filter.clock first (Ok found)
 
--- The text is in none of the forms, or its local time is not that of one moment.
+-- The string is in none of the forms, or its local time is not that of one moment.
 abbrev pub IsNotRead : Filter → List ℕ → NoAnswer → Type 0
 IsNotRead filter text any = IsUnread filter.assumptions filter.readers text any
     ⊎ ((first : DateOrMoment) × IsFoundBy filter.assumptions filter.readers text first × IsPlaced filter.clock first (Err any))
 
--- The answer to a text.
+-- The answer to a string.
 abbrev pub IsAnswer : Filter → List ℕ → Answer → Type 0
 IsAnswer filter text (Ok (Some words)) = (found : DateOrMoment) × IsReadAs filter text found × IsAnswerBy filter text found words
 IsAnswer filter text (Ok None) = (found : DateOrMoment) × IsReadAs filter text found × (leaves_out filter.request found ≡ true)

@@ -1,4 +1,4 @@
--- The moments of texts without an offset, by the clocks of a zone.
+-- The moments of strings without an offset, by the clocks of a zone.
 use Rattle.std.specs.Prelude.{◌≡◌, ℤ, Option, Some, None, Result, Ok, Err}
 use Rattle.cal_datetime.specs.OffsetDateTime.{LocalAndOffset}
 use Rattle.cal_text.specs.declared.any.DateOrMoment.{DateOrMoment}
@@ -24,7 +24,7 @@ placed_as form (Ok m) = Ok (Moment form m)
 placed_as form (Err error) = Err (why_none error)
 
 -- The result has the moment that the policy selects for the reading, by the clocks of the zone, or
--- the reason why there is none.
+-- the reason why it selects nothing.
 pub record IsOnClock (clock : Clock) (form : MomentForm) (reading : ℤ) (r : Result DateOrMoment NoAnswer) : Type 0 where
   pub local : Local
   pub is : IsLocalOf clock.zone reading local

@@ -1,4 +1,4 @@
--- The text of a moment in each form.
+-- The string of a moment in each form.
 use Rattle.std.specs.Prelude.{◌≡◌, ℕ, ℤ, pos, ◌≤ℤ◌, List, ◌++◌, codes, take, [], ◌∷◌}
 use Rattle.std.specs.Fmt.{signed_decimal}
 use Rattle.std.specs.Int.{int_div_euclid}
@@ -34,7 +34,7 @@ month_text n = year_text (year_at n) ++ codes "-" ++ digits_at_least 2 (month_at
 abbrev pub quarter_text : ℕ → List ℕ
 quarter_text n = year_text (year_at n) ++ codes "-Q" ++ digit (quarter_at n) ∷ []
 
--- A date has a text in the basic format of ISO 8601 if its year is from 0 to 9999.
+-- A date has a string in the basic format of ISO 8601 if its year is from 0 to 9999.
 pub record HasBasicText (n : ℕ) : Type 0 where
   pub from_year_0 : pos 0 ≤ℤ year_at n
   pub to_year_9999 : year_at n ≤ℤ pos 9999
@@ -49,11 +49,11 @@ units_in Milliseconds v = int_div_euclid v (pos millisecond)
 units_in Microseconds v = int_div_euclid v (pos microsecond)
 units_in Nanoseconds v = v
 
--- The text of a moment in a format.
+-- The string of a moment in a format.
 abbrev pub format_text : List Item → LocalAndOffset → List ℕ
 format_text items m = text_of items (moment_of_offset_date_time m)
 
--- The words are the text of a moment in the form.
+-- The words are the string of a moment in the form.
 abbrev pub IsInForm : Form → LocalAndOffset → List ℕ → Type 0
 IsInForm (Date form) m words = words ≡ date_text form (date_at m.local)
 IsInForm Weekday m words = words ≡ weekday_text (date_at m.local)

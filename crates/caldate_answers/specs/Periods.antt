@@ -60,11 +60,11 @@ pub record IsPeriodOn (clock : Clock) (from to : DateOrMoment) (p : Parts) : Typ
   pub last : IsInZone clock.zone to end
   pub until : IsUntilInZone clock.policy Year start end p
 
--- The words are the text of a period.
+-- The words are the string of a period.
 abbrev pub IsPeriodText : (Parts → Type 0) → List ℕ → Type 0
 IsPeriodText IsPeriod words = (p : Parts) × IsPeriod p × (words ≡ period_text p)
 
--- ---- texts of durations
+-- ---- strings of durations
 -- Hours of at least two digits, minutes and seconds, perhaps with a fraction, such as 36:00:00.5.
 abbrev pub clock_text : ℕ → List ℕ
 clock_text n =

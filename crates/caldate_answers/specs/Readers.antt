@@ -29,7 +29,7 @@ use Rattle.caldate_answers.specs.declared.reading.spelling.Spelling.{Spelling}
 use Rattle.caldate_answers.specs.declared.reading.value_format.ValueFormat.{ValueFormat}
 use Rattle.caldate_answers.specs.declared.reading.value_format.ValueFormat.TheVariants.{Dates, Moments, DateTimes}
 
--- ---- formats: the text is what the items print of a value that they hold
+-- ---- formats: the string is what the items print of a value that they hold
 pub record IsDateText (items : List Item) (text : List ℕ) (n : ℕ) : Type 0 where
   pub in_range : IsDate n
   pub held : AreHeld (moment_of_date n) items
@@ -49,15 +49,15 @@ pub record IsDateTimeText (items : List Item) (text : List ℕ) (z : ℤ) : Type
   pub time : IsTrue (holds_time items (time_at z))
   pub text_is : text ≡ text_of items (moment_of_date_time z)
 
--- The text is one of this date or moment. A text without an offset is at `offset`.
+-- The string is one of this date or moment. A string without an offset is at `offset`.
 abbrev pub IsFormatText : ℤ → ValueFormat → List ℕ → DateOrMoment → Type 0
 IsFormatText offset (Dates items) text found = (n : ℕ) × IsDateText items text n × (found ≡ dated.Date Calendar n)
 IsFormatText offset (Moments items) text found = (m : LocalAndOffset) × IsMomentText items text m × (found ≡ dated.Moment Rfc3339 m)
 IsFormatText offset (DateTimes items) text found =
     (z : ℤ) × IsDateTimeText items text z × (found ≡ dated.Moment Rfc3339 (record { local = z; offset = offset }))
 
--- ---- formats without a year: the text followed by the assumed year is one in the format followed
--- by ` %Y`
+-- ---- formats without a year: the string followed by the assumed year is one in the format
+-- followed by ` %Y`
 abbrev pub with_year : List ℕ → List ℕ → List ℕ
 with_year year text = text ++ codes " " ++ year
 
@@ -66,7 +66,8 @@ pub record IsYearlessText (assumptions : Assumptions) (format : ValueFormat) (te
   pub text_is : IsFormatText assumptions.offset format (with_year assumptions.year text) found
 
 -- ---- forms
--- The bytes are a text of this date or moment in the form. The parts that it leaves out are assumed.
+-- The bytes are a string of this date or moment in the form. The parts that it leaves out are
+-- assumed.
 abbrev pub IsTextBy : Assumptions → Reader → List ℕ → DateOrMoment → Type 0
 IsTextBy assumptions (Named reading) text found = IsTextIn reading text found
 IsTextBy assumptions Local text found = IsTextIn (reading.Local assumptions.offset) text found
@@ -74,14 +75,14 @@ IsTextBy assumptions (Spelled spelling) text found = IsSomeAnd (full_by spelling
 IsTextBy assumptions (Format format) text found = IsFormatText assumptions.offset format text found
 IsTextBy assumptions (Yearless format) text found = IsYearlessText assumptions format text found
 
--- The first form that the text has gives its date or moment.
+-- The first form that the string has gives its date or moment.
 abbrev pub IsFoundBy : Assumptions → List Reader → List ℕ → DateOrMoment → Type 0
 IsFoundBy assumptions [] text found = ⊥
 IsFoundBy assumptions (reader ∷ readers) text found =
     IsTextBy assumptions reader text found ⊎ (((other : DateOrMoment) → ¬ IsTextBy assumptions reader text other) × IsFoundBy assumptions readers text found)
 
--- ---- a text in none of the forms
--- The text has the form, with a component out of range, or departs from the form at a position.
+-- ---- a string in none of the forms
+-- The string has the form, with a component out of range, or departs from the form at a position.
 abbrev pub IsUnreadIn : Reading → List ℕ → NoAnswer → Type 0
 IsUnreadIn reading text (why.Rejected component) = IsErrorIn reading text component
 IsUnreadIn reading text (why.Unreadable at) = (¬ HasFormIn reading text) × IsPosition (HasFormIn reading) text at
@@ -91,13 +92,13 @@ IsUnreadIn reading text other = ⊥
 abbrev pub IsSpellingError : Spelling → List ℕ → ComponentRange → Type 0
 IsSpellingError spelling text component = IsSomeAnd (full_by spelling text) (λ full. IsDateOrMomentError full component)
 
--- A spelling says which component is out of range, or that the text doesn't have it.
+-- A spelling says which component is out of range, or that the string doesn't have it.
 abbrev pub IsUnspelled : Spelling → List ℕ → NoAnswer → Type 0
 IsUnspelled spelling text any =
     ((component : ComponentRange) × IsSpellingError spelling text component × (any ≡ why.Rejected component))
     ⊎ (((component : ComponentRange) → ¬ IsSpellingError spelling text component) × (any ≡ why.NoForm))
 
--- Why the text isn't read in the form. A format doesn't say why.
+-- Why the string isn't read in the form. A format doesn't say why.
 abbrev pub IsUnreadBy : Assumptions → Reader → List ℕ → NoAnswer → Type 0
 IsUnreadBy assumptions (Named reading) text any = IsUnreadIn reading text any
 IsUnreadBy assumptions Local text any = IsUnreadIn (reading.Local assumptions.offset) text any
@@ -110,7 +111,7 @@ has_form why.NoForm = false
 has_form (why.Unreadable at) = false
 has_form other = true
 
--- A form that the text has says why it has no answer, or else the first form.
+-- A form that the string has says why it has no answer, or else the first form.
 abbrev pub first_reason : NoAnswer → NoAnswer → NoAnswer
 first_reason own later = if has_form own then own else if has_form later then later else own
 
@@ -119,7 +120,7 @@ IsReason assumptions [] text any = any ≡ why.NoForm
 IsReason assumptions (reader ∷ readers) text any =
     (own : NoAnswer) × (later : NoAnswer) × IsUnreadBy assumptions reader text own × IsReason assumptions readers text later × (any ≡ first_reason own later)
 
--- The text is in none of the forms, for this reason.
+-- The string is in none of the forms, for this reason.
 pub record IsUnread (assumptions : Assumptions) (readers : List Reader) (text : List ℕ) (any : NoAnswer) : Type 0 where
   pub none : (found : DateOrMoment) → ¬ IsFoundBy assumptions readers text found
   pub why_is : IsReason assumptions readers text any

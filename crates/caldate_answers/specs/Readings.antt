@@ -52,7 +52,7 @@ HasDate Basic bytes v = IsBasic bytes v
 HasDate DayFirst bytes v = IsYearLast bytes v.2 v.1 v.0
 HasDate MonthFirst bytes v = IsYearLast bytes v.1 v.2 v.0
 
--- The bytes are a text of this date.
+-- The bytes are a string of this date.
 abbrev pub IsDateOf : DateOrder → List ℕ → DateOrMoment → Type 0
 IsDateOf order bytes found =
     (v : YearMonthDay) × HasDate order bytes v × ((n : ℕ) × IsDate n × HasCalendarDate (pos v.0) v.1 v.2 n × (found ≡ Date Calendar n))
@@ -99,7 +99,7 @@ IsNumberOf unit bytes found =
     (z : ℤ) × IsNumber bytes z × ((m : LocalAndOffset) × IsUnixMoment unit z m × (found ≡ Moment form.Unix m))
 
 -- ---- the whole
--- The bytes are a text of this date or moment.
+-- The bytes are a string of this date or moment.
 abbrev pub IsTextIn : Reading → List ℕ → DateOrMoment → Type 0
 IsTextIn reading.Any bytes found = IsTextOf bytes found
 IsTextIn (reading.Date order) bytes found = IsDateOf order bytes found
@@ -139,6 +139,7 @@ abbrev pub date_shape : DateOrder → Shape
 date_shape Basic = Digits 8 End
 date_shape order = year_last
 
--- Zero, or a number of at most 27 digits without leading zeros, with a minus sign if it is negative.
+-- Zero, or a number of at most 27 digits without leading zeros, with a minus sign if it is
+-- negative.
 abbrev pub number_shape : Shape
 number_shape = Branch 45 0 (Number 26 End) (Branch 48 0 End (Number 26 End))

@@ -17,12 +17,12 @@ with_colon text =
     if is_sign (slice_index text (length text - 5)) then take (length text - 2) text ++ codes ":" ++ drop (length text - 2) text
     else text ++ (if is_sign (slice_index text (length text - 3)) then codes ":00" else [])
 
--- The moment of ISO 8601 in RFC 3339. A text of fewer than 20 bytes is not a moment, and stays as
+-- The moment of ISO 8601 in RFC 3339. A string of fewer than 20 bytes is not a moment, and stays as
 -- it is.
 abbrev pub iso_text : List ℕ → List ℕ
 iso_text text = if nat_lt (length text) 20 then text else with_colon (with_point text)
 
--- The text begins with an @ (64).
+-- The string begins with an @ (64).
 abbrev pub begins_with_at : List ℕ → Bool
 begins_with_at [] = false
 begins_with_at (byte ∷ bytes) = byte == 64
@@ -31,7 +31,7 @@ begins_with_at (byte ∷ bytes) = byte == 64
 abbrev pub unix_text : List ℕ → List ℕ
 unix_text text = if begins_with_at text then text else codes "@" ++ text
 
--- The text in one of the six forms, if it has at most 60 bytes.
+-- The string in one of the six forms, if it has at most 60 bytes.
 abbrev pub full_by : Spelling → List ℕ → Option (List ℕ)
 full_by Iso text = if nat_lt 60 (length text) then None else Some (iso_text text)
 full_by Seconds text = if nat_lt 60 (length text) then None else Some (unix_text text)

@@ -39,8 +39,8 @@ fields_beside request field = option_map (with_numbers field) (target_fields req
 abbrev pub other_field : Filter → Option Field
 other_field filter = option_and_then (fields_beside filter.request) filter.field
 
--- The date or moment in the text of the other fields, which is read like the text to answer, or why
--- it can't be read.
+-- The date or moment in the text of the other fields, which is read like the string to answer, or
+-- why it can't be read.
 abbrev pub IsReadOther : Filter → Result DateOrMoment NoAnswer → List ℕ → Type 0
 IsReadOther filter (Ok found) asked = IsReadAs filter asked found
 IsReadOther filter (Err any) asked = (any ≡ UnreadOtherField) × ((why : NoAnswer) × IsNotRead filter asked why)

@@ -61,7 +61,7 @@ use cal_zone::laws::one_local;
 use caldate_lines::no_answer::NoAnswer;
 use caldate_lines::output::buffer::Buffer;
 
-/// The maximum length of a text that a format prints: 15 bytes for each of 64 items.
+/// The maximum length of a string that a format prints: 15 bytes for each of 64 items.
 const LONGEST_PRINTED: usize = 960;
 
 /// Appends the answer to `text`, and returns whether its line goes out.
@@ -89,7 +89,7 @@ pub fn push_answer(buffer: &mut Buffer, filter: &Filter<'_>, text: &[u8]) -> Res
     }
 }
 
-/// Returns whether a text is first read in the six forms, and its moment is on no clock.
+/// Returns whether a string is first read in the six forms, and its moment is on no clock.
 fn reads_six_forms(filter: &Filter<'_>) -> bool
     ensures forms { result ≡ true
         → (others : List Reader) × (filter.now.readers ≡ Named Any ∷ others) }
@@ -165,7 +165,7 @@ pub fn push_read(
 }
 
 /// Appends the answer to `text`, which is read as this date or moment, and returns whether its line
-/// goes out. The clock is that of the filter, so that most lines know that there is none.
+/// goes out. The clock is that of the filter, passed again so that most lines know if it is absent.
 #[inline(always)]
 fn push_found(
     buffer: &mut Buffer,
@@ -198,7 +198,7 @@ fn push_found(
     }
 }
 
-/// Parses the text in the first form that it has, and a local time by the clocks of the zone.
+/// Parses the string in the first form that it has, and a local time by the clocks of the zone.
 #[inline(always)]
 pub fn read_with(filter: &Filter<'_>, text: &[u8]) -> Result<DateOrMoment, NoAnswer>
     ensures every { (found : DateOrMoment) → IsReadAs filter.now text.now found
@@ -263,7 +263,7 @@ fn push_answer_to(
     }
 }
 
-/// Appends the text if its date or moment lies within the bounds. Returns whether it does.
+/// Appends the string if its date or moment lies within the bounds. Returns whether it does.
 #[inline(always)]
 fn push_kept(buffer: &mut Buffer, bounds: &Bounds, text: &[u8], found: &DateOrMoment) -> bool
     requires { HasRoom (length text.now + longest_answer) buffer.old }
@@ -553,7 +553,7 @@ fn push_on_moved_day(
     }
 }
 
-/// Appends the moment in the place in a form, or nothing. Returns whether it has a text.
+/// Appends the moment in the place in a form, or nothing. Returns whether it has a string.
 fn push_at(buffer: &mut Buffer, place: &Place<'_>, form: Form, moment: OffsetDateTime) -> bool
     requires { HasRoom longest_answer buffer.old }
     ensures has { result ≡ true → AppendsSome (IsAt place.now form moment) buffer.old buffer.new }

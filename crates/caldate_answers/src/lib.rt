@@ -1,4 +1,4 @@
-//! The answers of `caldate`: requests, the texts that they read, and what they answer.
+//! The answers of `caldate`: requests, the strings that they read, and what they answer.
 #![tactic(auto)]
 
 pub mod answer;

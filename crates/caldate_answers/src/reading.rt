@@ -49,10 +49,10 @@ pub enum DateOrder {
     MonthFirst,
 }
 
-/// Parses a text, and returns the date or the moment and the form of its answers.
+/// Parses a string, and returns the date or the moment and the form of its answers.
 ///
-/// `29.02.2024` is 2024-02-29 if the day comes first. A text in another form gives the position of
-/// its first wrong byte. `31.04.2024` has the form, and gives `OutOfRange` for `day`.
+/// `29.02.2024` is 2024-02-29 if the day comes first. A string in another form gives the position
+/// of its first wrong byte. `31.04.2024` has the form, and gives `OutOfRange` for `day`.
 // Inlined, so that a line in one of the six forms takes no extra call.
 #[inline(always)]
 pub fn read_in(reading: Reading, text: &[u8]) -> Result<DateOrMoment, ParseError>

@@ -171,11 +171,11 @@ pub enum Request<'a> {
     /// `until TEXT [in UNIT]`: the days or the duration to TEXT, or its measure, by these clocks if
     /// it is after `at`.
     Until(Option<Clock<'a>>, Target<'a>, Option<Measure>),
-    /// `since TEXT [in UNIT]`: the days or the duration from TEXT, or its measure, by these clocks if
-    /// it is after `at`.
+    /// `since TEXT [in UNIT]`: the days or the duration from TEXT, or its measure, by these clocks
+    /// if it is after `at`.
     Since(Option<Clock<'a>>, Target<'a>, Option<Measure>),
-    /// `at OFFSET` or `at ZONE`, perhaps with `to FORM`: the moment at this offset, or at the offset
-    /// of the zone, in this form.
+    /// `at OFFSET` or `at ZONE`, perhaps with `to FORM`: the moment at this offset, or at the
+    /// offset of the zone, in this form.
     At(Place<'a>, Form),
     /// `at OFFSET` or `at ZONE`, and `to FORMAT`: the same in this format.
     PrintAt(Place<'a>, Format),
@@ -184,7 +184,7 @@ pub enum Request<'a> {
 }
 
 impl<'a> Request<'a> {
-    /// Returns whether this is `keep`, which answers with the text itself.
+    /// Returns whether this is `keep`, which answers with the string itself.
     pub fn keeps(&self) -> bool
         ensures { result ≡ keeps self.now }
     {
@@ -289,9 +289,9 @@ pub struct Filter<'a> {
     pub workdays: Workdays<'a>,
     /// The forms that a line is read in.
     pub readers: Readers,
-    /// The parts that a text may leave out.
+    /// The parts that a string may leave out.
     pub assumptions: Assumptions,
-    /// The clocks that a text without an offset is read on instead, if a zone is given.
+    /// The clocks that a string without an offset is read on instead, if a zone is given.
     pub clock: Option<Clock<'a>>,
     /// The mode for a line without an answer.
     pub on_invalid: OnInvalid,
@@ -299,7 +299,7 @@ pub struct Filter<'a> {
     pub field: Option<Field>,
     /// All fields to answer, which have its separator, if there are several.
     pub several: SeveralFields,
-    /// `true` if each text in the line that has a form is answered, and not the whole line.
+    /// `true` if each string in the line that has a form is answered, and not the whole line.
     pub scans: bool,
     /// The lengths of numbers in a line that may be Unix times, or `None` if all may.
     pub numbers: Option<DigitCounts>,

@@ -1,4 +1,4 @@
-//! The texts in a line that have a form.
+//! The strings in a line that have a form.
 ghost use Rattle.std.specs.Prelude.{◌≡◌, ℕ, ◌+◌, ◌<◌, ◌≤◌, IfSome, MatchOption, false, length, slice_index, take, true};
 ghost use Rattle.caldate_answers.specs.Offsets.{is_digit, is_letter};
 ghost use Rattle.caldate_answers.specs.Scans.{HasNoText, IsFirstText, IsLongestText, IsReadWith, IsText, IsTextAt, NoneFrom, AreUsual, StartWithDigits, byte_before, is_of_word, may_begin, part_at};
@@ -23,7 +23,7 @@ use crate::scan::start::{all_usual, has_short_year, is_usual_end, usual_place};
 use cal_text::DateOrMoment;
 use caldate_lines::no_answer::NoAnswer;
 
-/// Returns the first text from a place of the line on. In `due 2024-02-29, paid`, it has place 4
+/// Returns the first string from a place of the line on. In `due 2024-02-29, paid`, it has place 4
 /// and 10 bytes.
 pub fn first_text(filter: &Filter<'_>, line: &[u8], from: usize) -> Option<FoundText>
     ensures first { MatchOption result (HasNoText filter.now line.now from)
@@ -47,8 +47,8 @@ pub fn first_text(filter: &Filter<'_>, line: &[u8], from: usize) -> Option<Found
     None
 }
 
-/// Returns a place from `from` on before which no text begins. With `usual` or `digits` the bytes at
-/// the start of a text rule out most places.
+/// Returns a place from `from` on before which no string begins. With `usual` or `digits` the bytes
+/// at the start of a string rule out most places.
 #[inline(always)]
 fn first_start(filter: &Filter<'_>, usual: bool, digits: bool, line: &[u8], from: usize) -> usize
     requires usual { usual ≡ true → AreUsual filter.now }
@@ -87,8 +87,8 @@ fn longest_text(filter: &Filter<'_>, usual: bool, line: &[u8], place: usize) -> 
     None
 }
 
-/// Returns a length that no text at the front of the bytes exceeds. With `usual`, no text is parsed
-/// for it after a digit.
+/// Returns a length that no string at the front of the bytes exceeds. With `usual`, no string is
+/// parsed for it after a digit.
 fn bound_at(filter: &Filter<'_>, usual: bool, bytes: &[u8]) -> usize
     requires { usual ≡ true → AreUsual filter.now }
     ensures within { result ≤ length bytes.now }
@@ -102,7 +102,7 @@ fn bound_at(filter: &Filter<'_>, usual: bool, bytes: &[u8]) -> usize
     }
 }
 
-/// Reads these bytes of the line, which follow no letter or digit, if they are a text.
+/// Reads these bytes of the line, which follow no letter or digit, if they are a string.
 fn read_at(
     filter: &Filter<'_>,
     line: &[u8],
@@ -148,8 +148,8 @@ fn read_text(filter: &Filter<'_>, bytes: &[u8]) -> Option<Result<DateOrMoment, N
     }
 }
 
-/// Returns whether a text may begin at a place: not after a letter or a digit, and not with a sign
-/// before a year of four digits.
+/// Returns whether a string may begin at a place: not after a letter or a digit, and not with a
+/// sign before a year of four digits.
 #[inline(always)]
 fn may_begin(line: &[u8], place: usize) -> bool
     requires { place ≤ length line.now }

@@ -20,6 +20,6 @@ has_rfc3339_text m =
     int_le (pos 0) (year_at (date_at m.local)) && (int_le (year_at (date_at m.local)) (pos 9999)
     && ((unsigned_abs m.offset % 60 == 0) && nat_lt (unsigned_abs m.offset) 86400))
 
--- The text of a moment: in RFC 3339, or if that has none, its Unix time.
+-- The string of a moment: in RFC 3339, or if that has none, its Unix time.
 abbrev pub rfc3339_or_unix_text : LocalAndOffset → List ℕ
 rfc3339_or_unix_text m = if has_rfc3339_text m then moment_text m else unix_text (unix_nanoseconds (instant m))

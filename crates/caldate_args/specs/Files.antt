@@ -1,4 +1,4 @@
--- Several texts as one input, each with the line feed that its last line may lack.
+-- Several strings as one input, each with the line feed that its last line may lack.
 use Rattle.std.specs.Prelude.{◌≡◌, ◌⊎◌, ◌<◌, ℕ, length, Bool, true, false, not, ⊤, List, [], ◌∷◌, ◌++◌, Option, Some, None, Result, if◌then◌else◌}
 use Rattle.caldate_lines.specs.Lines.{is_end}
 use Rattle.caldate_lines.specs.Outputs.{WritesPage}
@@ -9,27 +9,27 @@ abbrev pub is_unfinished : Bool → List ℕ → Bool
 is_unfinished before [] = before
 is_unfinished before (byte ∷ bytes) = is_unfinished (not (is_end byte)) bytes
 
--- The rest of a text, and a line feed, byte 10, if its last line has none.
+-- The rest of a string, and a line feed, byte 10, if its last line has none.
 abbrev pub finished : Bool → List ℕ → List ℕ
 finished before rest = rest ++ (if is_unfinished before rest then 10 ∷ [] else [])
 
--- The texts, one after another, so that no two lines are joined.
+-- The strings, one after another, so that no two lines are joined.
 abbrev pub joined : List (List ℕ) → List ℕ
 joined [] = []
 joined (text ∷ texts) = finished false text ++ joined texts
 
--- The rest of a text, which may begin in a line, and the texts after it, if all are known.
+-- The rest of a string, which may begin in a line, and the strings after it, if all are known.
 abbrev pub joined_rest : Bool → Option (List ℕ) → Option (List (List ℕ)) → Option (List ℕ)
 joined_rest before (Some rest) (Some later) = Some (finished before rest ++ joined later)
 joined_rest before rest later = None
 
--- The next of these texts, and the texts after it.
+-- The next of these strings, and the strings after it.
 abbrev pub IsNext : Option (List (List ℕ)) → Option (List ℕ) → Option (List (List ℕ)) → Type 0
 IsNext None text later = ⊤
 IsNext (Some texts) (Some text) (Some later) = texts ≡ text ∷ later
 IsNext (Some texts) text later = ⊥
 
--- No text comes after the current one, if that is known.
+-- No string comes after the current one, if that is known.
 abbrev pub IsLast : Option (List (List ℕ)) → Type 0
 IsLast None = ⊤
 IsLast (Some texts) = texts ≡ []

@@ -13,7 +13,7 @@ use Rattle.caldate_lines.specs.Lines.{lines_of, text_of}
 use Rattle.caldate_args.specs.declared.holidays.read_holidays_error.ReadHolidaysError.{ReadHolidaysError}
 use Rattle.caldate_args.specs.declared.holidays.read_holidays_error.ReadHolidaysError.TheVariants.{File, Line}
 
--- A text is left out if it is empty or begins with `#`, byte 35.
+-- A string is left out if it is empty or begins with `#`, byte 35.
 abbrev pub is_left_out : List ℕ → Bool
 is_left_out [] = true
 is_left_out (byte ∷ bytes) = byte == 35
@@ -28,7 +28,7 @@ pub record IsHoliday (line : List ℕ) (n : ℕ) : Type 0 where
 abbrev pub IsValidLine : List ℕ → Type 0
 IsValidLine line = (is_left_out (text_of line) ≡ true) ⊎ ((n : ℕ) × IsHoliday line n)
 
--- The line is not a date, for this reason: the position at which its text leaves the forms of a
+-- The line is not a date, for this reason: the position at which its string leaves the forms of a
 -- date, or the first component out of range.
 pub record IsInvalidLine (line : List ℕ) (error : ParseError) : Type 0 where
   pub counts : is_left_out (text_of line) ≡ false
@@ -56,8 +56,8 @@ abbrev pub IsFirstInvalid : List (List ℕ) → ReadHolidaysError → Type 0
 IsFirstInvalid lines (Line number error) = IsInvalidAt lines number error
 IsFirstInvalid lines (File error) = ⊥
 
--- The bytes that a reader gave up to its end have these holidays, or an invalid line. After a failed
--- read nothing is known of them.
+-- The bytes that a reader gave up to its end have these holidays, or an invalid line. After a
+-- failed read nothing is known of them.
 abbrev pub AreReadHolidays : Option (List ℕ) → Option (List ℕ) → Result (Bor (List ℕ)) ReadHolidaysError → Type 0
 AreReadHolidays old new (Ok days) = (bytes : List ℕ) × IsAtEnd new × Consumes old new bytes × AreHolidays (lines_of bytes) days.now
 AreReadHolidays old new (Err (Line number error)) = (bytes : List ℕ) × IsAtEnd new × Consumes old new bytes × IsInvalidAt (lines_of bytes) number error

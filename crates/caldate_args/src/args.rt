@@ -101,7 +101,7 @@ pub fn parse_args<'a, D: DataFiles<'a>>(
     }
 }
 
-/// Parses the text after `--date`, options and a request.
+/// Parses the string after `--date`, options and a request.
 fn once_of<'a, D: DataFiles<'a>>(
     words: &'a [u8],
     now: Option<PlainDateTime>,
@@ -123,7 +123,7 @@ fn once_of<'a, D: DataFiles<'a>>(
     Ok(once_command(filter))
 }
 
-/// Returns whether the text has more than one line, or with `--csv` more than one record.
+/// Returns whether the string has more than one line, or with `--csv` more than one record.
 fn has_more_lines(field: Option<Field>, text: &[u8]) -> bool {
     match next_line(field, Quoting::Ready, text) {
         Some((_line, rest)) => !rest.is_empty(),
@@ -141,7 +141,7 @@ fn lines_command<'a>(filter: Filter<'a>) -> Command<'a>
     }
 }
 
-/// Returns the command for the text after `--date`.
+/// Returns the command for the string after `--date`.
 fn once_command<'a>(filter: Filter<'a>) -> Command<'a>
     ensures steps { HasValidStep result }
 {

@@ -81,7 +81,7 @@ pub enum Command<'a> {
     Named(Filter<'a>, Field),
     /// `--date TEXT` and a request: for the second argument instead of an input.
     Once(Filter<'a>),
-    /// The same, for a field with a name: the text is the header.
+    /// The same, for a field with a name: the string is the header.
     NamedOnce(Filter<'a>, Field),
     /// `list from A to B [by N UNIT]`: the dates from A to B.
     Dates(Listing),

@@ -10,29 +10,29 @@ pub mod named_files;
 use caldate_lines::streams::Source;
 use std::io::{self, ErrorKind};
 
-/// Texts that are read one after another.
+/// Strings that are read one after another.
 pub trait Texts {
-    // The bytes that later reads of the current text give, if they are known.
+    // The bytes that later reads of the current string give, if they are known.
     ghost rest: { Self → Option (List ℕ) };
 
-    // The texts after it, if they are known.
+    // The strings after it, if they are known.
     ghost later: { Self → Option (List (List ℕ)) };
 
-    // A read or `go_on` may lead from these texts to those.
+    // A read or `go_on` may lead from these strings to those.
     ghost leads: { Self → Self → Type 0 };
 
-    /// Reads bytes of the current text into the front of the buffer, and returns their number: 0 at
-    /// the end of the text.
+    /// Reads bytes of the current string into the front of the buffer, and returns their number: 0
+    /// at the end of the string.
     fn read(&mut self, buffer: &mut [u8]) -> io::Result<usize>
         ensures bound { ReadsAtMost result buffer.new }
         ensures bytes { ReadConsumes (rest self.old) (rest self.new) result buffer.new }
         ensures later { later self.new ≡ later self.old }
         ensures leads { leads self.old self.new };
 
-    /// Goes on to the next text and returns `true`, or returns `false` after the last one.
+    /// Goes on to the next string and returns `true`, or returns `false` after the last one.
     ///
-    /// With the files `jan` and `feb`, the first call makes `jan` the current text, the second `feb`,
-    /// and the third returns `false`.
+    /// With the files `jan` and `feb`, the first call makes `jan` the current string, the second
+    /// `feb`, and the third returns `false`.
     fn go_on(&mut self) -> bool
         ensures next { result ≡ true → IsNext (later self.old) (rest self.new) (later self.new) }
         ensures last { result ≡ false → IsLast (later self.old)
@@ -40,16 +40,16 @@ pub trait Texts {
         ensures leads { leads self.old self.new };
 }
 
-/// A reader of texts as one input. A last line of a text gets a line feed if it has none.
+/// A reader of strings as one input. A last line of a string gets a line feed if it has none.
 #[derive(Drop)]
 pub struct Joined<T: Texts> {
     pub texts: T,
-    /// Whether the bytes of the current text so far end in a line.
+    /// Whether the bytes of the current string so far end in a line.
     is_unfinished: bool,
 }
 
 impl<T: Texts> Joined<T> {
-    /// Creates a reader of the rest of the current text, and of the texts after it.
+    /// Creates a reader of the rest of the current string, and of the strings after it.
     pub fn new(texts: T) -> Self
         ensures start { (result.texts ≡ texts) × (result.is_unfinished ≡ false) }
         ensures remaining { (all : List (List ℕ)) → T.rest texts ≡ Some [] → T.later texts ≡ Some all

@@ -1,4 +1,4 @@
--- A line in pieces. What goes out are the same pieces, with each text replaced by its answer.
+-- A line in pieces. What goes out are the same pieces, with each string replaced by its answer.
 use Rattle.std.specs.Prelude.{◌≡◌, ℕ, ◌+◌, ◌||◌, nat_le, nat_lt, Bool, false, List, [], ◌∷◌, ◌++◌, length, drop, MatchOption, Option, Some, None, option_map, is_some, Ok, Err, if◌then◌else◌}
 use Rattle.std.specs.Option.{option_map_or}
 use Rattle.std.specs.Result.{result_err}
@@ -14,7 +14,7 @@ use Rattle.caldate_answers.specs.Answers.{Answer, keeps}
 use Rattle.caldate_answers.specs.Targets.{IsAnswerAt}
 use Rattle.caldate_answers.specs.declared.request.Filter.{Filter}
 
--- Bytes that stay, and then the bytes that an answer replaces. The text to answer may be missing.
+-- Bytes that stay, and then the bytes that an answer replaces. The string to answer may be missing.
 pub record Piece : Type 0 where
   pub kept : List ℕ
   pub source : List ℕ
@@ -79,8 +79,8 @@ pieces_in (Some field) several text = if field.appends then single (new_field fi
 abbrev pub pieces_of : Filter → List ℕ → Pieces
 pieces_of filter text = pieces_in filter.field filter.several text
 
--- ---- what replaces a text
--- The words in place of a text, which in a CSV record are a field.
+-- ---- what replaces a string
+-- The words in place of a string, which in a CSV record are a field.
 abbrev pub placed : Option Field → List ℕ → List ℕ → List ℕ
 placed None source words = words
 placed (Some field) source words = in_place_of field source words
@@ -94,7 +94,7 @@ abbrev pub closed_words : Option Field → Bool → List ℕ → List ℕ
 closed_words None quoted words = words
 closed_words (Some field) quoted words = end_of_field field quoted words
 
--- A text that the line lacks has a place only as a new field.
+-- A string that the line lacks has a place only as a new field.
 abbrev pub has_place : Option Field → Bool → Bool
 has_place None has_text = has_text
 has_place (Some field) has_text = has_text || field.appends
@@ -105,7 +105,7 @@ instead invalid.Keep source words = Some source
 instead invalid.Answer source words = Some words
 instead mode source words = None
 
--- What replaces a text. `keep` leaves it as it is.
+-- What replaces a string. `keep` leaves it as it is.
 abbrev pub replaced : Filter → List ℕ → Bool → Answer → Option (List ℕ)
 replaced filter source has_text (Ok (Some words)) = Some (if keeps filter.request then source else placed filter.field source words)
 replaced filter source has_text (Ok None) = None
@@ -113,7 +113,7 @@ replaced filter source has_text (Err any) =
     instead filter.on_invalid source (if has_place filter.field has_text then placed filter.field source (reason any) else source)
 
 -- ---- the law
--- The answer to the text, by other fields of the line if they have TEXT.
+-- The answer to the string, by other fields of the line if they have TEXT.
 abbrev pub IsAnswerToAsked : Filter → List ℕ → Option (List ℕ) → Answer → Type 0
 IsAnswerToAsked filter text asked answer = MatchOption asked (answer ≡ Err why.NoField) (λ asked. IsAnswerAt filter text asked answer)
 
@@ -123,7 +123,7 @@ earlier rank None later = later
 earlier rank (Some any) None = Some (rank, any)
 earlier rank (Some any) (Some later) = if nat_lt later.0 rank then Some later else Some (rank, any)
 
--- What goes out for a piece, and why its text has no answer.
+-- What goes out for a piece, and why its string has no answer.
 abbrev pub IsPieceOut : Filter → List ℕ → Piece → Option NoAnswer → Option (List ℕ) → Type 0
 IsPieceOut filter text piece any out =
     (answer : Answer) × IsAnswerToAsked filter text piece.asked answer × (any ≡ result_err answer)

@@ -31,7 +31,8 @@ header_with field name text = Ok (Some text)
 abbrev pub skipped : Filter → ℕ → List ℕ → Answer
 skipped filter before text = if before == 0 then header_with filter.field filter.column text else Ok (Some text)
 
--- A line that is too long or skipped gets a new field only with the fields of the others, or as the header.
+-- A line that is too long or skipped gets a new field only with the fields of the others, or as the
+-- header.
 abbrev pub own_field : Filter → ℕ → Option Field
 own_field filter before = if nat_lt before filter.skip && not (before == 0 && is_some filter.column) then None else filter.field
 
@@ -44,7 +45,7 @@ abbrev pub IsLine : OnInvalid → List ℕ → Answer → Option NoAnswer → Op
 IsLine mode source answer any out = (any ≡ result_err answer) × (out ≡ of_line mode source answer)
 
 -- ---- the outcome
--- With --scan, the texts of the line are answered.
+-- With --scan, the strings of the line are answered.
 abbrev pub IsOutcomeOfText : Filter → List ℕ → Option NoAnswer → Option (List ℕ) → Type 0
 IsOutcomeOfText filter text any out =
     MatchBool filter.scans ((answer : Answer) × IsScanned filter text answer × IsLine filter.on_invalid text answer any out)

@@ -80,7 +80,7 @@ pub record AnswersEnded (filter : Filter) (input : List ℕ) (old new : Option (
   pub passed : IsPassedOn filter.on_invalid (unended filter.field input) front
   pub taken : Appends old new (out ++ front)
 
--- The writer took exactly the replies to the lines before the one at which the run ends.
+-- The writer took exactly the replies to the lines before the line that ends the run.
 pub record StopsAt (filter : Filter) (reported : UnansweredLine) (all : List (List ℕ)) (old new : Option (List ℕ)) : Type 0 where
   pub lines : List (List ℕ)
   pub line : List ℕ

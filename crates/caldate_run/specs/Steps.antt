@@ -29,12 +29,12 @@ pub record IsStepTo (moments : Moments) (count : ℕ) (m : LocalAndOffset) : Typ
 abbrev pub IsPastSteps : Moments → ℕ → Type 0
 IsPastSteps moments count = (m : LocalAndOffset) → ¬ IsStepTo moments count m
 
--- Moment m is after the one listed before it, if there is one.
+-- Moment m is after the moment listed before it, if any.
 abbrev pub is_later : Option LocalAndOffset → LocalAndOffset → Bool
 is_later None m = true
 is_later (Some before) m = int_lt (instant before) (instant m)
 
--- The moments from a count on, or the first of them, each later than the one listed before it.
+-- The moments from a count on, or the first of them, each later than the moment before it.
 pub data AreSteps (moments : Moments) (all : Bool) : Option LocalAndOffset → ℕ → List LocalAndOffset → Type 0 where
   ended : (before : Option LocalAndOffset) (count : ℕ) → IfAll all (IsPastSteps moments count) → AreSteps moments all before count []
   skipped : (before : Option LocalAndOffset) (count : ℕ) (m : LocalAndOffset) (ms : List LocalAndOffset) → IsStepTo moments count m → is_later before m ≡ false

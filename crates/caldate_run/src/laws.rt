@@ -1,4 +1,4 @@
-//! Laws: a text has one answer, a recurrence has one list, a record has its fields, and an answer
+//! Laws: a string has one answer, a recurrence has one list, a record has its fields, and an answer
 //! becomes one field.
 ghost use Rattle.std.specs.List.{join_with_byte};
 ghost use Rattle.std.specs.Prelude.{◌≡◌, ◌==◌, ◌<◌, List, ℕ, ℤ, All, IsOk, Option, Result, Some, false, length, map, true};
@@ -22,7 +22,7 @@ use caldate_args::command::{Moments, Occurrences, Span};
 use caldate_lines::field::Field;
 use caldate_lines::no_answer::NoAnswer;
 
-/// Proves that no text has two answers to the same request in the same reading.
+/// Proves that no string has two answers to the same request in the same reading.
 pub fn one_answer(filter: &Filter<'_>, text: &[u8]) -> Result<DateOrMoment, NoAnswer>
     ensures { (answer other : Answer) → IsAnswer filter.now text.now answer
         → IsAnswer filter.now text.now other → answer ≡ other }
@@ -75,7 +75,8 @@ pub fn one_list_of_steps(moments: &Moments<'_>)
     one_local(&moments.clock.zone);
 }
 
-/// Proves that the fields of a record of RFC 4180 are split at its separators, which are not quotes.
+/// Proves that the fields of a record of RFC 4180 are split at its separators, which are not
+/// quotes.
 #[tactic(auto, using(caldate_lines::proofs::RecordFields::fields_are))]
 pub fn record_fields(separator: u8)
     ensures { (fields : List (List ℕ)) → (34 == separator) ≡ false → 0 < length fields

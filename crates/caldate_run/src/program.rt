@@ -47,8 +47,9 @@ use std::io::Read;
 const INVALID_ARGUMENTS: u8 = 2;
 
 /// Runs the command that the arguments ask for. The words `today` and `now` after `--date` mean the
-/// date-time `now`, which is at UTC. Returns the status and the result of writing to standard error.
-/// If the arguments are invalid, this only writes one line to standard error, and the status is 2.
+/// date-time `now`, which is at UTC. Returns the status and the result of writing to standard
+/// error. If the arguments are invalid, this only writes one line to standard error, and the status
+/// is 2.
 #[tactic(auto, using(caldate_lines::proofs::Calls::sent_all, crate::proofs::Reported::no_reads))]
 pub fn perform<R: Source, W: Sink, E: Sink>(
     asked: Result<Command<'_>, UsageError<'_>>,
@@ -190,7 +191,7 @@ pub fn perform_on_files<S: Env + Files, I: Read + Drop, F: Sink + Drop, W: Sink,
     }
 }
 
-/// Answers the text after `--date`.
+/// Answers the string after `--date`.
 fn run_once<W: Sink>(
     filter: Filter<'_>,
     arguments: &[u8],
@@ -207,7 +208,7 @@ fn run_once<W: Sink>(
     run(filter, &mut text, writer)
 }
 
-/// Answers the text after `--date`, whose field has a name.
+/// Answers the string after `--date`, whose field has a name.
 fn run_named_once<W: Sink, E: Sink>(
     filter: Filter<'_>,
     field: Field,
@@ -233,7 +234,7 @@ fn run_named_once<W: Sink, E: Sink>(
     run_named(filter, field, &mut text, writer, errors)
 }
 
-/// Returns the text, or the word if it is missing.
+/// Returns the string, or the word if it is missing.
 fn text_or<'a>(text: &'a Option<ShortText>, word: &'a [u8]) -> &'a [u8]
     ensures { result.now ≡ unwrap_or text.now word.now }
 {

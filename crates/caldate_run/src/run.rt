@@ -27,7 +27,7 @@ use caldate_lines::run_error::RunError;
 use caldate_lines::streams::{Sink, Source};
 use caldate_lines::tally::Tally;
 
-/// The maximum length of an unfinished line: a text and a carriage return.
+/// The maximum length of an unfinished line: a string and a carriage return.
 const MAX_KEPT: usize = 4097;
 
 /// Answers the lines of the input, in order, up to its end.

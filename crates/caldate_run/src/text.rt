@@ -1,4 +1,4 @@
-//! Texts in memory as inputs.
+//! Strings in memory as inputs.
 ghost use Rattle.std.specs.Prelude.{◌≡◌, Some};
 ghost use Rattle.caldate_lines.specs.Calls.{Takes};
 
@@ -6,7 +6,7 @@ use caldate_lines::streams::Source;
 use std::io::{self, Read};
 use std::marker::Model;
 
-/// A reader of a text in memory, whose reads don't fail.
+/// A reader of a string in memory, whose reads don't fail.
 #[derive(Drop)]
 pub struct Text<'a> {
     rest: &'a [u8],
@@ -21,7 +21,7 @@ impl<'a> Model for Text<'a> {
 }
 
 impl<'a> Text<'a> {
-    /// Creates a reader of a text.
+    /// Creates a reader of a string.
     pub fn new(text: &'a [u8]) -> Self
         ensures { result ≡ text.now }
     {

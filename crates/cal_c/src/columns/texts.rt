@@ -1,4 +1,4 @@
-//! Columns of texts: the bytes of all texts, and the bounds between which the texts are.
+//! Columns of strings: the bytes of all strings, and the bounds between which the strings are.
 mod durations;
 mod formats;
 mod formatting;

@@ -44,7 +44,7 @@ impl FormatParts {
         }
     }
 
-    /// Returns the numbers for a text that is not a format. They are not a format either.
+    /// Returns the numbers for a string that is not a format. They are not a format either.
     pub(super) fn invalid() -> Self
         ensures { result ≡ no_format }
     {

@@ -19,7 +19,7 @@ use cal_time::Date;
 /// The number of items of `%Y-%m-%d`.
 const ITEMS: usize = 5;
 
-/// The length of the text of a date of the years 0 to 9999.
+/// The length of the string of a date of the years 0 to 9999.
 const LENGTH: usize = 10;
 
 /// Returns `true` if the numbers are the format `%Y-%m-%d`.
@@ -80,7 +80,7 @@ pub(crate) fn print_date_at_once(
     print_at_once(&Moment::of_date(date), 0, 14, format, buffer)
 }
 
-/// Parses a date by `%Y-%m-%d`. Returns `None` for a text that isn't the text of a date of the
+/// Parses a date by `%Y-%m-%d`. Returns `None` for a string that isn't the string of a date of the
 /// years 0 to 9999.
 // Not inlined, so that other formats take no longer.
 #[inline(never)]
@@ -90,7 +90,7 @@ pub(crate) fn parse_iso(text: &[u8]) -> Option<Date>
     let Ok(date) = date::parse(text) else {
         return None;
     };
-    // The text may be an ordinal date or a week date.
+    // The string may be an ordinal date or a week date.
     let own = usual_text(date)?;
     if own.as_slice() != text {
         return None;
@@ -98,7 +98,7 @@ pub(crate) fn parse_iso(text: &[u8]) -> Option<Date>
     Some(date)
 }
 
-/// Returns the text of a date of the years 0 to 9999, and `None` for another date.
+/// Returns the string of a date of the years 0 to 9999, and `None` for another date.
 #[inline(always)]
 fn usual_text(date: Date) -> Option<[u8; LENGTH]>
     ensures value { IfSome result (λ bytes. bytes ≡ text date) }

@@ -1,4 +1,4 @@
-//! Values from variants of the texts of a format.
+//! Values from variants of the strings of a format.
 //!
 //! A call fails for numbers that are not a format, and for a format that can't be read leniently.
 //! Otherwise it returns the errors of the parser in `cal_format`.
@@ -64,7 +64,7 @@ fn lenient(format: Format, pivot: i32) -> LenientFormat
     format.lenient().with_pivot(pivot as u16)
 }
 
-/// Parses a date in a variant of the text of a format, such as `29 FEB 2024` by `%d %B %Y`.
+/// Parses a date in a variant of the string of a format, such as `29 FEB 2024` by `%d %B %Y`.
 #[unsafe(no_mangle)]
 pub extern "C" fn fots_date_parse_leniently(
     text: &[u8],
@@ -89,7 +89,7 @@ fn parse_date(text: &[u8], format: &LenientDateFormat) -> ParseDateResult
     result_of!(format.parse(text), date => ParseDateResult::ok(date), ParseDateResult)
 }
 
-/// Parses a time of day in a variant of the text of a format, such as `9:5` by `%H:%M`.
+/// Parses a time of day in a variant of the string of a format, such as `9:5` by `%H:%M`.
 #[unsafe(no_mangle)]
 pub extern "C" fn fots_time_parse_leniently(
     text: &[u8],
@@ -114,7 +114,7 @@ fn parse_time(text: &[u8], format: &LenientTimeFormat) -> ParseTimeResult
     result_of!(format.parse(text), time => ParseTimeResult::ok(time), ParseTimeResult)
 }
 
-/// Parses a date and a time of day in a variant of the text of a format, such as
+/// Parses a date and a time of day in a variant of the string of a format, such as
 /// `2024-2-29 23:59` by `%F %R`. The offset is 0.
 #[unsafe(no_mangle)]
 pub extern "C" fn fots_pair_parse_leniently(
@@ -147,7 +147,7 @@ fn parse_pair(text: &[u8], format: &LenientDateTimeFormat) -> ParseMomentResult
     result_of!(format.parse(text), date_time => ParseMomentResult::ok(date_time.assume_utc()), ParseMomentResult)
 }
 
-/// Parses a date, a time of day and an offset in a variant of the text of a format, such as
+/// Parses a date, a time of day and an offset in a variant of the string of a format, such as
 /// `2024-2-29 23:59 +0100` by `%F %R %z`.
 #[unsafe(no_mangle)]
 pub extern "C" fn fots_moment_parse_leniently(

@@ -1,4 +1,4 @@
-//! Formats from texts.
+//! Formats from strings.
 //!
 //! A call fails at the first byte that is not UTF-8, at a position where no item begins, or for
 //! more than 64 items.
@@ -10,7 +10,7 @@ use crate::status::UNEXPECTED_BYTE;
 use cal_format::Format;
 use std::str::from_utf8;
 
-/// Creates a format from a text in the syntax of `strftime`, such as `%d/%m/%Y`.
+/// Creates a format from a string in the syntax of `strftime`, such as `%d/%m/%Y`.
 #[unsafe(no_mangle)]
 pub extern "C" fn fots_format_new(text: &[u8]) -> FormatResult
     ensures { IsFormatOf Percent text.now result }
@@ -21,7 +21,7 @@ pub extern "C" fn fots_format_new(text: &[u8]) -> FormatResult
     }
 }
 
-/// Creates a format from a text in the syntax of `time`, such as `[day]/[month]/[year]`.
+/// Creates a format from a string in the syntax of `time`, such as `[day]/[month]/[year]`.
 #[unsafe(no_mangle)]
 pub extern "C" fn fots_format_from_description(text: &[u8]) -> FormatResult
     ensures { IsFormatOf Brackets text.now result }

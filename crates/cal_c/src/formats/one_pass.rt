@@ -69,7 +69,7 @@ pub(crate) fn print_at_once(
 }
 
 /// Prints a moment like `print_moment`: first creates the format, and then prints to a buffer with
-/// room for each text. This finds the error of a text that `print_moment` can't print at once.
+/// room for each string. This finds the error of a string that `print_moment` can't print at once.
 #[cold]
 pub(super) fn print_in_steps(
     moment: &Moment,
@@ -147,8 +147,8 @@ fn print_part(
     }
 }
 
-/// Parses a date by the items of a format. Returns `None` for another format and for a text that
-/// isn't the text of a date.
+/// Parses a date by the items of a format. Returns `None` for another format and for a string that
+/// isn't the string of a date.
 pub(super) fn parse_date_at_once(text: &[u8], format: &FormatParts) -> Option<Date>
     ensures { IfSome result (λ n. IsFormatOf format.now (λ items. IsOneDate items n text.now)) }
 {
@@ -200,8 +200,8 @@ pub(super) fn parse_pair_at_once(text: &[u8], format: &FormatParts) -> Option<Pl
     Some(PlainDateTime::new(date, time))
 }
 
-/// Parses the whole text by the items with these numbers. Returns `false` if one of them is not an
-/// item, or at a byte or a number that doesn't fit.
+/// Parses the whole string by the items with these numbers. Returns `false` if one of them is not
+/// an item, or at a byte or a number that doesn't fit.
 #[inline(always)]
 fn scan_whole(parts: &[FormatItem], text: &[u8], fields: &mut Fields) -> bool
     ensures { IsTrue result → AreItemsOf parts.now (λ items.
@@ -211,7 +211,7 @@ fn scan_whole(parts: &[FormatItem], text: &[u8], fields: &mut Fields) -> bool
     scan_parts(parts, &mut scanner, fields) && scanner.rest.is_empty()
 }
 
-/// Parses the items with these numbers at the front of a text. Returns `false` if one of them is
+/// Parses the items with these numbers at the front of a string. Returns `false` if one of them is
 /// not an item, or at a byte or a number that doesn't fit.
 fn scan_parts(parts: &[FormatItem], scanner: &mut Scanner, fields: &mut Fields) -> bool
     ensures { IsTrue result → AreItemsOf parts.now (λ items.
@@ -288,8 +288,8 @@ fn is_usual(component: Component) -> bool {
     }
 }
 
-/// Returns `true` if there are no more items, or if the next one is a byte that is not a digit, or a
-/// name.
+/// Returns `true` if there are no more items, or if the next one is a byte that is not a digit, or
+/// a name.
 #[inline(always)]
 fn begin_apart(parts: &[FormatItem]) -> bool
     ensures { IsTrue result → (items : List Item) → parts.now ≡ map item_parts items

@@ -1,4 +1,4 @@
-//! Values from texts of a format.
+//! Values from strings of a format.
 //!
 //! A call fails for numbers that are not a format, and for a format that doesn't determine such a
 //! value. Otherwise it returns the errors of the parser in `cal_format`.
@@ -49,7 +49,7 @@ macro_rules! result_of {
     };
 }
 
-/// Parses a date in the text of a format, such as `29/02/2024` by `%d/%m/%Y`.
+/// Parses a date in the string of a format, such as `29/02/2024` by `%d/%m/%Y`.
 #[unsafe(no_mangle)]
 pub extern "C" fn fots_date_parse_format(text: &[u8], format: &FormatParts) -> ParseDateResult
     ensures invalid_format { ¬ IsFormat format.now
@@ -71,7 +71,7 @@ fn parse_date(text: &[u8], format: &DateFormat) -> ParseDateResult
     result_of!(format.parse(text), date => ParseDateResult::ok(date), ParseDateResult)
 }
 
-/// Parses a time of day in the text of a format, such as `23:59` by `%H:%M`.
+/// Parses a time of day in the string of a format, such as `23:59` by `%H:%M`.
 #[unsafe(no_mangle)]
 pub extern "C" fn fots_time_parse_format(text: &[u8], format: &FormatParts) -> ParseTimeResult
     ensures invalid_format { ¬ IsFormat format.now
@@ -93,7 +93,7 @@ fn parse_time(text: &[u8], format: &TimeFormat) -> ParseTimeResult
     result_of!(format.parse(text), time => ParseTimeResult::ok(time), ParseTimeResult)
 }
 
-/// Parses an offset in the text of a format, such as `+05:30` by `%:z`.
+/// Parses an offset in the string of a format, such as `+05:30` by `%:z`.
 #[unsafe(no_mangle)]
 pub extern "C" fn fots_offset_parse_format(text: &[u8], format: &FormatParts) -> ParseOffsetResult
     ensures invalid_format { ¬ IsFormat format.now
@@ -112,8 +112,8 @@ fn parse_offset(text: &[u8], format: &OffsetFormat) -> ParseOffsetResult
     result_of!(format.parse(text), offset => ParseOffsetResult::ok(offset), ParseOffsetResult)
 }
 
-/// Parses a date and a time of day in the text of a format, such as `2024-02-29 23:59` by `%F %R`.
-/// The offset is 0.
+/// Parses a date and a time of day in the string of a format, such as `2024-02-29 23:59` by `%F
+/// %R`. The offset is 0.
 #[unsafe(no_mangle)]
 pub extern "C" fn fots_pair_parse_format(text: &[u8], format: &FormatParts) -> ParseMomentResult
     ensures invalid_format { ¬ IsFormat format.now
@@ -139,7 +139,7 @@ fn parse_pair(text: &[u8], format: &DateTimeFormat) -> ParseMomentResult
     )
 }
 
-/// Parses a date, a time of day and an offset in the text of a format, such as
+/// Parses a date, a time of day and an offset in the string of a format, such as
 /// `2024-02-29 23:59 +0100` by `%F %R %z`.
 #[unsafe(no_mangle)]
 pub extern "C" fn fots_moment_parse_format(text: &[u8], format: &FormatParts) -> ParseMomentResult

@@ -1,8 +1,8 @@
-//! Values in the text of a format.
+//! Values in the string of a format.
 //!
 //! A call fails for an invalid value, for numbers that are not a format, and for a format that
-//! shows something that the value doesn't have. If the buffer is too short for the text, the call
-//! returns the length of the text. After an error the buffer is as before.
+//! shows something that the value doesn't have. If the buffer is too short for the string, the call
+//! returns the length of the string. After an error the buffer is as before.
 ghost use Rattle.std.specs.Prelude.{◌≡◌, ◌≤◌, List, None, IfSome, length, take};
 ghost use Rattle.cal_time.specs.Time.{IsTime};
 ghost use Rattle.cal_time.specs.UtcOffset.{IsOffset};
@@ -29,10 +29,10 @@ use cal_datetime::PlainDateTime;
 use cal_format::Moment;
 use cal_time::Date;
 
-/// The maximum length of a text: 64 items of 15 bytes.
+/// The maximum length of a string: 64 items of 15 bytes.
 pub const MAX_LENGTH: usize = 960;
 
-/// Writes the bytes of a text to the front of a buffer. A text of `None` is one that the format
+/// Writes the bytes of a string to the front of a buffer. A string of `None` is one that the format
 /// doesn't have.
 pub(crate) fn write(text: &[u8], end: Option<usize>, bytes: &mut [u8]) -> LengthResult
     requires { IfSome end (λ n. n ≤ length text.now) }

@@ -18,7 +18,7 @@ pub struct FormatResult {
     pub position: usize,
 }
 
-/// The length of a text.
+/// The length of a string.
 #[repr(C)]
 #[derive(Clone, Copy, Debug)]
 pub struct LengthResult {
@@ -66,7 +66,7 @@ impl LengthResult {
         LengthResult { status, length: 0 }
     }
 
-    /// Returns the result of a text of this length that a buffer has no room for.
+    /// Returns the result of a string of this length that a buffer has no room for.
     pub fn too_short(length: usize) -> Self
         ensures { result ≡ too_short length }
     {

@@ -15,7 +15,7 @@ use crate::values::valid_date;
 use cal_holidays::{HolidayRule, calendar_rules, holidays_between};
 use cal_time::Date;
 
-/// Returns the rules of the calendar with a number, or `None` if there is none.
+/// Returns the rules of the calendar with a number, or `None` for any other number.
 fn valid_calendar(number: u32) -> Option<&'static [HolidayRule]>
     ensures { MatchOption result (¬ IsCalendar number)
         (λ rules. slice_get calendars number ≡ Some rules.now) }

@@ -119,7 +119,7 @@ pub extern "C" fn fots_date_range_length(range: DateRangeParts) -> NumberResult
     NumberResult::ok(range.len() as i32)
 }
 
-/// Returns the days that are in both ranges. Fails if there are none.
+/// Returns the days that are in both ranges. Fails if no day is in both.
 #[unsafe(no_mangle)]
 pub extern "C" fn fots_date_range_intersection(
     range: DateRangeParts,

@@ -26,10 +26,10 @@ use cal_duration::{DurationComponent, ParseDurationError, duration, period};
 use cal_schedule::Period;
 use cal_time::SignedDuration;
 
-/// The bytes of the text of a period: enough for the longest one and a zero byte.
+/// The bytes of the string of a period: enough for the longest one and a zero byte.
 const PERIOD_CAPACITY: usize = 88;
 
-/// The text of a period in ASCII, followed by zero bytes.
+/// The string of a period in ASCII, followed by zero bytes.
 #[repr(C)]
 #[derive(Clone, Copy, Debug)]
 pub struct PeriodTextResult {
@@ -206,8 +206,8 @@ pub extern "C" fn fots_duration_text(duration: Duration) -> TextResult
     TextResult::ok(duration::text(duration).as_bytes())
 }
 
-/// Returns a period in text, without parts that are zero, such as `P1Y2M10DT2H30M` or `-P1D`. Zero is
-/// `PT0S`.
+/// Returns a period in text, without parts that are zero, such as `P1Y2M10DT2H30M` or `-P1D`. Zero
+/// is `PT0S`.
 #[unsafe(no_mangle)]
 pub extern "C" fn fots_period_text(period: PeriodParts) -> PeriodTextResult
     ensures { need IsPeriod period else result ≡ period_text_error INVALID_PERIOD then

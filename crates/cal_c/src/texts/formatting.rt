@@ -1,4 +1,4 @@
-//! Texts of dates and moments, and names.
+//! Strings of dates and moments, and names.
 ghost use Rattle.std.specs.Prelude.{◌≡◌};
 ghost use Rattle.cal_time.specs.DateText.{text};
 ghost use Rattle.cal_time.specs.Time.{IsTime};
@@ -83,7 +83,7 @@ pub extern "C" fn fots_moment_text(date: i32, time: u64, offset: i32) -> TextRes
     moment_text_result(OffsetDateTime::new_in_offset(date, time, offset))
 }
 
-/// Returns a moment in RFC 3339, or fails if it has no text.
+/// Returns a moment in RFC 3339, or fails if it has no string.
 fn moment_text_result(moment: OffsetDateTime) -> TextResult
     ensures result_out_of_range { ¬ HasMomentText moment → result ≡ text_error RESULT_OUT_OF_RANGE }
     ensures value { HasMomentText moment → result ≡ text_ok (moment_text moment) }

@@ -1,7 +1,7 @@
 //! Parsing dates, moments and Unix times.
 //!
-//! A text in another form is an unexpected byte or end at a position. A text that has the form is
-//! the error of its first component out of range.
+//! A string in another form is an unexpected byte or end at a position. A string that has the form
+//! is the error of its first component out of range.
 ghost use Rattle.std.specs.Prelude.{◌≡◌, ◌+ℤ◌, ℕ};
 ghost use Rattle.cal_time.specs.Date.{IsDate};
 ghost use Rattle.cal_time.specs.Time.{IsTime};

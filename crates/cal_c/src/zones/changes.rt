@@ -7,8 +7,8 @@ use crate::results::Int64Result;
 use crate::status::{INVALID_ZONE, RESULT_OUT_OF_RANGE};
 use crate::zones::checked_zone::CheckedZone;
 
-/// Returns the Unix time of the first change after a Unix time in seconds. Fails if there is none.
-/// In Berlin it is 1711846800 after 1700000000.
+/// Returns the Unix time of the first change after a Unix time in seconds. Fails if no change comes
+/// after it. In Berlin it is 1711846800 after 1700000000.
 #[unsafe(no_mangle)]
 pub extern "C" fn fots_zone_next_change(zone: &CheckedZone<'_>, seconds: i64) -> Int64Result
     ensures { IsForZone zone.now (λ z. IsNextResult z seconds result)
@@ -21,8 +21,8 @@ pub extern "C" fn fots_zone_next_change(zone: &CheckedZone<'_>, seconds: i64) ->
     }
 }
 
-/// Returns the Unix time of the last change that is not after a Unix time in seconds. Fails if
-/// there is none. In Berlin it is 1711846800 for 1711846800.
+/// Returns the Unix time of the last change that is not after a Unix time in seconds. Fails if all
+/// changes come after it. In Berlin it is 1711846800 for 1711846800.
 #[unsafe(no_mangle)]
 pub extern "C" fn fots_zone_previous_change(zone: &CheckedZone<'_>, seconds: i64) -> Int64Result
     ensures { IsForZone zone.now (λ z. IsPreviousResult z seconds result)

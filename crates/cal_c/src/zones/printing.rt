@@ -1,4 +1,4 @@
-//! Texts of moments by the clocks of a zone.
+//! Strings of moments by the clocks of a zone.
 ghost use Rattle.std.specs.Prelude.{List, ◌≤◌, length};
 ghost use Rattle.cal_datetime.specs.OffsetDateTime.{instant, local_at};
 ghost use Rattle.cal_format.specs.declared.item.Item.{Item};

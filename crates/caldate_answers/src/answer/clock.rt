@@ -1,4 +1,4 @@
-//! Moments of texts without an offset, by the clocks of a zone.
+//! Moments of strings without an offset, by the clocks of a zone.
 ghost use Rattle.std.specs.Prelude.{◌≡◌, ℤ, Option, Result};
 ghost use Rattle.cal_text.specs.declared.any.DateOrMoment.{DateOrMoment};
 ghost use Rattle.caldate_lines.specs.declared.no_answer.NoAnswer.{NoAnswer};

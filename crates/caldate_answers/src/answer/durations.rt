@@ -1,4 +1,4 @@
-//! Texts of periods and durations.
+//! Strings of periods and durations.
 ghost use Rattle.std.specs.Prelude.{◌≡◌, ◌+◌, ◌*◌, ◌<◌, ◌≤◌, ◌++◌, length};
 ghost use Rattle.cal_duration.specs.DurationText.{duration_text, period_text};
 ghost use Rattle.cal_duration.specs.Form.{sign_text};

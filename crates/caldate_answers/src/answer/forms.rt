@@ -1,4 +1,4 @@
-//! The text of a date or a moment in forms that `cal_text` doesn't have.
+//! The string of a date or a moment in forms that `cal_text` doesn't have.
 ghost use Rattle.std.specs.Prelude.{◌≡◌, ◌≤◌, length, MatchOption};
 ghost use Rattle.std.specs.Fmt.{signed_decimal};
 ghost use Rattle.cal_datetime.specs.OffsetDateTime.{instant, unix_nanoseconds};

@@ -1,4 +1,4 @@
-//! The text of a number of any width.
+//! The string of a number of any width.
 ghost use Rattle.std.specs.Prelude.{◌≡◌, ◌≤◌, length};
 ghost use Rattle.std.specs.Fmt.{signed_decimal};
 

@@ -1,5 +1,5 @@
 //! Answers in one form each.
-// A function zeroes all its texts when it is called, so each form has a function of its own.
+// A function zeroes all its strings when it is called, so each form has a function of its own.
 ghost use Rattle.std.specs.Prelude.{◌≡◌, ◌+◌, ◌≤◌, ◌++◌, ℕ, List, length, true, false};
 ghost use Rattle.std.specs.Fmt.{signed_decimal};
 ghost use Rattle.cal_datetime.specs.OffsetDateTime.{instant, unix_nanoseconds};
@@ -73,7 +73,7 @@ fn push_julian(buffer: &mut Buffer, date: Date)
     buffer.push(JulianText(date).text().as_bytes());
 }
 
-/// Appends a moment in RFC 3339, or nothing. Returns whether it has such a text.
+/// Appends a moment in RFC 3339, or nothing. Returns whether it has such a string.
 #[inline(never)]
 pub fn push_rfc3339(buffer: &mut Buffer, moment: OffsetDateTime) -> bool
     requires { HasRoom longest_answer buffer.old }
@@ -133,7 +133,8 @@ pub fn push_quarter(buffer: &mut Buffer, date: Date)
     buffer.push(quarter_text(date).as_bytes());
 }
 
-/// Appends the date of a moment in the basic format, or nothing. Returns whether it has such a text.
+/// Appends the date of a moment in the basic format, or nothing. Returns whether it has such a
+/// string.
 #[inline(never)]
 pub fn push_basic(buffer: &mut Buffer, moment: OffsetDateTime) -> bool
     requires { HasRoom longest_answer buffer.old }

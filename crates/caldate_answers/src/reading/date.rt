@@ -46,7 +46,7 @@ fn date_of(year: u16, month: u8, day: u8) -> Result<Date, ComponentRange>
     Date::from_calendar_date(i32::from(year), Month::try_from(month)?, day)
 }
 
-/// Parses the year, the month and the day up to the end of the text.
+/// Parses the year, the month and the day up to the end of the string.
 fn scan_date(order: DateOrder, scanner: &mut Scanner) -> Option<(u16, u8, u8)>
     ensures scans { ScansWhole (date_shape order) scanner.old.rest.now scanner.new.rest.now result }
     ensures value { IfSome result (HasDate order scanner.old.rest.now) }
@@ -70,7 +70,7 @@ fn scan_date(order: DateOrder, scanner: &mut Scanner) -> Option<(u16, u8, u8)>
     }
 }
 
-/// Parses two numbers and a year with the same separator between them, up to the end of the text.
+/// Parses two numbers and a year with the same separator between them, up to the end of the string.
 fn scan_year_last(scanner: &mut Scanner) -> Option<(u8, u8, u16)>
     ensures scans { ScansWhole year_last scanner.old.rest.now scanner.new.rest.now result }
     ensures value { IfSome result (λ found.

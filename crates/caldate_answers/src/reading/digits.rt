@@ -1,4 +1,4 @@
-//! Digits at the front of a text.
+//! Digits at the front of a string.
 ghost use Rattle.std.specs.Prelude.{◌≡◌, ◌+◌, ◌*◌, ◌^◌, ◌<◌, ◌≤◌, IfSome};
 ghost use Rattle.cal_text.specs.Shape.{Shape, Digits, ParsesDigits, ParsesMoreDigits, Scans, UpTo, unmatched_bytes};
 

@@ -1,15 +1,15 @@
-//! Texts with the bytes that a form leaves out.
+//! Strings with the bytes that a form leaves out.
 ghost use Rattle.std.specs.Prelude.{◌≡◌, ◌+◌, ◌≤◌, ◌++◌, [], length};
 
 use std::marker::Model;
 
-/// The maximum length of a text that gets the bytes that its form leaves out.
+/// The maximum length of a string that gets the bytes that its form leaves out.
 pub const LONGEST: usize = 60;
 
 /// The maximum length with these bytes.
 const CAPACITY: usize = 65;
 
-/// A text with the bytes that its form leaves out, of at most 65 bytes.
+/// A string with the bytes that its form leaves out, of at most 65 bytes.
 #[derive(Drop)]
 pub struct FullText {
     bytes: [u8; CAPACITY],
@@ -27,7 +27,7 @@ impl Model for FullText {
 }
 
 impl FullText {
-    /// Creates an empty text.
+    /// Creates an empty string.
     pub fn new() -> Self
         ensures { result ≡ [] }
     {

@@ -54,7 +54,7 @@ fn with_offset(text: &[u8]) -> FullText
     full
 }
 
-/// Returns the error of a text without the form, at the first wrong byte.
+/// Returns the error of a string without the form, at the first wrong byte.
 fn wrong_at(text: &[u8]) -> ParseError
     requires { ¬ HasSome (WithoutOffset HasMomentForm) text.now }
     ensures form { component_of result ≡ None }
@@ -65,7 +65,7 @@ fn wrong_at(text: &[u8]) -> ParseError
     ParseError::unexpected(text.len() - scanner.rest.len(), text.len())
 }
 
-/// Parses a date, a time of day and a fraction of at most nine digits, up to the end of the text.
+/// Parses a date, a time of day and a fraction of at most nine digits, up to the end of the string.
 fn scan_local(scanner: &mut Scanner) -> Option<()>
     ensures { ScansWhole (ToSeconds (Fraction 8 End)) scanner.old.rest.now scanner.new.rest.now
         result }
@@ -80,7 +80,7 @@ fn scan_local(scanner: &mut Scanner) -> Option<()>
     Some(())
 }
 
-/// Parses a time of day and a fraction of at most nine digits, up to the end of the text.
+/// Parses a time of day and a fraction of at most nine digits, up to the end of the string.
 fn scan_clock(scanner: &mut Scanner) -> Option<()>
     ensures { ScansWhole (Digits 2 (TwoNumbers 58 (Fraction 8 End))) scanner.old.rest.now
         scanner.new.rest.now result }

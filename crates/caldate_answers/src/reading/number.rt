@@ -45,8 +45,8 @@ fn nanoseconds_in(unit: UnixUnit) -> u32
     }
 }
 
-/// Parses a number of at most 27 digits without leading zeros, up to the end of the text. It has a
-/// minus sign if it is negative.
+/// Parses a number of at most 27 digits without leading zeros, up to the end of the string. It has
+/// a minus sign if it is negative.
 fn scan_number(scanner: &mut Scanner) -> Option<i128>
     ensures scans { ScansWhole number_shape scanner.old.rest.now scanner.new.rest.now result }
     ensures value { IfSome result (IsNumber scanner.old.rest.now) }
@@ -69,7 +69,7 @@ fn scan_number(scanner: &mut Scanner) -> Option<i128>
     }
 }
 
-/// Parses a number above 0 of at most 27 digits without leading zeros, up to the end of the text.
+/// Parses a number above 0 of at most 27 digits without leading zeros, up to the end of the string.
 fn scan_positive_number(scanner: &mut Scanner) -> Option<u128>
     ensures scans { ScansWhole (Number 26 End) scanner.old.rest.now scanner.new.rest.now result }
     ensures value { IfSome result (λ n. (0 < n) × IsNumber scanner.old.rest.now (pos n)) }

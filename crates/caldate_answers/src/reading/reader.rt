@@ -14,12 +14,12 @@ use cal_text::{DateOrMoment, ParseError};
 use cal_time::UtcOffset;
 use caldate_lines::no_answer::NoAnswer;
 
-/// The parts of a date or a moment that its text may leave out.
+/// The parts of a date or a moment that its string may leave out.
 #[derive(Clone, Copy)]
 pub struct Assumptions {
-    /// The offset of a text that has none.
+    /// The offset of a string that has none.
     pub offset: UtcOffset,
-    /// The year of a text that has none: four digits, such as `2024`.
+    /// The year of a string that has none: four digits, such as `2024`.
     pub year: [u8; 4],
 }
 
@@ -39,7 +39,7 @@ pub enum Reader {
 }
 
 impl Reader {
-    /// Parses a text in this form, with the parts of `assumptions` that the form leaves out, or
+    /// Parses a string in this form, with the parts of `assumptions` that the form leaves out, or
     /// returns why it can't be read.
     #[inline(always)]
     pub fn read(&self, assumptions: &Assumptions, text: &[u8]) -> Result<DateOrMoment, NoAnswer>
@@ -61,14 +61,14 @@ impl Reader {
     }
 }
 
-/// Returns the date or the moment, or that the text doesn't have the form.
+/// Returns the date or the moment, or that the string doesn't have the form.
 fn or_no_form(found: Option<DateOrMoment>) -> Result<DateOrMoment, NoAnswer>
     ensures { result ≡ ok_or found NoAnswer.NoForm }
 {
     found.ok_or(NoAnswer::NoForm)
 }
 
-/// Parses a text in a form that says why a text isn't read.
+/// Parses a string in a form that says why a string isn't read.
 #[inline(always)]
 fn read_named(reading: Reading, text: &[u8]) -> Result<DateOrMoment, NoAnswer>
     ensures every { (found : DateOrMoment) → IsTextIn reading text.now found → result ≡ Ok found }
@@ -82,7 +82,7 @@ fn read_named(reading: Reading, text: &[u8]) -> Result<DateOrMoment, NoAnswer>
     }
 }
 
-/// Returns the reason why a text can't be read.
+/// Returns the reason why a string can't be read.
 pub fn reason_of(error: ParseError) -> NoAnswer
     ensures { result ≡ reason_of error }
 {
@@ -94,7 +94,7 @@ pub fn reason_of(error: ParseError) -> NoAnswer
     }
 }
 
-/// Returns the date or the moment of a text without its year, in the format with the year.
+/// Returns the date or the moment of a string without its year, in the format with the year.
 fn read_yearless(
     format: &ValueFormat,
     assumptions: &Assumptions,

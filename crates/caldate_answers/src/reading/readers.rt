@@ -12,7 +12,7 @@ use std::marker::Model;
 /// The maximum number of forms.
 const MAX_READERS: usize = 4;
 
-/// A list of up to four forms. A text is read in the first that it has.
+/// A list of up to four forms. A string is read in the first that it has.
 #[derive(Drop)]
 pub struct Readers {
     items: [Reader; MAX_READERS],
@@ -64,7 +64,7 @@ impl Readers {
     }
 }
 
-/// Parses a text in the first form that it has, or returns why it has none.
+/// Parses a string in the first form that it has, or returns why it has none.
 #[inline(always)]
 #[cycle(read)]
 pub fn read(
@@ -109,7 +109,7 @@ fn read_by(
     read(readers, assumptions, text)
 }
 
-/// Returns the reason of a form that a text has, or else the first.
+/// Returns the reason of a form that a string has, or else the first.
 pub fn first_reason(own: NoAnswer, later: NoAnswer) -> NoAnswer
     ensures { result ≡ first_reason own later }
 {

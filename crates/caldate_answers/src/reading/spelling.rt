@@ -22,7 +22,7 @@ pub enum Spelling {
 }
 
 impl Spelling {
-    /// Parses a text in this spelling, or returns why it can't be read.
+    /// Parses a string in this spelling, or returns why it can't be read.
     pub fn read(self, text: &[u8]) -> Result<DateOrMoment, NoAnswer>
         ensures every { (found : DateOrMoment)
             → IsSomeAnd (full_by self text.now) (λ full. IsTextOf full found) → result ≡ Ok found }
@@ -42,7 +42,7 @@ impl Spelling {
         }
     }
 
-    /// Returns the text in one of the six forms, or `None` if it is too long.
+    /// Returns the string in one of the six forms, or `None` if it is too long.
     fn full(self, text: &[u8]) -> Option<FullText>
         ensures { result ≡ full_by self text.now }
     {
@@ -56,7 +56,7 @@ impl Spelling {
     }
 }
 
-/// Returns the reason why a text can't be read, without a position.
+/// Returns the reason why a string can't be read, without a position.
 fn brief_reason_of(error: ParseError) -> NoAnswer
     ensures { result ≡ brief_reason_of error }
 {

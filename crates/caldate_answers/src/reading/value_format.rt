@@ -1,4 +1,4 @@
-//! Formats whose texts determine a date or a moment.
+//! Formats whose strings determine a date or a moment.
 ghost use Rattle.std.specs.Prelude.{◌≡◌, IfSome, Some};
 ghost use Rattle.cal_text.specs.declared.any.DateOrMoment.{DateOrMoment};
 ghost use Rattle.caldate_answers.specs.Readers.{IsFormatText};
@@ -8,7 +8,7 @@ use cal_format::{DateFormat, DateTimeFormat, OffsetDateTimeFormat};
 use cal_text::{DateForm, DateOrMoment, MomentForm};
 use cal_time::{Date, UtcOffset};
 
-/// A format whose texts determine a date or a moment.
+/// A format whose strings determine a date or a moment.
 #[derive(Drop)]
 pub enum ValueFormat {
     /// A format of dates, such as `%d.%m.%Y`.
@@ -20,7 +20,7 @@ pub enum ValueFormat {
 }
 
 impl ValueFormat {
-    /// Returns the date or the moment of a text in this format. A text without an offset is at
+    /// Returns the date or the moment of a string in this format. A string without an offset is at
     /// `offset`.
     pub fn read(&self, offset: UtcOffset, text: &[u8]) -> Option<DateOrMoment>
         ensures every { (found : DateOrMoment) → IsFormatText offset self.now text.now found

@@ -1,4 +1,4 @@
-//! The maximum length of a text at the front of some bytes.
+//! The maximum length of a string at the front of some bytes.
 ghost use Rattle.std.specs.Prelude.{◌≡◌, ℕ, ℤ, List, ◌<◌, ◌≤◌, ◌++◌, IsSomeAnd, Some, length, take, true};
 ghost use Rattle.cal_format.specs.Form.{HasForm};
 ghost use Rattle.cal_text.specs.AnyForm.{HasAnyForm};
@@ -30,7 +30,7 @@ const PAST_COLON: usize = 2;
 /// The index of a comma before the fraction of a moment.
 const COMMA_INDEX: usize = 19;
 
-/// Returns a length that no text at the front of the bytes exceeds.
+/// Returns a length that no string at the front of the bytes exceeds.
 pub fn bound_of(filter: &Filter<'_>, bytes: &[u8]) -> usize
     ensures within { result ≤ length bytes.now }
     ensures none { (n : ℕ) → result < n → n ≤ length bytes.now
@@ -46,7 +46,7 @@ pub fn bound_of(filter: &Filter<'_>, bytes: &[u8]) -> usize
     bound_in(readers, &filter.assumptions, any, bytes)
 }
 
-/// Returns the bound for texts in any of the forms. `any` is the bound for the six forms.
+/// Returns the bound for strings in any of the forms. `any` is the bound for the six forms.
 fn bound_in(readers: &[Reader], assumptions: &Assumptions, any: usize, bytes: &[u8]) -> usize
     requires { Bounds (HasFormIn Reading.Any) bytes.now any }
     ensures within { result ≤ length bytes.now }
@@ -64,7 +64,7 @@ fn bound_in(readers: &[Reader], assumptions: &Assumptions, any: usize, bytes: &[
     }
 }
 
-/// Returns the bound for texts in one of the forms.
+/// Returns the bound for strings in one of the forms.
 fn bound_by(reader: &Reader, assumptions: &Assumptions, any: usize, bytes: &[u8]) -> usize
     requires { Bounds (HasFormIn Reading.Any) bytes.now any }
     ensures within { result ≤ length bytes.now }
@@ -83,7 +83,7 @@ fn bound_by(reader: &Reader, assumptions: &Assumptions, any: usize, bytes: &[u8]
     }
 }
 
-/// Returns the bound for texts in a form with a name.
+/// Returns the bound for strings in a form with a name.
 fn bound_by_name(reading: Reading, any: usize, bytes: &[u8]) -> usize
     requires { Bounds (HasFormIn Reading.Any) bytes.now any }
     ensures { Bounds (HasFormIn reading) bytes.now result }
@@ -107,7 +107,7 @@ fn bound_by_form(reading: Reading, bytes: &[u8]) -> usize
     }
 }
 
-/// Returns the bound for fronts of the texts in a format.
+/// Returns the bound for fronts of the strings in a format.
 fn bound_by_format(format: &ValueFormat, bytes: &[u8]) -> usize
     ensures within { result ≤ length bytes.now }
     ensures front { (offset : ℤ) (n : ℕ) (more : List ℕ) (found : DateOrMoment)
@@ -132,7 +132,7 @@ fn bound_by_items(format: &Format, bytes: &[u8]) -> usize
     }
 }
 
-/// Returns the bound for texts in a spelling.
+/// Returns the bound for strings in a spelling.
 fn bound_by_spelling(spelling: Spelling, any: usize, bytes: &[u8]) -> usize
     requires { Bounds (HasFormIn Reading.Any) bytes.now any }
     ensures within { result ≤ length bytes.now }
@@ -145,7 +145,7 @@ fn bound_by_spelling(spelling: Spelling, any: usize, bytes: &[u8]) -> usize
     }
 }
 
-/// Returns the bound for texts of ISO 8601, which begin as in the six forms.
+/// Returns the bound for strings of ISO 8601, which begin as in the six forms.
 fn bound_by_iso(any: usize, bytes: &[u8]) -> usize
     requires { Bounds (HasFormIn Reading.Any) bytes.now any }
     ensures within { result ≤ length bytes.now }
@@ -163,7 +163,7 @@ fn bound_by_iso(any: usize, bytes: &[u8]) -> usize
     }
 }
 
-/// Returns the bound for texts of seconds, which may lack the `@` of the six forms.
+/// Returns the bound for strings of seconds, which may lack the `@` of the six forms.
 fn bound_by_seconds(bytes: &[u8]) -> usize
     ensures within { result ≤ length bytes.now }
     ensures form { (n : ℕ) → n ≤ length bytes.now

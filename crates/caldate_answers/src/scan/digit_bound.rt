@@ -1,4 +1,4 @@
-//! The maximum length of a text that starts with a digit.
+//! The maximum length of a string that starts with a digit.
 ghost use Rattle.std.specs.Prelude.{◌≡◌, ◌≤◌, length};
 ghost use Rattle.caldate_answers.specs.Scans.{digit_bound, digits_at_front, offset_index};
 
@@ -16,7 +16,7 @@ const AFTER_SECONDS: usize = 19;
 /// Returns the length of a moment that begins with the bytes, or 10, the length of a date, if they
 /// have no offset. In `2024-02-29T13:05:07Z, ..` it is 20, and in `2024-02-29 13:05:07, ..` 10.
 ///
-/// No text that starts with a digit is longer, in one of the six forms or in ISO 8601.
+/// No string that starts with a digit is longer, in one of the six forms or in ISO 8601.
 pub fn digit_bound(bytes: &[u8]) -> usize
     ensures { result ≡ digit_bound bytes.now }
 {

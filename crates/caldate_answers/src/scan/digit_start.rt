@@ -1,4 +1,4 @@
-//! Formats whose texts start with two digits.
+//! Formats whose strings start with two digits.
 ghost use Rattle.std.specs.Prelude.{◌≡◌, ◌<◌, ◌≤◌, ℕ, ℤ, List, Some, drop, false, length, true};
 ghost use Rattle.cal_format.specs.Form.{HasForm, ItemShape};
 ghost use Rattle.cal_format.specs.Moment.{width};
@@ -37,14 +37,14 @@ fn starts_with_digits(bytes: &[u8]) -> bool
     is_digit(byte_at(bytes, 0)) && is_digit(byte_at(bytes, 1))
 }
 
-/// Returns `true` only if each text starts with two digits.
+/// Returns `true` only if each string starts with two digits.
 pub fn start_with_digits(filter: &Filter<'_>) -> bool
     ensures { result ≡ true → StartWithDigits filter.now }
 {
     are_digits(filter.readers.as_slice())
 }
 
-/// Returns `true` only if each text in one of these forms starts with two digits.
+/// Returns `true` only if each string in one of these forms starts with two digits.
 fn are_digits(readers: &[Reader]) -> bool
     ensures found { result ≡ true → (assumptions : Assumptions) (bytes : List ℕ) (found : DateOrMoment)
         → 0 < length bytes → IsFoundBy assumptions readers.now bytes found
@@ -59,7 +59,7 @@ fn are_digits(readers: &[Reader]) -> bool
     }
 }
 
-/// Returns `true` only if each text in the form starts with two digits.
+/// Returns `true` only if each string in the form starts with two digits.
 fn has_digits_first(reader: &Reader) -> bool
     ensures text { result ≡ true → (assumptions : Assumptions) (bytes : List ℕ) (found : DateOrMoment)
         → IsTextBy assumptions reader.now bytes found → StartsWithDigits bytes }
@@ -73,7 +73,7 @@ fn has_digits_first(reader: &Reader) -> bool
     }
 }
 
-/// Returns `true` only if each text in the format starts with two digits.
+/// Returns `true` only if each string in the format starts with two digits.
 fn is_number_first(format: &ValueFormat) -> bool
     ensures { result ≡ true → (offset : ℤ) (bytes : List ℕ) (found : DateOrMoment)
         → IsFormatText offset format.now bytes found → StartsWithDigits bytes }

@@ -1,9 +1,9 @@
-//! A text that a scan finds.
+//! A string that a scan finds.
 
 use cal_text::DateOrMoment;
 use caldate_lines::no_answer::NoAnswer;
 
-/// A text in a line.
+/// A string in a line.
 #[derive(Clone, Copy)]
 pub struct FoundText {
     /// The index of its first byte in the line.

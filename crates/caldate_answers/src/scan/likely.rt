@@ -6,8 +6,8 @@ use crate::request::{DigitCounts, Filter};
 use crate::scan::byte_at;
 use crate::scan::digit_bound::digits_at_front;
 
-/// Returns whether the bytes may be a text. In a run that reads Unix times, a number must have as many
-/// digits as one of this century: `1709211907`, and not `1`.
+/// Returns whether the bytes may be a string. In a run that reads Unix times, a number must have as
+/// many digits as one of this century: `1709211907`, and not `1`.
 pub fn is_likely(filter: &Filter<'_>, bytes: &[u8]) -> bool
     ensures { result ≡ is_likely filter.now bytes.now }
 {

@@ -1,4 +1,4 @@
-//! Answers to the texts in a line.
+//! Answers to the strings in a line.
 ghost use Rattle.std.specs.Prelude.{◌≡◌, ◌+◌, ◌≤◌, [], OnErr, false, length, true};
 ghost use Rattle.caldate_lines.specs.Room.{HasRoom, longest_reply, longest_text};
 ghost use Rattle.caldate_answers.specs.Answers.{keeps};
@@ -13,13 +13,14 @@ use caldate_lines::no_answer::NoAnswer;
 use caldate_lines::on_invalid::OnInvalid;
 use caldate_lines::output::buffer::Buffer;
 
-/// Appends the line with the answers to its texts in their place, and returns whether it goes out.
+/// Appends the line with the answers to its strings in their place, and returns whether it goes
+/// out.
 ///
-/// For `to week`, `due 2024-02-29.` becomes `due 2024-W09-4.`, and a line without a text stays. For
-/// `keep`, the line itself is appended if its first text lies within the bounds. If a text has no
-/// answer, this appends nothing and returns the reason, such as `Rejected` for `2023-02-29`. Returns
-/// `TooLong` if the line becomes longer than 4096 bytes, and with `--invalid stop` `NoForm` if it has
-/// no text.
+/// For `to week`, `due 2024-02-29.` becomes `due 2024-W09-4.`, and a line without a string stays.
+/// For `keep`, the line itself is appended if its first string lies within the bounds. If a string
+/// has no answer, this appends nothing and returns the reason, such as `Rejected` for `2023-02-29`.
+/// Returns `TooLong` if the line becomes longer than 4096 bytes, and with `--invalid stop` `NoForm`
+/// if it has no string.
 #[inline(never)]
 pub fn push_scanned(buffer: &mut Buffer, filter: &Filter<'_>, line: &[u8]) -> Result<bool, NoAnswer>
     requires room { HasRoom longest_reply buffer.old }
@@ -38,7 +39,7 @@ pub fn push_scanned(buffer: &mut Buffer, filter: &Filter<'_>, line: &[u8]) -> Re
     }
 }
 
-/// Returns whether the run ends at the line because it has no text.
+/// Returns whether the run ends at the line because it has no string.
 fn ends_at(filter: &Filter<'_>, line: &[u8]) -> bool
     ensures ends { result ≡ true
         → (filter.now.on_invalid ≡ OnInvalid.Stop) × HasNoText filter.now line.now 0 }
@@ -54,7 +55,8 @@ fn ends_at(filter: &Filter<'_>, line: &[u8]) -> bool
     }
 }
 
-/// Appends the line if its first text lies within the bounds of `keep`, and returns whether it does.
+/// Appends the line if its first string lies within the bounds of `keep`, and returns whether it
+/// does.
 fn push_selected(buffer: &mut Buffer, filter: &Filter<'_>, line: &[u8]) -> Result<bool, NoAnswer>
     requires room { HasRoom longest_reply buffer.old }
     requires fits { length line.now ≤ longest_text }
@@ -78,8 +80,8 @@ fn push_selected(buffer: &mut Buffer, filter: &Filter<'_>, line: &[u8]) -> Resul
     }
 }
 
-/// Appends the line with the answers to its texts in their place. Appends nothing if a text has no
-/// answer, or if the line becomes too long.
+/// Appends the line with the answers to its strings in their place. Appends nothing if a string has
+/// no answer, or if the line becomes too long.
 fn push_replaced(buffer: &mut Buffer, filter: &Filter<'_>, line: &[u8]) -> Result<bool, NoAnswer>
     requires room { HasRoom longest_reply buffer.old }
     requires fits { length line.now ≤ longest_text }

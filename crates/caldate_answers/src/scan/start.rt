@@ -1,4 +1,4 @@
-//! The bytes that start a text.
+//! The bytes that start a string.
 ghost use Rattle.std.specs.Prelude.{◌≡◌, ◌<◌, ◌≤◌, ℕ, List, Some, drop, false, length, slice_index, true};
 ghost use Rattle.cal_text.specs.declared.any.DateOrMoment.{DateOrMoment};
 ghost use Rattle.caldate_lines.specs.declared.no_answer.NoAnswer.{NoAnswer};
@@ -12,8 +12,9 @@ use crate::reading::spelling::Spelling;
 use crate::request::Filter;
 use crate::scan::{byte_at, is_digit};
 
-/// Returns whether the bytes may start a text in one of the six forms: by four digits and a hyphen, by
-/// a sign, four digits, and a digit or a hyphen, or by `@` or `J` and a digit or a hyphen.
+/// Returns whether the bytes may start a string in one of the six forms: by four digits and a
+/// hyphen, by a sign, four digits, and a digit or a hyphen, or by `@` or `J` and a digit or a
+/// hyphen.
 #[inline(always)]
 pub fn is_usual_start(bytes: &[u8]) -> bool
     ensures { result ≡ is_usual_start bytes.now }
@@ -26,7 +27,7 @@ pub fn is_usual_start(bytes: &[u8]) -> bool
     }
 }
 
-/// Returns the first place from `from` on at which a text in one of the six forms may start, or a
+/// Returns the first place from `from` on at which a string in one of the six forms may start, or a
 /// place past the last byte.
 pub fn usual_place(line: &[u8], from: usize) -> usize
     ensures from { from ≤ result }
@@ -46,8 +47,8 @@ pub fn usual_place(line: &[u8], from: usize) -> usize
     index
 }
 
-/// Returns the first index from `from` on of a sign, an `@` or a `J`, or one past the last byte. Most
-/// bytes are letters, digits and spaces.
+/// Returns the first index from `from` on of a sign, an `@` or a `J`, or one past the last byte.
+/// Most bytes are letters, digits and spaces.
 #[inline(always)]
 fn mark_index(line: &[u8], from: usize) -> usize
     ensures from { from ≤ result }
@@ -87,8 +88,8 @@ fn are_digits(bytes: &[u8], from: usize) -> bool
         && is_digit(byte_at(bytes, from + 3))
 }
 
-/// Returns whether the first `count` bytes may end a text in one of the six forms: by a digit, `Z` or
-/// `z`. After a digit at the start, a date has 8 or 10 bytes, and a moment 20 or more.
+/// Returns whether the first `count` bytes may end a string in one of the six forms: by a digit,
+/// `Z` or `z`. After a digit at the start, a date has 8 or 10 bytes, and a moment 20 or more.
 #[inline(always)]
 pub fn is_usual_end(bytes: &[u8], count: usize) -> bool
     requires { 0 < count }
@@ -110,14 +111,15 @@ fn is_digit_or_hyphen(byte: u8) -> bool
     is_digit(byte) || byte == b'-'
 }
 
-/// Returns `true` only if each text starts and ends as one of the six forms does.
+/// Returns `true` only if each string starts and ends as one of the six forms does.
 pub fn all_usual(filter: &Filter<'_>) -> bool
     ensures { result ≡ true → AreUsual filter.now }
 {
     are_usual(filter.readers.as_slice())
 }
 
-/// Returns `true` only if each text in one of these forms starts and ends as one of the six forms does.
+/// Returns `true` only if each string in one of these forms starts and ends as one of the six forms
+/// does.
 fn are_usual(readers: &[Reader]) -> bool
     ensures found { result ≡ true → (assumptions : Assumptions) (bytes : List ℕ) (found : DateOrMoment)
         → 0 < length bytes → IsFoundBy assumptions readers.now bytes found
@@ -140,7 +142,7 @@ pub fn has_usual(readers: &[Reader]) -> bool {
     }
 }
 
-/// Returns `true` only if each text in the form starts and ends as one of the six forms does.
+/// Returns `true` only if each string in the form starts and ends as one of the six forms does.
 fn is_usual(reader: &Reader) -> bool
     ensures text { result ≡ true → (assumptions : Assumptions) (bytes : List ℕ) (found : DateOrMoment)
         → 0 < length bytes → IsTextBy assumptions reader.now bytes found

@@ -37,8 +37,8 @@ pub fn moment_in(zone: &Zone<'_>, moment: OffsetDateTime) -> OffsetDateTime
     moment.local().saturating_add(seconds).assume_offset(offset)
 }
 
-/// Returns the moment for `now`, its date for `today`, the previous day for `yesterday`, the next day
-/// for `tomorrow`, and `None` for any other word.
+/// Returns the moment for `now`, its date for `today`, the previous day for `yesterday`, the next
+/// day for `tomorrow`, and `None` for any other word.
 pub fn clock_word(word: &[u8], now: Option<OffsetDateTime>) -> Option<DateOrMoment> {
     let now = now?;
     if word == b"now".as_slice() {
@@ -66,8 +66,8 @@ pub fn is_day_word(word: &[u8]) -> bool {
     word == b"today".as_slice() || word == b"yesterday".as_slice() || word == b"tomorrow".as_slice()
 }
 
-/// Returns the text that `now` or a word for a date means after `--date`, and `None` for any other
-/// word.
+/// Returns the string that `now` or a word for a date means after `--date`, and `None` for any
+/// other word.
 pub fn clock_text(
     word: &[u8],
     clock: &Option<Clock<'_>>,
@@ -89,7 +89,7 @@ fn date_on(clock: &Option<Clock<'_>>, utc: PlainDateTime) -> Date {
     }
 }
 
-/// Formats a moment in RFC 3339, or as a Unix time if RFC 3339 has no text for it.
+/// Formats a moment in RFC 3339, or as a Unix time if RFC 3339 has no string for it.
 pub fn rfc3339_or_unix_text(moment: OffsetDateTime) -> ShortText
     ensures text { result ≡ rfc3339_or_unix_text moment }
     ensures short { length result ≤ 38 }

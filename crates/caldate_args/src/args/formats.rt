@@ -15,7 +15,7 @@ use std::str;
 /// The maximum number of items of a format that the year follows.
 const LONGEST_YEARLESS: usize = 62;
 
-/// Returns the text of a format that has a name, or the word itself.
+/// Returns the string of a format that has a name, or the word itself.
 fn format_named(word: &[u8]) -> &[u8] {
     match value_named(word, &FORMATS) {
         Some(text) => text.as_bytes(),
@@ -89,7 +89,7 @@ pub fn reader_of(word: &[u8]) -> Option<Reader> {
     }
 }
 
-/// Returns the form of texts in a format.
+/// Returns the form of strings in a format.
 fn reader_with(word: &[u8]) -> Option<Reader> {
     match value_format_of(word, false) {
         Some(format) => Some(Reader::Format(format)),
@@ -100,8 +100,8 @@ fn reader_with(word: &[u8]) -> Option<Reader> {
     }
 }
 
-/// Parses a format, with ` %Y` after it if `dated` is `true`, and returns it if it determines a date
-/// or a moment.
+/// Parses a format, with ` %Y` after it if `dated` is `true`, and returns it if it determines a
+/// date or a moment.
 fn value_format_of(word: &[u8], dated: bool) -> Option<ValueFormat> {
     if let Some(format) = format_with(word, dated)?.for_dates() {
         return Some(ValueFormat::Dates(format));

@@ -288,7 +288,7 @@ fn with_word<'a>(options: Options<'a>, option: OptionName, value: &'a [u8]) -> O
     Some(more)
 }
 
-/// Sets an option for the meaning of texts, or returns `None` if the value is invalid.
+/// Sets an option for the meaning of strings, or returns `None` if the value is invalid.
 fn with_meaning<'a>(
     options: Options<'a>,
     option: OptionName,
@@ -482,7 +482,8 @@ pub fn readers_in(readers: Readers) -> Readers {
     default
 }
 
-/// Returns the parts that a text may leave out. The default is UTC, and a year that no form needs.
+/// Returns the parts that a string may leave out. The default is UTC, and a year that no form
+/// needs.
 pub fn assumptions_in(options: &Options<'_>) -> Assumptions {
     Assumptions {
         offset: options.offset.unwrap_or(UtcOffset::UTC),

@@ -43,7 +43,7 @@ pub fn list_moments<W: Sink>(moments: &Moments<'_>, writer: &mut W) -> Result<()
     output.finish(writer)
 }
 
-/// Returns whether the moment is after the one listed before it, if there is one.
+/// Returns whether the moment is after the moment listed before it, if any.
 fn is_later(before: &Option<OffsetDateTime>, moment: OffsetDateTime) -> bool
     ensures { result ≡ is_later before.now moment }
 {

@@ -20,7 +20,7 @@ pub enum Remaining {
 }
 
 impl Remaining {
-    /// Returns the text of the next date or moment, or `None` at the end.
+    /// Returns the string of the next date or moment, or `None` at the end.
     pub fn next_text(&mut self) -> Option<ShortText>
         ensures next { MatchOption result (lines_left self.old ≡ [])
             (λ text. lines_left self.old ≡ text ++ 10 ∷ lines_left self.new) }

@@ -10,7 +10,8 @@ use caldate_lines::input::fields::cut_field;
 use caldate_lines::output::buffer::Buffer;
 use std::marker::Model;
 
-/// Bytes that stay, perhaps with a separator, and then the bytes that the answer to a text replaces.
+/// Bytes that stay, perhaps with a separator, and then the bytes that the answer to a string
+/// replaces.
 #[derive(Drop)]
 pub struct Piece<'a> {
     kept: &'a [u8],
@@ -58,7 +59,7 @@ impl<'a> Piece<'a> {
         self.source
     }
 
-    /// Returns the text if the bytes of the line have it as it is.
+    /// Returns the string if the bytes of the line have it as it is.
     #[inline(always)]
     pub fn plain(&self) -> Option<&[u8]>
         ensures text { IfSome result (λ text. self.now.asked ≡ Some text.now) }
@@ -67,7 +68,7 @@ impl<'a> Piece<'a> {
         plain_text(self.csv, self.part?)
     }
 
-    /// Returns the text, if the line has it.
+    /// Returns the string, if the line has it.
     pub fn text(&self) -> Option<FieldText>
         ensures { result ≡ self.now.asked }
     {

@@ -203,7 +203,7 @@ fn push_unquoted(
     }
 }
 
-/// Appends what replaces a text that the line has.
+/// Appends what replaces a string that the line has.
 fn push_asked(
     buffer: &mut Buffer,
     filter: &Filter<'_>,
@@ -245,7 +245,7 @@ fn push_asked(
 }
 
 /// Appends what goes out in place of an answer, and returns whether anything does. `has_text` says
-/// whether the line has the text.
+/// whether the line has the string.
 fn push_instead(
     buffer: &mut Buffer,
     filter: &Filter<'_>,
@@ -271,7 +271,7 @@ fn push_instead(
     }
 }
 
-/// Appends the reason in place of a text, if it has a place.
+/// Appends the reason in place of a string, if it has a place.
 fn push_reason_instead(
     buffer: &mut Buffer,
     field: Option<Field>,
@@ -294,7 +294,7 @@ fn push_reason_instead(
     close_words(buffer, words, field, quoted);
 }
 
-/// Returns whether a text has a place. A missing field has one only as a new field.
+/// Returns whether a string has a place. A missing field has one only as a new field.
 fn has_place(field: Option<Field>, has_text: bool) -> bool
     ensures { result ≡ has_place field has_text }
 {
@@ -304,7 +304,7 @@ fn has_place(field: Option<Field>, has_text: bool) -> bool
     }
 }
 
-/// Appends the quote before the words that replace a text, and returns whether there is one.
+/// Appends the quote before the words that replace a string, and returns whether there is one.
 #[inline(always)]
 fn open_words(buffer: &mut Buffer, field: Option<Field>, source: &[u8]) -> bool
     requires { HasRoom 1 buffer.old }
@@ -320,7 +320,7 @@ fn open_words(buffer: &mut Buffer, field: Option<Field>, source: &[u8]) -> bool
     quoted
 }
 
-/// Ends the words that replace a text and begin at an index.
+/// Ends the words that replace a string and begin at an index.
 #[inline(always)]
 fn close_words(buffer: &mut Buffer, start: usize, field: Option<Field>, quoted: bool)
     requires start { start ≤ length buffer.old }

@@ -29,7 +29,7 @@ use caldate_lines::unanswered::UnansweredLine;
 
 /// Appends the reply to a line, whose front may have been dropped because it is too long, and
 /// counts the line. Fails with the reason, and changes nothing, if the run ends at the line.
-// What most lines take is inlined, because a call passes texts and results through memory.
+// What most lines take is inlined, because a call passes strings and results through memory.
 #[inline(always)]
 pub fn push_reply(
     buffer: &mut Buffer,
@@ -59,7 +59,7 @@ pub fn push_reply(
     }
 }
 
-/// Appends the reply to any line, given by its text and whether it has a carriage return.
+/// Appends the reply to any line, given by its string and whether it has a carriage return.
 #[inline(never)]
 fn push_otherwise(
     buffer: &mut Buffer,
@@ -120,7 +120,7 @@ pub fn describe_line(progress: &Progress, line: &[u8], why: NoAnswer) -> Unanswe
     describe(progress, text, why)
 }
 
-/// Describes a line without an answer by its text.
+/// Describes a line without an answer by its string.
 fn describe(progress: &Progress, text: &[u8], why: NoAnswer) -> UnansweredLine
     ensures { (before : ℕ) → progress.now.tally.lines ≡ counted before → Describes before why result }
 {
@@ -149,8 +149,8 @@ fn push_end(buffer: &mut Buffer, goes_out: bool, with_return: bool)
     }
 }
 
-/// Appends the answer to the text of a line that is a text or has one in a field, without more, and
-/// returns whether the line goes out. Appends nothing if it has no answer, or otherwise.
+/// Appends the answer to the text of a line that is a string or has one in a field, without more,
+/// and returns whether the line goes out. Appends nothing if it has no answer, or otherwise.
 #[inline(always)]
 fn push_simple(
     buffer: &mut Buffer,
@@ -201,8 +201,8 @@ fn is_simple(filter: &Filter<'_>) -> bool
     other_field(filter).is_none()
 }
 
-/// Appends the text, which isn't a CSV record, with the answer in place of the field, and returns
-/// whether the line goes out. Appends nothing if there is no answer.
+/// Appends the string, which isn't a CSV record, with the answer in place of the field, and returns
+/// whether the line goes out. Appends nothing without an answer.
 #[inline(always)]
 fn push_field(buffer: &mut Buffer, filter: &Filter<'_>, field: Field, text: &[u8]) -> Option<bool>
     requires room { HasRoom longest_reply buffer.old }
@@ -235,8 +235,8 @@ fn push_field(buffer: &mut Buffer, filter: &Filter<'_>, field: Field, text: &[u8
     }
 }
 
-/// Appends what goes out for the text of a line, and returns whether anything does, and why the line
-/// has no answer. If the line is long, its front was dropped.
+/// Appends what goes out for the text of a line, and returns whether anything does, and why the
+/// line has no answer. If the line is long, its front was dropped.
 fn push_line(
     buffer: &mut Buffer,
     filter: &Filter<'_>,
@@ -307,7 +307,7 @@ fn push_in_place(
     }
 }
 
-/// Appends the text without an answer. A new last field is empty.
+/// Appends the string without an answer. A new last field is empty.
 fn push_without(buffer: &mut Buffer, field: Option<Field>, text: &[u8])
     requires { HasRoom (length text.now + 1) buffer.old }
     ensures text { buffer.new ≡ buffer.old ++ text_without field text.now }
@@ -319,7 +319,7 @@ fn push_without(buffer: &mut Buffer, field: Option<Field>, text: &[u8])
     }
 }
 
-/// Appends what goes out for a line whose texts are answered.
+/// Appends what goes out for a line whose strings are answered.
 fn push_texts(buffer: &mut Buffer, filter: &Filter<'_>, text: &[u8]) -> (bool, Option<NoAnswer>)
     requires room { HasRoom longest_reply buffer.old }
     requires fits { length text.now ≤ longest_text }

@@ -69,8 +69,8 @@ fn parse_duration_row(text: &[u8]) -> (Duration, u8)
     (read.duration, byte_status(read.status))
 }
 
-/// Writes durations as strings, like `fots_duration_text`. Writes nothing if the bytes lack room for
-/// 36 bytes a row, or a bound may not fit in an `i32`.
+/// Writes durations as strings, like `fots_duration_text`. Writes nothing if the bytes lack room
+/// for 36 bytes a row, or a bound may not fit in an `i32`.
 #[unsafe(no_mangle)]
 pub extern "C" fn fots_durations_texts(
     seconds: &[i64],
@@ -107,7 +107,7 @@ pub extern "C" fn fots_durations_texts(
     count_errors(statuses)
 }
 
-/// Returns the text of a duration, or an empty text, and the status.
+/// Returns the string of a duration, or an empty string, and the status.
 fn duration_text_row(seconds: i64, nanoseconds: i32) -> (ShortText, u8)
     ensures value { IsDurationTextRow (duration_at seconds nanoseconds) result.0 result.1 }
     ensures max_length { length result.0 ≤ 36 }

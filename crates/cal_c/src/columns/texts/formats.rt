@@ -1,4 +1,4 @@
-//! Columns of dates in the texts of a format.
+//! Columns of dates in the strings of a format.
 ghost use Rattle.std.specs.Prelude.{◌≡◌, ◌+◌, ◌≤◌, ◌*◌, IsTrue, length, take, pos};
 ghost use Rattle.cal_format.specs.Moment.{moment_of_date};
 ghost use Rattle.cal_format.specs.Reading.{are_date_items};
@@ -68,8 +68,8 @@ fn parse_date_row(text: &[u8], format: &FormatParts) -> (i32, u8)
     (read.date, byte_status(read.status))
 }
 
-/// Writes the texts of dates, like `fots_date_format`. Writes nothing if the bytes lack room for 15
-/// bytes for each item and row, or a bound may not fit in an `i32`.
+/// Writes the strings of dates, like `fots_date_format`. Writes nothing if the bytes lack room for
+/// 15 bytes for each item and row, or a bound may not fit in an `i32`.
 #[unsafe(no_mangle)]
 pub extern "C" fn fots_dates_format(
     dates: &[i32],
@@ -105,7 +105,7 @@ pub extern "C" fn fots_dates_format(
     count_errors(statuses)
 }
 
-/// Returns the bytes of room for each text.
+/// Returns the bytes of room for each string.
 fn room_for_text(format: &FormatParts) -> usize
     ensures value { result ≡ room_for_text format.now }
     ensures range { (15 ≤ result) × (result ≤ 960) }
@@ -113,7 +113,7 @@ fn room_for_text(format: &FormatParts) -> usize
     (format.length as usize).min(64).max(1) * 15
 }
 
-/// Writes the text of a date, or an empty text, and returns its length and the status.
+/// Writes the string of a date, or an empty string, and returns its length and the status.
 fn text_row(date: i32, format: &FormatParts, text: &mut [u8]) -> (usize, u8)
     requires { length text.old ≡ 960 }
     ensures value { IsTextByFormatRow format.now date (take result.0 text.new) result.1 }
@@ -128,7 +128,7 @@ fn text_row(date: i32, format: &FormatParts, text: &mut [u8]) -> (usize, u8)
     print_row(date, &format, text)
 }
 
-/// Writes the text of a date, or an empty text, and returns its length and the status.
+/// Writes the string of a date, or an empty string, and returns its length and the status.
 fn print_row(date: Date, format: &Format, text: &mut [u8]) -> (usize, u8)
     requires few { length format.now ≤ 64 }
     requires room { length text.old ≡ 960 }

@@ -62,7 +62,7 @@ pub(super) fn has_room(rows: usize, longest: usize, bytes: &[u8]) -> bool
     rows <= bytes.len() / longest && rows <= i32::MAX as usize / longest
 }
 
-/// Writes a text at `end`, and returns the new end.
+/// Writes a string at `end`, and returns the new end.
 pub(super) fn put(bytes: &mut [u8], end: usize, text: &[u8]) -> usize
     requires { end + length text.now ≤ length bytes.old }
     ensures value { result ≡ end + length text.now }
@@ -77,7 +77,7 @@ pub(super) fn put(bytes: &mut [u8], end: usize, text: &[u8]) -> usize
     last
 }
 
-/// Returns the calendar date of a date, or an empty text, and the status.
+/// Returns the calendar date of a date, or an empty string, and the status.
 fn date_text_row(date: i32) -> (ShortText, u8)
     ensures value { IsDateTextRow date result.0 result.1 }
     ensures max_length { length result.0 ≤ 13 }
@@ -127,7 +127,7 @@ pub extern "C" fn fots_moments_texts(
     count_errors(statuses)
 }
 
-/// Returns a moment in RFC 3339, or an empty text, and the status.
+/// Returns a moment in RFC 3339, or an empty string, and the status.
 fn moment_text_row(date: i32, time: u64, offset: i32) -> (ShortText, u8)
     ensures value { IsMomentTextRow date time offset result.0 result.1 }
     ensures max_length { length result.0 ≤ 38 }
@@ -141,7 +141,7 @@ fn moment_text_row(date: i32, time: u64, offset: i32) -> (ShortText, u8)
     moment_text_and_status(OffsetDateTime::new_in_offset(date, time, offset))
 }
 
-/// Returns a moment in RFC 3339, or an empty text, and the status.
+/// Returns a moment in RFC 3339, or an empty string, and the status.
 fn moment_text_and_status(moment: OffsetDateTime) -> (ShortText, u8)
     ensures result_out_of_range { ¬ HasMomentText moment → (result.0 ≡ []) × (pos result.1 ≡ RESULT_OUT_OF_RANGE) }
     ensures value { HasMomentText moment → (result.0 ≡ moment_text moment) × (pos result.1 ≡ OK) }

@@ -1,4 +1,4 @@
-//! Columns of texts to parse in all formats of ISO 8601.
+//! Columns of strings to parse in all formats of ISO 8601.
 ghost use Rattle.std.specs.Prelude.{◌≡◌, ◌+◌, length, ◌∷◌, []};
 ghost use Rattle.cal_c.specs.Columns.{date_row, int_at, SameLength, nat_at, AreRows};
 ghost use Rattle.cal_c.specs.IsoColumns.{IsIsoDateRow, IsIsoDate, IsIsoMomentRow, IsIsoMoment};

@@ -1,4 +1,4 @@
-//! Columns of texts to parse.
+//! Columns of strings to parse.
 ghost use Rattle.std.specs.Prelude.{◌≡◌, ◌↔◌, ◌+◌, length, IsTrue, MatchOption, ◌∷◌, []};
 ghost use Rattle.cal_c.specs.Columns.{date_row, int_at, SameLength, nat_at, AreRows};
 ghost use Rattle.cal_c.specs.TextColumns.{AreBoundsWithin, IsParsedDateRow, IsParsedDate, IsParsedMomentRow, IsParsedMoment, moment_row, bytes_between};

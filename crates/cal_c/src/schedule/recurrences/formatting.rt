@@ -1,4 +1,4 @@
-//! The text of a recurrence, in one order.
+//! The string of a recurrence, in one order.
 ghost use Rattle.std.specs.Prelude.{◌≡◌, ◌≤◌, length};
 ghost use Rattle.cal_recurrence.specs.RecurrenceText.{capacity};
 ghost use Rattle.cal_recurrence.specs.Text.{recurrence_of};
@@ -8,10 +8,11 @@ use super::results::{error_part, reason_status};
 use crate::status::OK;
 use cal_recurrence::{ParseRuleError, parse};
 
-/// The bytes of a text: enough for the longest recurrence, and zero bytes.
+/// The bytes of a string: enough for the longest recurrence, and zero bytes.
 const CAPACITY: usize = 4064;
 
-/// A text in ASCII, followed by zero bytes, or the first wrong part of the text that was passed.
+/// A string in ASCII, followed by zero bytes, or the first wrong part of the string that was
+/// passed.
 #[repr(C)]
 #[derive(Clone, Copy, Debug)]
 pub struct RecurrenceTextResult {

@@ -8,7 +8,7 @@ use super::results::{error_part, reason_status};
 use crate::status::OK;
 use cal_recurrence::parse;
 
-/// A parsed recurrence, or the first wrong part of the text.
+/// A parsed recurrence, or the first wrong part of the string.
 #[repr(C)]
 #[derive(Clone, Copy, Debug)]
 pub struct ParseRecurrenceResult {

@@ -111,7 +111,7 @@ impl RecurrenceParts {
         }
     }
 
-    /// Returns the parts for a text that is not a recurrence.
+    /// Returns the parts for a string that is not a recurrence.
     pub(super) fn empty() -> Self
         ensures { result ≡ no_parts }
     {

@@ -7,7 +7,7 @@ use crate::status::{
 };
 use cal_recurrence::{ParseRuleError, ParseRuleErrorKind, RulePart};
 
-/// The number of days written, or the first wrong part of the text.
+/// The number of days written, or the first wrong part of the string.
 #[repr(C)]
 #[derive(Clone, Copy, Debug)]
 pub struct RecurrenceResult {

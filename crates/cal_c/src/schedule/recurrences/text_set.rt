@@ -8,7 +8,7 @@ use crate::schedule::date_list::{DateList, MAX_DATES};
 use crate::status::{INVALID_MOMENT, TOO_MANY_DATES};
 use cal_datetime::PlainDateTime;
 
-/// A recurrence set: the text of a recurrence, its start, and readings in any order. A reading is
+/// A recurrence set: the string of a recurrence, its start, and readings in any order. A reading is
 /// the local date and time of a moment, at any offset.
 #[repr(C)]
 #[derive(Clone, Copy, Debug)]

@@ -72,8 +72,8 @@ impl ParseRepeatedPairsResult {
 /// Parses a repeated interval of dates and times, such as `R12/2024-01-31T09:00/P1M`, or
 /// `R/2024-01-31T09:00/PT8H` without an end, and returns its start, its period and the number of its
 /// occurrences. The n-th one after the start is that of `fots_pair_nth_period`. An interval of two
-/// date-times repeats its exact duration. Fails if the number is 0 or too large, if there is no
-/// start, if the end is before the start, and if the period isn't positive.
+/// date-times repeats its exact duration. Fails if the number is 0 or too large, if the start is
+/// missing, if the end is before the start, and if the period isn't positive.
 #[unsafe(no_mangle)]
 pub extern "C" fn fots_repeated_pairs_parse(text: &[u8]) -> ParseRepeatedPairsResult
     ensures value { (v : Option ℕ × DateTimeInterval) → IsRepeatedDateTimesText text.now v

@@ -77,8 +77,8 @@ impl ParseRepeatedDatesResult {
 /// Parses a repeated interval of dates, such as `R12/2024-01-31/P1M`, or `R/2024-01-31/P1M` without
 /// an end, and returns its start, its period and the number of its occurrences. The n-th one after
 /// the start is that of `fots_date_nth_period`. An interval of two dates repeats its number of days.
-/// Fails if the number is 0 or too large, if there is no start, if the end is before the start, and
-/// if the period has a duration or isn't positive.
+/// Fails if the number is 0 or too large, if the start is missing, if the end is before the start,
+/// and if the period has a duration or isn't positive.
 #[unsafe(no_mangle)]
 pub extern "C" fn fots_repeated_dates_parse(text: &[u8]) -> ParseRepeatedDatesResult
     ensures value { (v : Option ℕ × DateInterval) → IsRepeatedDatesText text.now v
