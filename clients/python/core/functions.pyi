@@ -228,6 +228,14 @@ def dates_parse(texts: object, bounds: object) -> DateColumns:
     """
 def moments_parse(texts: object, bounds: object) -> MomentColumns:
     "Parses such strings like `parse_rfc3339`."
+def dates_parse_iso(texts: object, bounds: object) -> DateColumns:
+    """Parses strings in a buffer of bytes like `Date.parse_iso`.
+
+    >>> tuple(dates_parse_iso(b"202402292024-W09", [0, 8, 16]))
+    (array('i', [2460370, 2460367]), array('B', [0, 0]), 0)
+    """
+def moments_parse_iso(texts: object, bounds: object) -> MomentColumns:
+    "Parses strings in a buffer of bytes like `OffsetDateTime.parse_iso`."
 def dates_calendar_texts(dates: object) -> TextColumns:
     """Returns the calendar dates of dates, one after another.
 

@@ -60,8 +60,8 @@ __all__ += [
     "dates_from_ordinal_dates", "dates_from_iso_week_dates", "dates_to_calendar_dates",
     "dates_to_ordinal_dates", "dates_to_iso_week_dates", "dates_weekdays",
     "calendar_dates_to_iso_week_dates", "dates_add_days", "dates_add_months", "dates_add_workdays",
-    "dates_workdays_between", "dates_parse", "moments_parse", "dates_calendar_texts",
-    "moments_texts", "times_round", "pairs_round", "durations_parse", "durations_texts",
+    "dates_workdays_between", "dates_parse", "moments_parse", "dates_parse_iso", "moments_parse_iso",
+    "dates_calendar_texts", "moments_texts", "times_round", "pairs_round", "durations_parse", "durations_texts",
     "dates_parse_format", "dates_format",
 ]
 

@@ -8,8 +8,8 @@ from typing import Any, Callable
 
 from . import _core, arrow
 from ._core import Date, OffsetDateTime, UtcOffset
-from .calls import dates_calendar_texts, dates_format, dates_parse, dates_parse_format
-from .calls import moments_parse, moments_texts, parse_rfc3339, rfc3339_text
+from .calls import dates_calendar_texts, dates_format, dates_parse, dates_parse_format, dates_parse_iso
+from .calls import moments_parse, moments_parse_iso, moments_texts, parse_rfc3339, rfc3339_text
 from .columns import SECONDS
 from .errors import status_error
 from .formats import Format
@@ -20,8 +20,10 @@ _EPOCH = 2440588
 _DAY = 86_400 * 10**9
 # No number of a row in 32 bits and in 64, the latter of which is NaT.
 _NONE, _NAT = -2**31, -2**63
-# The days that datetime64[ns] has, except the first one and the last one, which it has in part.
-_NANOSECOND_DAYS = range(_EPOCH - 106_751, _EPOCH + 106_752)
+# The days of datetime64[ns] since 1970, except the first one, which it has in part, and the
+# nanoseconds that it has of the last one.
+_FIRST, _LAST = -106_751, 106_751
+_OF_LAST = 2**63 - _LAST * _DAY
 
 
 def _is_missing(value: Any) -> bool:
@@ -149,23 +151,28 @@ def _check_option(errors: str) -> None:
         raise ValueError(f"unknown errors {errors!r}; expected 'raise', 'missing' or 'column'")
 
 
-def strings_to_dates(strings: Any, format: Format | str | None = None, *, errors: str = "raise") -> Any:
-    """Parses a column of strings like `Date.parse`, or like `Date.strptime` by a format. A list gives
-    a list of `Date`, an array of NumPy one of `datetime64[D]`, a series or an index of pandas one
-    of `datetime64[ns]`, and a column of Arrow an `ArrowColumn` of date32. A missing value stays one.
-    A row without a result raises `ValueError` with its number, or is missing, or with `"column"` the
-    errors are a second column.
+def strings_to_dates(strings: Any, format: Format | str | None = None, *, iso: bool = False, errors: str = "raise") -> Any:
+    """Parses a column of strings like `Date.parse`, like `Date.strptime` by a format, or with `iso=True`
+    like `Date.parse_iso`. A list gives a list of `Date`, an array of NumPy one of `datetime64[D]`, a
+    series or an index of pandas one of `datetime64[ns]`, and a column of Arrow an `ArrowColumn` of
+    date32. A missing value stays one. A row without a result raises `ValueError` with its number, or
+    is missing, or with `"column"` the errors are a second column. A format and `iso=True` together
+    raise `ValueError`.
 
     >>> strings_to_dates(["2024-02-29", None])
     [Date(2024, 2, 29), None]
     >>> strings_to_dates(["29.02.2023"], "%d.%m.%Y", errors="column")
     ([None], ['day was not in range'])
+    >>> strings_to_dates(["20240229", "2024-W09"], iso=True)
+    [Date(2024, 2, 29), Date(2024, 2, 26)]
     """
     _check_option(errors)
+    if iso and format is not None:
+        raise ValueError("expected a format or iso=True, not both")
     column = _Strings(strings)
-    parse: Callable[[Any], Any] = Date.parse
+    parse: Callable[[Any], Any] = Date.parse_iso if iso else Date.parse
     if format is None:
-        found = column.parsed(dates_parse)
+        found = column.parsed(dates_parse_iso if iso else dates_parse)
     else:
         form = format
         found = column.parsed(dates_parse_format, form)
@@ -178,7 +185,7 @@ def strings_to_dates(strings: Any, format: Format | str | None = None, *, errors
     numpy: Any = sys.modules["numpy"]
     is_pandas = not column.is_arrow and hasattr(strings, "to_numpy")
     if is_pandas:
-        far = (dates < _NANOSECOND_DAYS[0]) | (dates > _NANOSECOND_DAYS[-1])
+        far = (dates < _EPOCH + _FIRST) | (dates > _EPOCH + _LAST)
         statuses = numpy.where(far & (statuses == 0), 1, statuses)
     reasons = column.checked(statuses, parse, errors)
     if column.is_arrow:
@@ -188,29 +195,36 @@ def strings_to_dates(strings: Any, format: Format | str | None = None, *, errors
     return column.with_errors(_like(strings, days.view("datetime64[ns]" if is_pandas else "datetime64[D]")), reasons, errors)
 
 
-def strings_to_instants(strings: Any, zone: str | None = None, *, errors: str = "raise") -> Any:
-    """Parses a column of strings of RFC 3339 like `parse_rfc3339`. A list gives a list of
-    `OffsetDateTime`, an array of NumPy one of `datetime64[ns]` at UTC, a series or an index of pandas
-    one of `datetime64[ns, UTC]`, and a column of Arrow an `ArrowColumn` of timestamp[ns, UTC], or of
-    the zone for these two. `errors` is as in `strings_to_dates`.
+def strings_to_instants(strings: Any, zone: str | None = None, *, iso: bool = False, errors: str = "raise") -> Any:
+    """Parses a column of strings of RFC 3339 like `parse_rfc3339`, or with `iso=True` like
+    `OffsetDateTime.parse_iso`. A list gives a list of `OffsetDateTime`, an array of NumPy one of
+    `datetime64[ns]` at UTC, a series or an index of pandas one of `datetime64[ns, UTC]`, and a column
+    of Arrow an `ArrowColumn` of timestamp[ns, UTC], or of the zone for these two. `errors` is as in
+    `strings_to_dates`.
 
     >>> strings_to_instants(["2024-02-29T23:59:59+01:00"])[0].unix_timestamp()
     1709247599
+    >>> strings_to_instants(["20240229T235959,5+01"], iso=True)[0].isoformat()
+    '2024-02-29T23:59:59.500000+01:00'
     """
     _check_option(errors)
     column = _Strings(strings)
-    found = column.parsed(moments_parse)
+    parse: Callable[[Any], Any] = OffsetDateTime.parse_iso if iso else parse_rfc3339
+    found = column.parsed(moments_parse_iso if iso else moments_parse)
     if not column.is_arrow and not hasattr(strings, "dtype"):
-        reasons = column.checked(found.statuses, parse_rfc3339, errors)
-        made = [None if status else OffsetDateTime.parse(row) for row, status in zip(column.rows, found.statuses)]
+        reasons = column.checked(found.statuses, parse, errors)
+        parts = zip(found.statuses, found.dates, found.times, found.offsets)
+        made = [None if status else _core.make_moment(*moment) for status, *moment in parts]
         return column.with_errors(made, reasons, errors)
     numpy: Any = sys.modules["numpy"]
-    days = found.dates.astype("int64")
-    far = (found.statuses == 0) & ((days < _NANOSECOND_DAYS[1]) | (days > _NANOSECOND_DAYS[-2]))
-    statuses = numpy.where(far, 1, found.statuses)
-    reasons = column.checked(statuses, parse_rfc3339, errors)
-    days[statuses != 0] = _EPOCH
-    nanoseconds = (days - _EPOCH) * _DAY + found.times.astype("int64") - found.offsets.astype("int64") * 10**9
+    below = found.times.astype("int64") - found.offsets.astype("int64") * 10**9
+    passed = below // _DAY
+    days, below = found.dates.astype("int64") - _EPOCH + passed, below - passed * _DAY
+    far = (days < _FIRST) | (days > _LAST) | (days == _LAST) & (below >= _OF_LAST)
+    statuses = numpy.where(far & (found.statuses == 0), 1, found.statuses)
+    reasons = column.checked(statuses, parse, errors)
+    days[statuses != 0] = 0
+    nanoseconds = days * _DAY + below
     nanoseconds[statuses != 0] = _NAT
     if column.is_arrow:
         return column.with_errors(arrow.ArrowColumn(f"tsn:{zone or 'UTC'}", statuses != 0, nanoseconds), reasons, errors)

@@ -128,11 +128,15 @@ if numpy:
     ]
     spread = (numpy.arange(ROWS) % 30000 - 5000).view("datetime64[D]")
     many_days, iso = pandas.Series(spread.astype("datetime64[ns]")), pandas.Series(numpy.datetime_as_string(spread).astype(object))
+    basic = iso.str.replace("-", "", regex=False)
     local, instants = iso.str[8:] + "." + iso.str[5:7] + "." + iso.str[:4], iso + "T12:34:56Z"
     LARGE = [
         ("strings_to_dates, ISO 8601, and to_datetime", lambda: fotsevindre.strings_to_dates(iso), lambda: pandas.to_datetime(iso)),
         ("the same by %d.%m.%Y", lambda: fotsevindre.strings_to_dates(local, "%d.%m.%Y"), lambda: pandas.to_datetime(local, format="%d.%m.%Y")),
+        ("the same, iso=True", lambda: fotsevindre.strings_to_dates(iso, iso=True), lambda: pandas.to_datetime(iso)),
+        ("the same, in the basic format", lambda: fotsevindre.strings_to_dates(basic, iso=True), lambda: pandas.to_datetime(basic)),
         ("strings_to_instants, and to_datetime", lambda: fotsevindre.strings_to_instants(instants), lambda: pandas.to_datetime(instants, utc=True)),
+        ("the same, iso=True", lambda: fotsevindre.strings_to_instants(instants, iso=True), lambda: pandas.to_datetime(instants, utc=True)),
         ("dates_to_strings, and strftime", lambda: fotsevindre.dates_to_strings(many_days, "%d.%m.%Y"), lambda: many_days.dt.strftime("%d.%m.%Y")),
     ]
 

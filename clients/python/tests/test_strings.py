@@ -45,6 +45,18 @@ class Lists(unittest.TestCase):
         with self.assertRaisesRegex(ValueError, "^row 0: '2024-02-29T23:59:60Z': second was not in range$"):
             strings_to_instants(["2024-02-29T23:59:60Z"])
 
+    def test_all_formats_of_iso_8601(self):
+        days = ["20240229", "2024060", "2024-W09", None, "2024-0229"]
+        self.assertEqual(strings_to_dates(days, iso=True, errors="column"),
+            ([Date(2024, 2, 29), Date(2024, 2, 29), Date(2024, 2, 26), None, None], [None] * 4 + ["unexpected byte at 8"]))
+        self.assertRaisesRegex(ValueError, "^row 0: '20240229': unexpected byte at 4$", strings_to_dates, days)
+        rows = ["20240229T2259", "2024060t225959,5Z", float("nan"), "2024-W09-4 22+0130"]
+        found, errors = strings_to_instants(rows, iso=True, errors="column")
+        self.assertEqual(found, [None, OffsetDateTime.parse("2024-02-29T22:59:59.5Z"), None, OffsetDateTime.parse("2024-02-29T22:00+01:30")])
+        self.assertEqual((found[3].offset, errors), (UtcOffset(1, 30), ["unexpected end at 13", None, None, None]))
+        self.assertEqual(strings_to_instants(rows, iso=True, errors="missing"), found)
+        self.assertRaisesRegex(ValueError, "^row 0: '20240229T2259': unexpected end at 13$", strings_to_instants, rows, iso=True)
+        self.assertRaisesRegex(ValueError, "not both", strings_to_dates, days, "%F", iso=True)
 
     def test_rows_without_a_string(self):
         with self.assertRaisesRegex(ValueError, "^row 1: a format shows"):
@@ -123,6 +135,12 @@ class Columns(unittest.TestCase):
         self.assertEqual(list(instants_to_strings(ends)), ["1677-09-21T00:12:43.145224193Z", "1677-09-21T00:12:44.145224191Z", "2262-04-11T23:47:16.854775807Z"])
         found = strings_to_instants(pandas.Series(["1677-09-21T00:00:00Z", "2262-04-10T23:59:59.999999999Z", "9999-12-31T00:00:00Z"]), errors="missing")
         self.assertEqual([str(one) for one in found], ["NaT", "2262-04-10 23:59:59.999999999+00:00", "NaT"])
+        # The range counts at UTC.
+        rows = [("1677-09-22T00:00:00Z", "1677-09-22T00:00:00.000000000"), ("1677-09-22T00:00:00+00:01", "NaT"), ("1677-09-21T23:00:00-01:00", "1677-09-22T00:00:00.000000000"),
+            ("2262-04-11T23:47:16.854775807Z", "2262-04-11T23:47:16.854775807"), ("2262-04-11T23:47:16.854775808Z", "NaT"), ("2262-04-10T23:59:59-23:59", "NaT"),
+            ("2262-04-12T00:00:00+23:59", "2262-04-11T00:01:00.000000000"), ("9999-12-31T23:59:59-23:59", "NaT"), ("0000-01-01T00:00:00+23:59", "NaT")]
+        found = strings_to_instants(numpy.array([row for row, _ in rows], object), errors="missing")
+        self.assertEqual([str(one) for one in found], [wanted for _, wanted in rows])
 
     def test_zones(self):
         rows = pandas.Series(["2024-03-31T01:00:00Z", None, "2024-10-27T02:30:00+01:00"], name="at")
@@ -158,6 +176,107 @@ class Columns(unittest.TestCase):
             moved = stamps.where(stamps.isna(), stamps.dt.floor("s")).dt.tz_convert(zone)
             moved = moved[moved.isna() | (moved > pandas.Timestamp("1900-01-01", tz="UTC"))]
             pandas.testing.assert_series_equal(strings_to_instants(instants_to_strings(moved), zone), moved)
+
+
+# ---- all formats of ISO 8601, by the grammar in docs/TEXT.md and the module datetime
+
+DATE = r"(?P<year>[+-][0-9]{4,6}(?=-)|[0-9]{4})(?P<hyphen>-?)" \
+    r"(?:W(?P<week>[0-9]{2})(?:(?P=hyphen)(?P<weekday>[1-7]))?|(?P<month>[0-9]{2})(?P=hyphen)(?P<day>[0-9]{2})|(?P<ordinal>[0-9]{3}))"
+FRACTION = r"(?:[.,](?P<fraction>[0-9]{1,9}|[0-9]{9}0{1,9}))?"
+CLOCK = rf"[Tt ](?P<hour>[0-9]{{2}})(?:(?P<colon>:?)(?P<minute>[0-9]{{2}})(?:(?P=colon)(?P<second>[0-9]{{2}}){FRACTION})?)?"
+SHIFT = r" ?(?:[Zz]|(?P<sign>[+-])(?P<hours>[0-9]{2})(?:(?P<colons>:?)(?P<minutes>[0-9]{2})(?:(?P=colons)(?P<seconds>[0-9]{2}))?)?)"
+DATES, INSTANTS = re.compile(DATE), re.compile(DATE + CLOCK + SHIFT)
+# The days of a cycle of 400 years, and the days before 1970-01-01.
+CYCLE, BEFORE = 146097, 719163
+
+
+def days_of(found):
+    """Returns the days since 1970 of a match. The calendar repeats itself every 400 years."""
+    cycles, year = divmod(int(found["year"]), 400)
+    year, cycles = year + 2000, cycles - 5
+    if found["week"]:
+        day = datetime.date.fromisocalendar(year, int(found["week"]), int(found["weekday"] or 1))
+    elif found["ordinal"]:
+        day = datetime.date(year, 1, 1) + datetime.timedelta(int(found["ordinal"]) - 1)
+        if int(found["ordinal"]) == 0 or day.year != year:
+            raise ValueError
+    else:
+        day = datetime.date(year, int(found["month"]), int(found["day"]))
+    return day.toordinal() + cycles * CYCLE - BEFORE
+
+
+def read(pattern, text):
+    """Returns the days since 1970 of a date, or the nanoseconds of an instant, or `None`."""
+    found = pattern.fullmatch(text)
+    try:
+        if not found or pattern is DATES:
+            return days_of(found) if found else None
+        clock = datetime.time(int(found["hour"]), int(found["minute"] or 0), int(found["second"] or 0))
+        hours, minutes, seconds = (int(found[one] or 0) for one in ("hours", "minutes", "seconds"))
+        if hours > 25 or minutes > 59 or seconds > 59:
+            return None
+        shift = (hours * 60 + minutes) * 60 + seconds
+        local = (days_of(found) * 24 + clock.hour) * 3600 + clock.minute * 60 + clock.second
+        return (local + (shift if found["sign"] == "-" else -shift)) * 10**9 + int((found["fraction"] or "0")[:9].ljust(9, "0"))
+    except ValueError:
+        return None
+
+
+def drawn_date(draw):
+    year = draw.choice([f"{draw.randrange(1600, 2300):04}"] * 6 + [f"{draw.randrange(10000):04}", f"{draw.choice('+-')}{draw.randrange(10**6):0{draw.randint(4, 6)}}"])
+    hyphen = "-" if len(year) > 4 or draw.random() < 0.5 else ""
+    rest = draw.choice([f"{draw.randint(1, 12):02}{hyphen}{draw.randint(1, 28):02}", f"{draw.randint(0, 13):02}{hyphen}{draw.randint(0, 32):02}", f"{draw.randint(0, 367):03}",
+        f"W{draw.randint(0, 54):02}{hyphen}{draw.randint(0, 8)}", f"W{draw.randint(1, 52):02}"])
+    return year + hyphen + rest
+
+
+def drawn_instant(draw):
+    def clock(colon, hours):
+        parts = [f"{draw.randrange(hours):02}", *(f"{draw.choice([draw.randrange(60), draw.randrange(62)]):02}" for _ in range(2))]
+        return colon.join(parts[:draw.randint(1, 3)])
+
+    time, colon = clock(draw.choice([":", ""]), 25), draw.choice([":", ""])
+    if draw.random() < 0.5:
+        time += draw.choice(".,") + str(draw.randrange(10**draw.randint(1, 9))) + "0" * draw.choice([0, 0, 0, 9, 10])
+    return drawn_date(draw) + draw.choice("TTt ") + time + draw.choice(["", "", " "]) + draw.choice(["Z", "z", "", draw.choice("+-") + clock(colon, 27)])
+
+
+def broken(draw, text):
+    place = draw.randrange(len(text) + 1)
+    return text[:place] + draw.choice(["", draw.choice("0123456789-+:.,TWZ wx\u00e9")]) + text[place + draw.randint(0, 1):]
+
+
+class AllFormats(unittest.TestCase):
+    def check(self, pattern, drawn, parse, unit):
+        draw = random.Random(8601)
+        rows = [drawn(draw) for _ in range(50_000)]
+        rows += [broken(draw, row) for row in rows]
+        wanted = [read(pattern, row) for row in rows]
+        self.assertTrue(all(5_000 < sum(one is not None for one in half) < 47_500 for half in (wanted[:50_000], wanted[50_000:])))
+        found, errors = parse(numpy.array(rows, object), errors="column")
+        is_far = [one is not None and not -2**63 < one < 2**63 for one in wanted]
+        self.assertEqual(found.dtype, unit)
+        self.assertEqual(found.view("int64").tolist(), [-2**63 if one is None or far else one for one, far in zip(wanted, is_far)])
+        self.assertEqual([one is not None for one in errors], [one is None or far for one, far in zip(wanted, is_far)])
+        return rows, wanted
+
+    def test_dates(self):
+        rows, wanted = self.check(DATES, drawn_date, lambda rows, **options: strings_to_dates(rows, iso=True, **options), "datetime64[D]")
+        found = strings_to_dates(rows, iso=True, errors="missing")
+        self.assertEqual([one and one.to_julian_day() - 2440588 for one in found], wanted)
+
+    def test_instants(self):
+        rows, wanted = self.check(INSTANTS, drawn_instant, lambda rows, **options: strings_to_instants(rows, iso=True, **options), "datetime64[ns]")
+        found = strings_to_instants(rows, iso=True, errors="missing")
+        self.assertEqual([one and one.unix_timestamp_nanos() for one in found], wanted)
+
+    def test_pandas(self):
+        rows = pandas.Series(["20240229", None, "2024-W09-4", "2024-060"], index=list("abcd"), name="due", dtype="string")
+        pandas.testing.assert_series_equal(strings_to_dates(rows, iso=True), pandas.Series(pandas.to_datetime(["2024-02-29", None] + ["2024-02-29"] * 2), index=list("abcd"), name="due"))
+        stamps = rows + "T23+01"
+        found = strings_to_instants(stamps, "Europe/Berlin", iso=True)
+        wanted = pandas.to_datetime(pandas.Series(["2024-02-29 22:00Z", None] + ["2024-02-29 22:00Z"] * 2, index=list("abcd"), name="due")).dt.tz_convert("Europe/Berlin")
+        pandas.testing.assert_series_equal(found, wanted)
 
 
 if __name__ == "__main__":
