@@ -31,6 +31,24 @@ static void write_file(const char *folder, const char *name, size_t length)
 }
 
 /* Reads the same zones as the other threads. */
+/* Puts each byte at each place of a name. Only letters, digits, _, -, + and / make a name, and no
+ * other file is there. */
+static void every_byte(void)
+{
+    static const char allowed[] = "ABCDEFGHIJKLMNOPQRSTUVWXYZabcdefghijklmnopqrstuvwxyz0123456789_-+/";
+    for (size_t place = 0; place < 6; place++) {
+        for (int byte = 0; byte < 256; byte++) {
+            char name[] = "Berlin";
+            name[place] = (char)byte;
+            const fots_named_zone found = fots_zone_named_by(name, 6);
+            const int is_allowed = byte != 0 && strchr(allowed, byte) && (place > 0 || (byte >= 'A' && byte != '_'));
+            check((found.error == FOTS_ZONE_NAMED) == (found.zone != NULL), "a zone or an error", byte, found.error);
+            check(is_allowed || found.error == FOTS_ZONE_NAME, "no name", byte, found.error);
+            check(!found.zone || strcmp(name, "Berlin") == 0, "another name", byte, found.error);
+        }
+    }
+}
+
 static void *named(void *result)
 {
     const char *const names[] = {"Berlin", "Copy", "Berlin"};
@@ -83,6 +101,7 @@ int main(int count, char **arguments)
         check(fots_zone_offset(zones[0][0], 1711846800).offset.seconds == 7200 && zones[0][0] != zones[0][1], "Berlin", 0, 0);
         write_file(folder, "Berlin", 0);
         check(fots_zone_named("Berlin").zone == zones[0][0], "read once", 0, 0);
+        every_byte();
         check(fots_zone_named_by("Berlin and more", 6).zone == zones[0][0], "by its first bytes", 0, 0);
     }
     return ended("named zones");

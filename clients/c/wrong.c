@@ -286,6 +286,49 @@ static void workdays(int32_t julian_day, uint32_t number, int32_t count)
     status_is(first_of(no_week, FOTS_TOO_MANY_HOLIDAYS), made.status, made.workdays.weekmask < 128, "many holidays", number, 0);
 }
 
+/* Two holidays of any bits, an order that a view rejects, and lengths that don't match. */
+static void workdays_views(int32_t julian_day, uint32_t number, int32_t count)
+{
+    static const fots_date rising[] = {{2451545}, {2451604}};
+    uint32_t counts[] = {0, 0, 0};
+    fots_date date = date_at(julian_day), other = date_at(count), holidays[] = {{julian_day}, {count}};
+    fots_workdays_view view = {number, rising, 2, counts, 3};
+    int32_t no_week = number < 128 ? FOTS_OK : FOTS_INVALID_WEEKMASK, wrong = first_of(no_week, of_date(date));
+    int32_t no_convention = (uint32_t)count <= 4 ? FOTS_OK : FOTS_INVALID_CONVENTION;
+    int32_t no_holidays = is_date(date) && is_date(other) && julian_day < count ? FOTS_OK : FOTS_INVALID_HOLIDAYS;
+    NUMBER(first_of(no_week, no_holidays), fots_workdays_view_count(number, holidays, 2, counts, 3), julian_day);
+    NUMBER(first_of(no_week, FOTS_INVALID_HOLIDAYS), fots_workdays_view_count(number, rising, 2, counts, 2), julian_day);
+    NUMBER(no_week, fots_workdays_view_count(number, rising, 2, counts, 3), julian_day);
+    COMPONENT(wrong, fots_workdays_view_contains(&view, date), julian_day);
+    DATE(wrong, fots_workdays_view_add(&view, date, count));
+    NUMBER(first_of(wrong, of_date(other)), fots_workdays_view_between(&view, date, other), julian_day);
+    DATE(first_of(wrong, no_convention), fots_workdays_view_adjust(&view, date, (uint32_t)count));
+    view.marked_before_length = number & 1 ? 2 : 0;
+    wrong = first_of(no_week, FOTS_INVALID_HOLIDAYS);
+    COMPONENT(wrong, fots_workdays_view_contains(&view, date), julian_day);
+    DATE(wrong, fots_workdays_view_add(&view, date, count));
+    NUMBER(wrong, fots_workdays_view_between(&view, date, other), julian_day);
+    DATE(wrong, fots_workdays_view_adjust(&view, date, (uint32_t)count));
+}
+
+/* Any bits are sorted, each once. */
+static void sorted(int32_t julian_day, uint32_t number, int32_t count)
+{
+    const int32_t given[] = {julian_day, count, (int32_t)number, julian_day};
+    fots_date days[] = {{given[0]}, {given[1]}, {given[2]}, {given[3]}};
+    size_t kept = fots_dates_sort(days, COUNT(given)), found = 0;
+    check(kept >= 1 && kept <= 3 && fots_dates_sort(days, 0) == 0, "sorted", julian_day, (long long)kept);
+    for (size_t k = 0; k < kept; k++) {
+        check(k == 0 || days[k - 1].julian_day < days[k].julian_day, "sorted in order", julian_day, count);
+    }
+    for (int k = 0; k < COUNT(given); k++) {
+        for (size_t place = 0; place < kept; place++) {
+            found += days[place].julian_day == given[k];
+        }
+    }
+    check(found == COUNT(given), "sorted, each once", julian_day, count);
+}
+
 static void rules(int32_t julian_day, uint32_t number, int32_t count)
 {
     fots_date date = date_at(julian_day), other = date_at(count), days[3];
@@ -610,8 +653,43 @@ static void read_date_time(const char *bytes, size_t length)
     check(pair.status != FOTS_OK || pair.offset.seconds == 0, "the offset of a pair", pair.offset.seconds, (long long)length);
 }
 
+static void read_repeated(const char *bytes, size_t length)
+{
+    const fots_parse_repeated_pairs_result read = fots_repeated_pairs_parse(bytes, length);
+    const int is_listed = is_date_status(read.status) || is_time_status(read.status) || read.status == FOTS_COUNT_OUT_OF_RANGE
+        || read.status == FOTS_MISSING_START || read.status == FOTS_PERIOD_NOT_POSITIVE || read.status == FOTS_END_BEFORE_START
+        || read.status == FOTS_RESULT_OUT_OF_RANGE;
+    reads(read.status, read.position, length, is_listed, is_date(read.start_date) && is_time(read.start_time), "repeated_pairs_parse");
+    CHECK_POSITION(fots_repeated_pairs_parse, read)
+    check(read.unused == 0 && (read.status == FOTS_OK || (read.count == 0 && !is_date(read.start_date) && !is_time(read.start_time))),
+        "no repeated interval", read.status, read.count);
+}
+
+/* A row of a column is the same as one call, and bounds outside the bytes are an error. */
+static void read_columns(const char *bytes, size_t length)
+{
+    const fots_parse_date_result date = fots_date_parse_iso(bytes, length);
+    const fots_parse_moment_result moment = fots_moment_parse_iso(bytes, length);
+    const int32_t end = (int32_t)length, bounds[][2] = {{0, end}, {0, end + 1}, {-1, end}, {1, 0}, {INT32_MIN, INT32_MAX}};
+    for (int k = 0; k < COUNT(bounds); k++) {
+        int32_t day = 0, moment_day = 0, offset = 0;
+        uint64_t time = 0;
+        uint8_t status = 0, moment_status = 0;
+        size_t failed = fots_dates_parse_iso(bytes, length, bounds[k], 2, &day, 1, &status, 1);
+        size_t moment_failed = fots_moments_parse_iso(bytes, length, bounds[k], 2, &moment_day, 1, &time, 1, &offset, 1, &moment_status, 1);
+        check(status == (k == 0 ? date.status : FOTS_INVALID_BOUNDS) && failed == (status != FOTS_OK), "a column of dates", status, k);
+        check(day == (k == 0 ? date.date.julian_day : FOTS_NO_VALUE), "a date of a column", day, k);
+        check(moment_status == (k == 0 ? moment.status : FOTS_INVALID_BOUNDS) && moment_failed == (moment_status != FOTS_OK), "a column of moments",
+            moment_status, k);
+        check(moment_day == (k == 0 ? moment.date.julian_day : FOTS_NO_VALUE) && time == (k == 0 ? moment.time : FOTS_NO_TIME)
+            && offset == (k == 0 ? moment.offset.seconds : FOTS_NO_VALUE), "a moment of a column", moment_day, k);
+    }
+}
+
 static void read_all(const char *bytes, size_t length)
 {
+    read_repeated(bytes, length);
+    read_columns(bytes, length);
     read_date(bytes, length);
     read_julian_day(bytes, length);
     read_moment(bytes, length);
@@ -626,7 +704,8 @@ static void nearly_texts(void)
 {
     static const char *const texts[] = {"2024-02-29", "+12024-02-29", "-999999-01-01", "2024-060", "+999999-365", "2024-W09-4",
         "-0001-W52-6", "J2460370", "J-363521074", "J0", "2024-02-29T23:59:59.25+01:00", "0000-01-01t00:00:00z",
-        "9999-12-31 23:59:59.999999999-23:59", "9:05", "-25:59:59", "2024-W09-4T9:05 z", "@0", "@1709164800.5", "@-0.000000001", "@-31619087596800"};
+        "9999-12-31 23:59:59.999999999-23:59", "9:05", "-25:59:59", "2024-W09-4T9:05 z", "@0", "@1709164800.5", "@-0.000000001", "@-31619087596800",
+        "R12/2024-01-31T09:00:00/P1M", "R/2024-01-31T09:00/2024-01-31T10:00", "R3/PT90M/2024-01-31T09:00", "20240229T235959+01"};
     for (int k = 0; k < COUNT(texts); k++) {
         size_t length = strlen(texts[k]);
         for (size_t position = 0; position <= length; position++) {
@@ -853,6 +932,8 @@ static void everything(void)
                 dates(julian_day, drawn_with, duration);
                 months(julian_day, drawn_with, duration.nanoseconds);
                 workdays(julian_day, drawn_with, duration.nanoseconds);
+                workdays_views(julian_day, drawn_with, duration.nanoseconds);
+                sorted(julian_day, drawn_with, duration.nanoseconds);
             }
         }
         for (int time = 0; time < 20; time++) {
