@@ -104,9 +104,9 @@ CREATE FUNCTION cal_series_local(start timestamp, stop timestamp, step interval)
     AS 'MODULE_PATHNAME' LANGUAGE C IMMUTABLE STRICT PARALLEL SAFE ROWS 100;
 CREATE FUNCTION cal_recurrence_text(text) RETURNS text
     AS 'MODULE_PATHNAME' LANGUAGE C IMMUTABLE STRICT PARALLEL SAFE;
-CREATE FUNCTION cal_days(rule text, start date, within daterange DEFAULT '(,)') RETURNS SETOF date
+CREATE FUNCTION cal_days(rule text, start date, within daterange DEFAULT '(,)', rdates date[] DEFAULT '{}', exdates date[] DEFAULT '{}') RETURNS SETOF date
     AS 'MODULE_PATHNAME' LANGUAGE C IMMUTABLE STRICT PARALLEL SAFE ROWS 100;
-CREATE FUNCTION cal_times_local(rule text, start timestamp, within tsrange DEFAULT '(,)') RETURNS SETOF timestamp
+CREATE FUNCTION cal_times_local(rule text, start timestamp, within tsrange DEFAULT '(,)', rdates timestamp[] DEFAULT '{}', exdates timestamp[] DEFAULT '{}') RETURNS SETOF timestamp
     AS 'MODULE_PATHNAME' LANGUAGE C IMMUTABLE STRICT PARALLEL SAFE ROWS 100;
 
 -- The files of the zones can change, so these are only stable.
@@ -136,5 +136,5 @@ CREATE FUNCTION cal_day_length(date, zone text) RETURNS interval
     AS 'MODULE_PATHNAME' LANGUAGE C STABLE STRICT PARALLEL SAFE;
 CREATE FUNCTION cal_series_zoned(start timestamptz, stop timestamptz, step interval, zone text, policy text DEFAULT 'compatible') RETURNS SETOF timestamptz
     AS 'MODULE_PATHNAME' LANGUAGE C STABLE STRICT PARALLEL SAFE ROWS 100;
-CREATE FUNCTION cal_times_zoned(rule text, start timestamp, zone text, within tstzrange DEFAULT '(,)') RETURNS SETOF timestamptz
+CREATE FUNCTION cal_times_zoned(rule text, start timestamp, zone text, within tstzrange DEFAULT '(,)', rdates timestamp[] DEFAULT '{}', exdates timestamp[] DEFAULT '{}') RETURNS SETOF timestamptz
     AS 'MODULE_PATHNAME' LANGUAGE C STABLE STRICT PARALLEL SAFE ROWS 100;

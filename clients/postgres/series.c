@@ -3,6 +3,7 @@
 
 #include "funcapi.h"
 #include "miscadmin.h"
+#include "utils/array.h"
 #include "utils/builtins.h"
 #include "utils/rangetypes.h"
 #include "utils/typcache.h"
@@ -12,8 +13,7 @@
 /* The state of the rows of one call. It doesn't move, as its parts point into it. */
 typedef union rows {
     sql_series series;
-    sql_days days;
-    sql_times times;
+    sql_recurrence recurrence;
 } rows;
 
 /* Makes steps up to the next row, and lets the server stop the query between two steps. */
@@ -140,70 +140,103 @@ static bounds bounds_of(RangeType *range, bool is_date)
     return found;
 }
 
+/* An array of dates or timestamps as moments. */
+typedef struct moments {
+    fots_moment *values;
+    size_t length;
+} moments;
+
+static moments moments_of(FunctionCallInfo fcinfo, int argument, MemoryContext memory, bool is_date)
+{
+    ArrayType *const array = PG_GETARG_ARRAYTYPE_P(argument);
+    const DateADT *const dates = (const DateADT *)ARR_DATA_PTR(array);
+    const Timestamp *const stamps = (const Timestamp *)ARR_DATA_PTR(array);
+    moments found = {NULL, (size_t)ArrayGetNItems(ARR_NDIM(array), ARR_DIMS(array))};
+    if (ARR_HASNULL(array) && array_contains_nulls(array)) {
+        ereport(ERROR, (errcode(ERRCODE_NULL_VALUE_NOT_ALLOWED), errmsg("rdates and exdates must not be null")));
+    }
+    succeed("recurrence", found.length > FOTS_MAX_DATES ? FOTS_TOO_MANY_DATES : FOTS_OK);
+    found.values = MemoryContextAlloc(memory, sizeof(fots_moment) * (found.length + 1));
+    for (size_t at = 0; at < found.length; at++) {
+        found.values[at] = is_date ? midnight(date_of(dates[at])) : moment_of(stamps[at]);
+    }
+    return found;
+}
+
+/* Adds the other dates and the exceptions, from an argument on. Ends the rows of an empty range. */
+static void add_dates(FunctionCallInfo fcinfo, int argument, MemoryContext memory, sql_recurrence *recurrence, const bounds *within)
+{
+    const bool is_date = !recurrence->has_times;
+    const moments dates = moments_of(fcinfo, argument, memory, is_date), exceptions = moments_of(fcinfo, argument + 1, memory, is_date);
+    needs_end(within->has_upper || within->is_empty || sql_recurrence_has_end(recurrence));
+    succeed("recurrence", sql_recurrence_add(recurrence, dates.values, dates.length, exceptions.values, exceptions.length));
+    if (within->is_empty) {
+        recurrence->step = SQL_END;
+        recurrence->dates_length = 0;
+    }
+}
+
+/* Returns the next row, or false after the last one. */
+static bool recurrence_row(FuncCallContext *context, fots_moment *row)
+{
+    sql_recurrence *const recurrence = &((rows *)context->user_fctx)->recurrence;
+    enum sql_step step;
+    NEXT_ROW(step, sql_recurrence_step(recurrence, row));
+    if (step == SQL_FAILED) {
+        fail("recurrence", recurrence->status);
+    }
+    return step == SQL_ROW;
+}
+
 static void begin_days(FunctionCallInfo fcinfo)
 {
     FuncCallContext *const context = SRF_FIRSTCALL_INIT();
     const text *const rule = PG_GETARG_TEXT_PP(0);
-    const fots_date start = GET_DATE(1), greatest = {FOTS_MAX_JULIAN_DAY};
+    const fots_date start = GET_DATE(1), least = {0}, greatest = {FOTS_MAX_JULIAN_DAY};
     const bounds within = bounds_of(PG_GETARG_RANGE_P(2), true);
-    const fots_date first = within.has_lower ? date_of((DateADT)within.lower) : start;
+    const fots_date first = within.has_lower ? date_of((DateADT)within.lower) : least;
     const fots_date last = within.has_upper && within.upper < FOTS_MAX_JULIAN_DAY - POSTGRES_EPOCH_JDATE ? date_of((DateADT)within.upper) : greatest;
-    sql_days *const days = &new_rows(context)->days;
-    check_recurrence(rule, sql_days_begin(days, VARDATA_ANY(rule), VARSIZE_ANY_EXHDR(rule), start, first, last));
-    needs_end(within.has_upper || within.is_empty || days->recurrence.count > 0 || days->recurrence.until.julian_day != FOTS_NO_VALUE);
-    days->is_last = within.is_empty;
-    days->length = within.is_empty ? 0 : days->length;
+    sql_recurrence *const recurrence = &new_rows(context)->recurrence;
+    check_recurrence(rule, sql_recurrence_begin_days(recurrence, VARDATA_ANY(rule), VARSIZE_ANY_EXHDR(rule), start, first, last));
+    add_dates(fcinfo, 3, context->multi_call_memory_ctx, recurrence, &within);
 }
 
 PG_FUNCTION_INFO_V1(cal_days);
 Datum cal_days(PG_FUNCTION_ARGS)
 {
     FuncCallContext *context;
-    fots_date_result row = {FOTS_OK, {0}};
-    enum sql_step step;
-    sql_days *days;
+    fots_moment row = {{0}, {0}, 0};
+    fots_date_result day = {FOTS_OK, {0}};
     if (SRF_IS_FIRSTCALL()) {
         begin_days(fcinfo);
     }
     context = SRF_PERCALL_SETUP();
-    days = &((rows *)context->user_fctx)->days;
-    NEXT_ROW(step, sql_days_step(days, &row.date));
-    if (step == SQL_FAILED) {
-        fail("recurrence", days->status);
-    }
-    if (step == SQL_END) {
+    if (!recurrence_row(context, &row)) {
         SRF_RETURN_DONE(context);
     }
-    SRF_RETURN_NEXT(context, DateADTGetDatum(from_date("recurrence", row)));
+    day.date = row.date;
+    SRF_RETURN_NEXT(context, DateADTGetDatum(from_date("recurrence", day)));
 }
 
-/* Begins the times of a recurrence, in a zone or without one. */
-static void begin_times(FunctionCallInfo fcinfo, const fots_zone *zone, RangeType *range)
+/* Begins the times of a recurrence, in a zone or without one, with the range in an argument. */
+static void begin_times(FunctionCallInfo fcinfo, const fots_zone *zone, int argument)
 {
     FuncCallContext *const context = SRF_FIRSTCALL_INIT();
     const text *const rule = PG_GETARG_TEXT_PP(0);
-    const bounds within = bounds_of(range, false);
+    const bounds within = bounds_of(PG_GETARG_RANGE_P(argument), false);
     const fots_moment start = moment_of(PG_GETARG_TIMESTAMP(1));
     const fots_moment first = moment_of(within.has_lower ? within.lower : MIN_TIMESTAMP);
     const fots_moment last = moment_of(within.has_upper ? within.upper : END_TIMESTAMP - 1);
-    sql_times *const times = &new_rows(context)->times;
-    check_recurrence(rule, sql_times_begin(times, VARDATA_ANY(rule), VARSIZE_ANY_EXHDR(rule), start, zone, first, last));
-    needs_end(within.has_upper || within.is_empty || times->count > 0 || times->has_until);
-    times->is_last = within.is_empty;
-    times->is_counting = times->is_counting && !within.is_empty;
+    sql_recurrence *const recurrence = &new_rows(context)->recurrence;
+    check_recurrence(rule, sql_recurrence_begin_times(recurrence, VARDATA_ANY(rule), VARSIZE_ANY_EXHDR(rule), start, zone, first, last));
+    add_dates(fcinfo, argument + 1, context->multi_call_memory_ctx, recurrence, &within);
 }
 
 static Datum times_row(FunctionCallInfo fcinfo)
 {
     FuncCallContext *const context = SRF_PERCALL_SETUP();
-    sql_times *const times = &((rows *)context->user_fctx)->times;
     fots_moment_result row = {FOTS_OK, {{0}, {0}, 0}};
-    enum sql_step step;
-    NEXT_ROW(step, sql_times_step(times, &row.moment));
-    if (step == SQL_FAILED) {
-        fail("recurrence", times->status);
-    }
-    if (step == SQL_END) {
+    if (!recurrence_row(context, &row.moment)) {
         SRF_RETURN_DONE(context);
     }
     SRF_RETURN_NEXT(context, TimestampGetDatum(from_moment("recurrence", row)));
@@ -213,7 +246,7 @@ PG_FUNCTION_INFO_V1(cal_times_local);
 Datum cal_times_local(PG_FUNCTION_ARGS)
 {
     if (SRF_IS_FIRSTCALL()) {
-        begin_times(fcinfo, NULL, PG_GETARG_RANGE_P(2));
+        begin_times(fcinfo, NULL, 2);
     }
     return times_row(fcinfo);
 }
@@ -222,7 +255,7 @@ PG_FUNCTION_INFO_V1(cal_times_zoned);
 Datum cal_times_zoned(PG_FUNCTION_ARGS)
 {
     if (SRF_IS_FIRSTCALL()) {
-        begin_times(fcinfo, zone_named(PG_GETARG_TEXT_PP(2)), PG_GETARG_RANGE_P(3));
+        begin_times(fcinfo, zone_named(PG_GETARG_TEXT_PP(2)), 3);
     }
     return times_row(fcinfo);
 }

@@ -162,6 +162,8 @@ typedef struct sql_times {
     int32_t window; /* the year at whose end the window ends, or 0 for the end of the recurrence */
     fots_recurrence_set set; /* has a pointer to the text */
     const fots_zone *zone; /* or NULL for local times */
+    const fots_moment *exceptions; /* local times in the zone, which COUNT counts */
+    size_t exceptions_length;
     fots_moment first, last; /* in the rows, at offset 0: local times without a zone, else at UTC */
     fots_moment from; /* the next local time */
     fots_moment after; /* the last instant */
@@ -251,6 +253,10 @@ static inline void sql_times_restart(sql_times *all)
     all->after = fots_moment_saturating_sub(all->first, nanosecond).moment;
     all->at = all->length = 0;
     all->is_last = 0;
+    if (!all->is_counting && all->exceptions_length > 0) {
+        all->set.exceptions = all->exceptions;
+        all->set.exceptions_length = all->exceptions_length;
+    }
     if (all->has_windows) {
         sql_times_open_window(all, fots_date_year(all->from.date).number);
     }
@@ -373,6 +379,154 @@ static inline enum sql_step sql_times_step(sql_times *all, fots_moment *row)
         }
     }
     return all->is_last ? SQL_END : sql_times_page(all);
+}
+
+/* ---- a recurrence: the rows of its rule and other dates, RDATE, without exceptions, EXDATE
+ *
+ * Other dates need not match the rule, its start or its end. In a zone both are local times. */
+
+typedef struct sql_recurrence {
+    union {
+        sql_days days;
+        sql_times times;
+    } rule;
+    int has_times; /* else rows are days, at midnight */
+    fots_moment first, last;
+    const fots_moment *dates, *exceptions; /* in order, in the caller's memory */
+    size_t dates_length, exceptions_length;
+    size_t at; /* the next date */
+    enum sql_step step; /* of the rule: SQL_ROW has `next` */
+    fots_moment next;
+    int32_t status;
+} sql_recurrence;
+
+/* Sets the days from `first` to `last`. */
+static inline sql_fault sql_recurrence_begin_days(sql_recurrence *all, const char *text, size_t length, fots_date start, fots_date first,
+    fots_date last)
+{
+    memset(all, 0, sizeof *all);
+    all->first.date = first;
+    all->last.date = last;
+    all->step = SQL_PAUSE;
+    return sql_days_begin(&all->rule.days, text, length, start, first, last);
+}
+
+/* Sets the times from `first` to `last`. `zone` is NULL for local times. */
+static inline sql_fault sql_recurrence_begin_times(sql_recurrence *all, const char *text, size_t length, fots_moment start, const fots_zone *zone,
+    fots_moment first, fots_moment last)
+{
+    memset(all, 0, sizeof *all);
+    all->has_times = 1;
+    all->first = first;
+    all->last = last;
+    all->step = SQL_PAUSE;
+    return sql_times_begin(&all->rule.times, text, length, start, zone, first, last);
+}
+
+/* Returns 1 if the rule has COUNT or UNTIL. */
+static inline int sql_recurrence_has_end(const sql_recurrence *all)
+{
+    return all->has_times ? all->rule.times.count > 0 || all->rule.times.has_until
+                          : all->rule.days.recurrence.count > 0 || all->rule.days.recurrence.until.julian_day != FOTS_NO_VALUE;
+}
+
+static inline int sql_compare(const void *one, const void *other)
+{
+    return fots_moment_compare(*(const fots_moment *)one, *(const fots_moment *)other).number;
+}
+
+static inline int sql_is_exception(const sql_recurrence *all, fots_moment row)
+{
+    return all->exceptions_length > 0 && bsearch(&row, all->exceptions, all->exceptions_length, sizeof row, sql_compare) != NULL;
+}
+
+/* Sets the other dates without exceptions, as rows in order, each once. Returns a status. */
+static inline int32_t sql_recurrence_add_dates(sql_recurrence *all, fots_moment *dates, size_t length)
+{
+    const fots_zone *const zone = all->has_times ? all->rule.times.zone : NULL;
+    fots_moment_result date = {FOTS_OK, {{0}, {0}, 0}};
+    size_t at, kept = 0;
+    for (at = 0; at < length; at++) {
+        date.moment = dates[at];
+        if (sql_is_exception(all, date.moment)) {
+            continue;
+        }
+        if (zone) {
+            date = fots_zone_moment(zone, date.moment.date, date.moment.time, FOTS_COMPATIBLE);
+        }
+        if (date.status != FOTS_OK) {
+            return date.status;
+        }
+        if (sql_compare(&date.moment, &all->first) >= 0 && sql_compare(&date.moment, &all->last) <= 0) {
+            dates[kept++] = date.moment;
+        }
+    }
+    if (kept > 0) {
+        qsort(dates, kept, sizeof *dates, sql_compare);
+        all->dates_length = 1;
+    }
+    for (at = 1; at < kept; at++) {
+        if (sql_compare(&dates[all->dates_length - 1], &dates[at]) != 0) {
+            dates[all->dates_length++] = dates[at];
+        }
+    }
+    all->dates = dates;
+    return FOTS_OK;
+}
+
+/* Sets other dates and exceptions, in any order and at offset 0. They stay in the caller's memory, and
+ * are changed there. Returns a status. */
+static inline int32_t sql_recurrence_add(sql_recurrence *all, fots_moment *dates, size_t dates_length, fots_moment *exceptions,
+    size_t exceptions_length)
+{
+    if (dates_length > FOTS_MAX_DATES || exceptions_length > FOTS_MAX_DATES) {
+        return FOTS_TOO_MANY_DATES;
+    }
+    if (exceptions_length > 0) {
+        qsort(exceptions, exceptions_length, sizeof *exceptions, sql_compare);
+        all->exceptions = exceptions;
+        all->exceptions_length = exceptions_length;
+        if (all->has_times && all->rule.times.zone) {
+            all->rule.times.exceptions = exceptions;
+            all->rule.times.exceptions_length = exceptions_length;
+            sql_times_restart(&all->rule.times);
+        }
+    }
+    return sql_recurrence_add_dates(all, dates, dates_length);
+}
+
+/* Makes a step of the rule up to a row that isn't an exception. */
+static inline void sql_recurrence_advance(sql_recurrence *all)
+{
+    if (all->has_times) {
+        all->step = sql_times_step(&all->rule.times, &all->next);
+        all->status = all->rule.times.status;
+    } else {
+        all->step = sql_days_step(&all->rule.days, &all->next.date);
+        all->status = all->rule.days.status;
+    }
+    if (all->step == SQL_ROW && !(all->has_times && all->rule.times.zone) && sql_is_exception(all, all->next)) {
+        all->step = SQL_PAUSE;
+    }
+}
+
+static inline enum sql_step sql_recurrence_step(sql_recurrence *all, fots_moment *row)
+{
+    const int has_date = all->at < all->dates_length;
+    int order = -1;
+    if (all->step == SQL_PAUSE) {
+        sql_recurrence_advance(all);
+    }
+    if (all->step == SQL_PAUSE || all->step == SQL_FAILED || (all->step == SQL_END && !has_date)) {
+        return all->step;
+    }
+    if (has_date) {
+        order = all->step == SQL_END ? 1 : sql_compare(&all->next, &all->dates[all->at]);
+    }
+    *row = order > 0 ? all->dates[all->at] : all->next;
+    all->at += order >= 0;
+    all->step = order > 0 ? all->step : SQL_PAUSE;
+    return SQL_ROW;
 }
 
 #endif

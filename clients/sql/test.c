@@ -1,5 +1,6 @@
 /* Compares the rows of series.h, which come in pages and windows, with those of one call of the
- * library, for rules of hours, minutes and seconds around the ends of windows, and with COUNT. */
+ * library, for rules of hours, minutes and seconds around the ends of windows, with COUNT, and with
+ * other dates and exceptions. */
 #include <stdio.h>
 #include <stdlib.h>
 
@@ -7,6 +8,7 @@
 #include "fotsevindre_zones.h"
 
 #define ROWS 120
+#define DATES 24
 
 static const char *const zones[] = {NULL, "Europe/Berlin", "Pacific/Apia", "America/Jamaica", "Asia/Kolkata", "Australia/Lord_Howe"};
 static const char *const rules[] = {"FREQ=HOURLY;INTERVAL=9", "FREQ=MINUTELY;INTERVAL=13", "FREQ=SECONDLY;INTERVAL=3607",
@@ -24,35 +26,73 @@ static fots_moment drawn(int year, int is_year_end)
     return moment;
 }
 
-/* Returns the number of rows, at most ROWS. */
-static size_t rows_of(const char *rule, fots_moment start, const fots_zone *zone, fots_moment first, fots_moment last, fots_moment *rows)
+/* Draws local times of the rule from the first row on, and others around it. */
+static void draw_dates(fots_recurrence_set set, fots_moment first, fots_moment *dates)
 {
-    static sql_times times;
+    fots_moment rows[ROWS];
+    const size_t length = fots_recurrence_readings(&set, first, rows, ROWS).length;
+    size_t at;
+    for (at = 0; at < DATES; at++) {
+        dates[at] = first;
+        dates[at].time = (uint64_t)(rand() % 86400) * 1000000000u;
+        dates[at].date.julian_day += rand() % 40 - 5;
+        if (length > 0 && rand() % 2) {
+            dates[at] = rows[(size_t)rand() % length];
+        }
+    }
+}
+
+/* Returns the number of rows, at most ROWS. */
+static size_t rows_of(const fots_recurrence_set *set, const fots_zone *zone, fots_moment first, fots_moment last, fots_moment *rows)
+{
+    static sql_recurrence all;
+    static fots_moment dates[DATES], exceptions[DATES];
     enum sql_step step;
     size_t length = 0;
-    if (sql_times_begin(&times, rule, strlen(rule), start, zone, first, last).status != FOTS_OK) {
+    memcpy(dates, set->dates, set->dates_length * sizeof *dates);
+    memcpy(exceptions, set->exceptions, set->exceptions_length * sizeof *exceptions);
+    if (sql_recurrence_begin_times(&all, set->text, set->text_length, set->start, zone, first, last).status != FOTS_OK
+        || sql_recurrence_add(&all, dates, set->dates_length, exceptions, set->exceptions_length) != FOTS_OK) {
         return SIZE_MAX;
     }
     do {
-        step = sql_times_step(&times, &rows[length]);
+        step = sql_recurrence_step(&all, &rows[length]);
         length += step == SQL_ROW;
     } while (length < ROWS && (step == SQL_ROW || step == SQL_PAUSE));
     return step == SQL_FAILED ? SIZE_MAX : length;
 }
 
-static int is_same(const char *rule, fots_moment start, const fots_zone *zone, fots_moment first, fots_moment last)
+static int is_same(fots_recurrence_set set, const fots_zone *zone, fots_moment first, fots_moment last)
 {
     static fots_moment rows[ROWS + 1], others[ROWS];
     const fots_duration nanosecond = {0, 1};
-    const fots_recurrence_set set = fots_recurrence_set_new(rule, strlen(rule), start);
-    const size_t length = rows_of(rule, start, zone, first, last, rows);
+    const size_t length = rows_of(&set, zone, first, last, rows);
     const size_t found = zone ? fots_recurrence_moments(&set, zone, fots_moment_checked_sub(first, nanosecond).moment, others, ROWS).length
                               : fots_recurrence_readings(&set, first, others, ROWS).length;
     size_t at = 0;
     while (at < length && at < found && fots_moment_compare(rows[at], others[at]).number == 0) {
         at++;
     }
-    return at == length && (at == found || fots_moment_compare(others[at], last).number > 0);
+    return at == length && (at == ROWS || at == found || fots_moment_compare(others[at], last).number > 0);
+}
+
+/* Compares without other dates, or with some, some exceptions, or both. */
+static int is_same_with(const char *rule, fots_moment start, const fots_zone *zone, fots_moment first, fots_moment last, int lists)
+{
+    static fots_moment dates[DATES], exceptions[DATES];
+    fots_recurrence_set set = fots_recurrence_set_new(rule, strlen(rule), start);
+    draw_dates(set, first, dates);
+    draw_dates(set, first, exceptions);
+    if (lists & 1) {
+        memcpy(exceptions, dates, DATES / 4 * sizeof *dates);
+        set.dates = dates;
+        set.dates_length = DATES;
+    }
+    if (lists & 2) {
+        set.exceptions = exceptions;
+        set.exceptions_length = DATES;
+    }
+    return is_same(set, zone, first, last);
 }
 
 int main(void)
@@ -67,7 +107,8 @@ int main(void)
                 fots_moment first = start, last = start;
                 first.date.julian_day += draw % 5 == 0 ? rand() % 40000 : rand() % 5 - 2;
                 last.date.julian_day = first.date.julian_day + (draw % 2 ? rand() % 400 : 60000);
-                if (is_same(rules[rule], start, zones[zone] ? fots_zone_named_by(zones[zone], strlen(zones[zone])).zone : NULL, first, last)) {
+                if (is_same_with(rules[rule], start, zones[zone] ? fots_zone_named_by(zones[zone], strlen(zones[zone])).zone : NULL, first, last,
+                        draw / 2)) {
                     passed++;
                 } else {
                     failed++;

@@ -10,7 +10,7 @@ SQLITE_EXTENSION_INIT3
 #include "../sql/series.h"
 #include "fotsevindre_zones.h"
 
-#define ARGUMENTS 5
+#define ARGUMENTS 7
 
 enum kind { SERIES, DAYS, TIMES };
 
@@ -28,10 +28,11 @@ static const table_kind kinds[] = {
     {"cal_series_local", "CREATE TABLE x(time TEXT, start HIDDEN, stop HIDDEN, step HIDDEN)", SERIES, SQL_LOCAL, 1, 3},
     {"cal_series_zoned", "CREATE TABLE x(instant, local TEXT, start HIDDEN, stop HIDDEN, step HIDDEN, zone HIDDEN, policy HIDDEN)", SERIES,
         SQL_INSTANT, 2, 4},
-    {"cal_days", "CREATE TABLE x(day TEXT, rule HIDDEN, start HIDDEN, first HIDDEN, last HIDDEN)", DAYS, SQL_DATE, 1, 2},
-    {"cal_times_local", "CREATE TABLE x(time TEXT, rule HIDDEN, start HIDDEN, first HIDDEN, last HIDDEN)", TIMES, SQL_LOCAL, 1, 2},
-    {"cal_times_zoned", "CREATE TABLE x(instant, local TEXT, rule HIDDEN, start HIDDEN, zone HIDDEN, first HIDDEN, last HIDDEN)", TIMES,
-        SQL_INSTANT, 2, 3},
+    {"cal_days", "CREATE TABLE x(day TEXT, rule HIDDEN, start HIDDEN, first HIDDEN, last HIDDEN, rdates HIDDEN, exdates HIDDEN)", DAYS, SQL_DATE, 1, 2},
+    {"cal_times_local", "CREATE TABLE x(time TEXT, rule HIDDEN, start HIDDEN, first HIDDEN, last HIDDEN, rdates HIDDEN, exdates HIDDEN)", TIMES, SQL_LOCAL, 1, 2},
+    {"cal_times_zoned",
+        "CREATE TABLE x(instant, local TEXT, rule HIDDEN, start HIDDEN, zone HIDDEN, first HIDDEN, last HIDDEN, rdates HIDDEN, exdates HIDDEN)",
+        TIMES, SQL_INSTANT, 2, 3},
 };
 
 typedef struct table {
@@ -43,13 +44,13 @@ typedef struct table {
 typedef struct cursor {
     sqlite3_vtab_cursor base;
     sqlite3_value *arguments[ARGUMENTS]; /* or NULL */
+    fots_moment *dates; /* of a recurrence, or NULL */
     enum sql_step step;
     sqlite3_int64 rowid;
     fots_moment row;
     union {
         sql_series series;
-        sql_days days;
-        sql_times times;
+        sql_recurrence recurrence;
     } rows;
 } cursor;
 
@@ -98,6 +99,8 @@ static void free_arguments(cursor *one)
         sqlite3_value_free(one->arguments[at]);
         one->arguments[at] = NULL;
     }
+    sqlite3_free(one->dates);
+    one->dates = NULL;
 }
 
 static int close_rows(sqlite3_vtab_cursor *base)
@@ -111,7 +114,7 @@ static int close_rows(sqlite3_vtab_cursor *base)
 static int plan(sqlite3_vtab *base, sqlite3_index_info *info)
 {
     const table_kind *const kind = ((table *)base)->kind;
-    int at, bits = 0, next = 0, place[ARGUMENTS] = {-1, -1, -1, -1, -1};
+    int at, bits = 0, next = 0, place[ARGUMENTS] = {-1, -1, -1, -1, -1, -1, -1};
     for (at = 0; at < info->nConstraint; at++) {
         const int column = info->aConstraint[at].iColumn - kind->columns;
         if (column < 0 || info->aConstraint[at].op != SQLITE_INDEX_CONSTRAINT_EQ) {
@@ -214,33 +217,89 @@ static int begin_series(cursor *one, enum sql_form form)
     return status == FOTS_OK ? SQLITE_OK : fail(one, sql_message("series", status));
 }
 
+/* Reads one of the other dates, a date or a local time. */
+static int read_date(cursor *one, int is_day, sql_text text, fots_moment *moment)
+{
+    fots_parse_moment_result parsed = fots_pair_parse(text.bytes, text.length);
+    if (is_day) {
+        const fots_parse_date_result day = fots_date_parse(text.bytes, text.length);
+        parsed = (fots_parse_moment_result){day.status, day.date, 0, {0}, day.position};
+    }
+    moment->date = parsed.date;
+    moment->time = parsed.time;
+    moment->offset.seconds = 0;
+    return parsed.status == FOTS_OK ? SQLITE_OK
+                                    : fail(one, sql_text_message(is_day ? "date" : "local time", text, parsed.status, parsed.position));
+}
+
+/* Reads values with commas between them. An empty string has none. */
+static int read_dates(cursor *one, int is_day, sql_text list, fots_moment *moments, size_t *length)
+{
+    int status = SQLITE_OK, has_next = list.length > 0;
+    while (status == SQLITE_OK && has_next) {
+        const char *const comma = memchr(list.bytes, ',', list.length);
+        const sql_text text = {list.bytes, comma ? (size_t)(comma - list.bytes) : list.length};
+        if (*length == FOTS_MAX_DATES) {
+            return fail(one, sql_message("recurrence", FOTS_TOO_MANY_DATES));
+        }
+        status = read_date(one, is_day, text, &moments[(*length)++]);
+        has_next = comma != NULL;
+        list.bytes += text.length + (size_t)has_next;
+        list.length -= text.length + (size_t)has_next;
+    }
+    return status;
+}
+
+/* Adds the other dates and the exceptions, from an argument on. */
+static int add_dates(cursor *one, int argument)
+{
+    sql_recurrence *const recurrence = &one->rows.recurrence;
+    const int is_day = !recurrence->has_times;
+    size_t lengths[] = {0, 0};
+    int at, status = SQLITE_OK;
+    int32_t added;
+    if (!one->arguments[argument] && !one->arguments[argument + 1]) {
+        return SQLITE_OK;
+    }
+    one->dates = sqlite3_malloc64(2 * FOTS_MAX_DATES * sizeof *one->dates);
+    if (!one->dates) {
+        return SQLITE_NOMEM;
+    }
+    for (at = 0; at < 2 && status == SQLITE_OK; at++) {
+        if (one->arguments[argument + at]) {
+            status = read_dates(one, is_day, sql_text_of(one->arguments[argument + at]), one->dates + at * FOTS_MAX_DATES, &lengths[at]);
+        }
+    }
+    if (status != SQLITE_OK) {
+        return status;
+    }
+    added = sql_recurrence_add(recurrence, one->dates, lengths[0], one->dates + FOTS_MAX_DATES, lengths[1]);
+    return added == FOTS_OK ? SQLITE_OK : fail(one, sql_message("recurrence", added));
+}
+
 static int begin_recurrence(cursor *one, const table_kind *kind)
 {
     const fots_moment least = {{FOTS_MIN_JULIAN_DAY}, {0}, 0}, greatest = {{FOTS_MAX_JULIAN_DAY}, {0}, FOTS_MAX_TIME};
     const sql_text text = sql_text_of(one->arguments[0]);
     const int has_zone = kind->form == SQL_INSTANT;
+    sql_recurrence *const recurrence = &one->rows.recurrence;
     const fots_zone *zone = NULL;
     fots_moment start, first, last;
     sql_fault fault;
-    int has_end = one->arguments[3 + has_zone] != NULL;
     if (read_moment(one, 1, has_zone ? SQL_LOCAL : kind->form, &start) != SQLITE_OK || (has_zone && read_zone(one, 2, &zone) != SQLITE_OK)
         || read_bound(one, 2 + has_zone, kind->form, least, &first) != SQLITE_OK
         || read_bound(one, 3 + has_zone, kind->form, greatest, &last) != SQLITE_OK) {
         return SQLITE_ERROR;
     }
-    if (kind->kind == DAYS) {
-        sql_days *const days = &one->rows.days;
-        fault = sql_days_begin(days, text.bytes, text.length, start.date, first.date, last.date);
-        has_end = has_end || days->recurrence.count > 0 || days->recurrence.until.julian_day != FOTS_NO_VALUE;
-    } else {
-        sql_times *const times = &one->rows.times;
-        fault = sql_times_begin(times, text.bytes, text.length, start, zone, first, last);
-        has_end = has_end || times->count > 0 || times->has_until;
-    }
+    fault = kind->kind == DAYS ? sql_recurrence_begin_days(recurrence, text.bytes, text.length, start.date, first.date, last.date)
+                               : sql_recurrence_begin_times(recurrence, text.bytes, text.length, start, zone, first, last);
     if (fault.status != FOTS_OK) {
         return fail(one, sql_text_message("recurrence", text, fault.status, fault.position));
     }
-    return has_end ? SQLITE_OK : fail(one, sqlite3_mprintf("the recurrence has no end; give it COUNT or UNTIL, or the call its last argument"));
+    if (!one->arguments[3 + has_zone] && !sql_recurrence_has_end(recurrence)) {
+        return fail(one, sqlite3_mprintf("the recurrence has no end; give it COUNT or UNTIL, or the call its argument last"));
+    }
+    return add_dates(one, 4 + has_zone);
 }
 
 /* ---- rows */
@@ -248,20 +307,17 @@ static int begin_recurrence(cursor *one, const table_kind *kind)
 static int next(sqlite3_vtab_cursor *base)
 {
     cursor *const one = (cursor *)base;
-    const enum kind kind = ((table *)base->pVtab)->kind->kind;
+    const table_kind *const kind = ((table *)base->pVtab)->kind;
     int32_t status;
     one->rowid += 1;
-    if (kind == SERIES) {
+    if (kind->kind == SERIES) {
         one->step = sql_series_step(&one->rows.series, &one->row);
         status = one->rows.series.status;
-    } else if (kind == DAYS) {
-        one->step = sql_days_step(&one->rows.days, &one->row.date);
-        status = one->rows.days.status;
     } else {
-        one->step = sql_times_step(&one->rows.times, &one->row);
-        status = one->rows.times.status;
+        one->step = sql_recurrence_step(&one->rows.recurrence, &one->row);
+        status = one->rows.recurrence.status;
     }
-    return one->step == SQL_FAILED ? fail(one, sql_message(((table *)base->pVtab)->kind->name, status)) : SQLITE_OK;
+    return one->step == SQL_FAILED ? fail(one, sql_message(kind->name, status)) : SQLITE_OK;
 }
 
 static int filter(sqlite3_vtab_cursor *base, int bits, const char *unused, int count, sqlite3_value **values)
@@ -312,7 +368,7 @@ static int column(sqlite3_vtab_cursor *base, sqlite3_context *context, int numbe
     } else if (number == 0 && kind->form == SQL_INSTANT) {
         set_instant(context, kind->name, row);
     } else if (kind->form == SQL_INSTANT && kind->kind == TIMES) {
-        const fots_moment_result local = fots_moment_in_zone(row.moment, one->rows.times.zone);
+        const fots_moment_result local = fots_moment_in_zone(row.moment, one->rows.recurrence.rule.times.zone);
         set_local(context, kind->name, local.status, local.moment.date, local.moment.time);
     } else {
         set_local(context, kind->name, FOTS_OK, row.moment.date, row.moment.time);

@@ -25,6 +25,10 @@ SELECT count(*) FROM cal_times_zoned('FREQ=SECONDLY;COUNT=4000000000', '0001-01-
 INSERT INTO clock VALUES (clock_timestamp());
 SELECT count(*) FROM cal_times_zoned(:'all_times' || ';COUNT=4000000', '0001-01-01', 'Europe/Berlin', tstzrange('290000-01-01', NULL));
 INSERT INTO clock VALUES (clock_timestamp());
+SELECT count(*) FROM cal_days('FREQ=DAILY;COUNT=4000000000', '0001-01-01', daterange('999990-01-01', NULL), '{0001-01-01}', (SELECT array_agg('0001-01-01'::date + n) FROM generate_series(1, 1024) AS n));
+INSERT INTO clock VALUES (clock_timestamp());
+SELECT count(*) FROM cal_times_zoned(:'all_times', '0001-01-01', 'Europe/Berlin', tstzrange(NULL, '290000-01-01'), '{0001-01-01}', (SELECT array_agg('0001-01-01'::timestamp + n * interval '1 second') FROM generate_series(1, 1024) AS n));
+INSERT INTO clock VALUES (clock_timestamp());
 SELECT count(*) FROM cal_series('0001-01-01', '999999-01-01', '1 day');
 INSERT INTO clock VALUES (clock_timestamp());
 SELECT count(*) FROM cal_series_local('0001-01-01', '290000-01-01', '1 microsecond');

@@ -115,6 +115,22 @@ SELECT count(*) FROM (SELECT a FROM pairs LIMIT 300) AS starts, unnest(ARRAY['Eu
         tstzrange((a + 100)::timestamp AT TIME ZONE zone, (a + 400)::timestamp AT TIME ZONE zone)) AS t) AS one,
     LATERAL (SELECT array_agg((a + d + h) AT TIME ZONE zone ORDER BY d, h) AS times FROM generate_series(100, 399) AS d, unnest(ARRAY[time '09:00', time '17:00']) AS h) AS other
     WHERE one.times <> other.times;
+-- other dates and exceptions, of rules that have the next 280 days, or 100
+SELECT count(*) FROM (SELECT a, n FROM pairs LIMIT 1000) AS starts,
+    LATERAL (SELECT array_agg(a + k * abs(n) % 310 - 20) AS more, array_agg(a + k * abs(n + 7) % 310 - 20) AS less FROM generate_series(1, 40) AS k) AS lists,
+    LATERAL (SELECT array_agg(d) AS days FROM cal_days('FREQ=WEEKLY;BYDAY=TU,SA;COUNT=80', a, daterange(a - 10, a + 290), more, less) AS d) AS one,
+    LATERAL (SELECT array_agg(d::date ORDER BY d) AS days FROM generate_series(a - 10, a + 289, '1 day') AS d
+        WHERE ((d BETWEEN a AND a + 279 AND extract(isodow FROM d) IN (2, 6)) OR d::date = ANY (more)) AND d::date <> ALL (less)) AS other
+    WHERE one.days <> other.days;
+SELECT count(*) FROM (SELECT a, n FROM pairs LIMIT 300) AS starts, unnest(ARRAY['Europe/Berlin', 'America/New_York', 'Australia/Lord_Howe']) AS zone,
+    LATERAL (SELECT array_agg(a + k * abs(n) % 110 - 5 + k % 3 * interval '4 hours' + interval '9 hours') AS more,
+        array_agg(a + k * abs(n + 7) % 110 - 5 + k % 3 * interval '4 hours' + interval '9 hours') AS less FROM generate_series(1, 40) AS k) AS lists,
+    LATERAL (SELECT array_agg(t) AS times FROM cal_times_local('FREQ=DAILY;BYHOUR=9,17;COUNT=200', a + time '09:00', tsrange(a - 3, a + 104), more, less) AS t) AS local,
+    LATERAL (SELECT array_agg(t) AS times FROM cal_times_zoned('FREQ=DAILY;BYHOUR=9,17;COUNT=200', a + time '09:00', zone,
+        tstzrange((a - 3)::timestamp AT TIME ZONE zone, (a + 104)::timestamp AT TIME ZONE zone), more, less) AS t) AS zoned,
+    LATERAL (SELECT array_agg(t ORDER BY t) AS locals, array_agg(t AT TIME ZONE zone ORDER BY t) AS instants FROM generate_series(-3, 103) AS d, generate_series(9, 17, 4) AS h,
+        LATERAL (SELECT a + d + h * interval '1 hour' AS t) AS times WHERE ((d BETWEEN 0 AND 99 AND h <> 13) OR t = ANY (more)) AND t <> ALL (less)) AS other
+    WHERE local.times <> other.locals OR zoned.times <> other.instants;
 
 -- time zones
 CREATE TEMP TABLE zone AS SELECT name, row_number() OVER (ORDER BY name) AS id FROM pg_timezone_names

@@ -83,6 +83,25 @@ SELECT * FROM (VALUES
     (25, cal_add_months(NULL, 1)::text, NULL), (26, cal_workdays('2024-01-01', '2024-02-01', NULL)::text, NULL)
 ) AS row(id, result, expected) WHERE result IS DISTINCT FROM expected;
 
+-- other dates and exceptions: in any order, twice, in both, before the start, outside the range, in a gap, NULL, infinity, too many
+SELECT * FROM (VALUES
+    (1, (SELECT string_agg(d::text, ' ') FROM cal_days('FREQ=DAILY;COUNT=4', '2024-01-01', rdates => '{2024-02-01,2023-12-25,2024-01-03,2023-12-25,2024-01-09}', exdates => '{2024-01-09,2024-01-02}') AS d), '2023-12-25 2024-01-01 2024-01-03 2024-01-04 2024-02-01'),
+    (2, (SELECT string_agg(d::text, ' ') FROM cal_days('FREQ=DAILY', '2024-01-01', '[2024-01-02,2024-01-04]', '{2024-01-04,2024-01-02,2024-01-05,2024-01-01}', '{2024-01-03}') AS d), '2024-01-02 2024-01-04'),
+    (3, (SELECT string_agg(t::text, ' ') FROM cal_times_local('FREQ=DAILY;BYHOUR=9,17;COUNT=4', '2024-01-01 09:00', rdates => '{2023-12-25 08:00}', exdates => '{2024-01-01 17:00}') AS t), '2023-12-25 08:00:00 2024-01-01 09:00:00 2024-01-02 09:00:00 2024-01-02 17:00:00'),
+    (4, (SELECT string_agg(t::text, ' ') FROM cal_times_zoned('FREQ=DAILY;COUNT=3', '2024-03-30 02:30', 'Europe/Berlin', rdates => '{2024-03-31 04:30,2024-03-31 03:30}') AS t), '2024-03-30 01:30:00+00 2024-03-31 01:30:00+00 2024-03-31 02:30:00+00 2024-04-01 00:30:00+00'),
+    (5, (SELECT string_agg(t::text, ' ') FROM cal_times_zoned('FREQ=DAILY;COUNT=3', '2024-03-30 02:30', 'Europe/Berlin', exdates => '{2024-03-31 02:30}') AS t), '2024-03-30 01:30:00+00 2024-04-01 00:30:00+00'),
+    (6, (SELECT string_agg(t::text, ' ') FROM cal_times_zoned('FREQ=DAILY;COUNT=3', '2024-03-30 02:30', 'Europe/Berlin', exdates => '{2024-03-31 03:30}') AS t), '2024-03-30 01:30:00+00 2024-03-31 01:30:00+00 2024-04-01 00:30:00+00'),
+    (7, (SELECT count(*) FROM cal_days('FREQ=DAILY;COUNT=4', '2024-01-01', 'empty', '{2024-01-01}'))::text, '0'),
+    (8, (SELECT count(*) FROM cal_days('FREQ=DAILY;COUNT=4', '2024-01-01', rdates => NULL))::text, '0'),
+    (9, (SELECT count(*) FROM cal_days('FREQ=DAILY;COUNT=1030', '2024-01-01', exdates => (SELECT array_agg('2024-01-01'::date + n) FROM generate_series(1, 1024) AS n)))::text, '6'),
+    (10, (SELECT count(*) FROM cal_times_local('FREQ=DAILY;COUNT=1', '2024-01-01', rdates => '{2024-01-01 00:00:00.000001}'))::text, '2'),
+    (11, pg_temp.error_of($$SELECT cal_days('FREQ=DAILY;COUNT=4', '2024-01-01', rdates => '{NULL}')$$), '22004 rdates and exdates must not be null'),
+    (12, pg_temp.error_of($$SELECT cal_days('FREQ=DAILY;COUNT=4', '2024-01-01', exdates => '{infinity}')$$), '22008 date must be finite'),
+    (13, pg_temp.error_of($$SELECT cal_times_zoned('FREQ=DAILY;COUNT=4', '2024-01-01', 'UTC', rdates => '{-infinity}')$$), '22008 timestamp must be finite'),
+    (14, pg_temp.error_of($$SELECT cal_days('FREQ=DAILY;COUNT=4', '2024-01-01', exdates => (SELECT array_agg('2024-01-01'::date + n) FROM generate_series(1, 1025) AS n))$$), '22023 recurrence: too many dates'),
+    (15, pg_temp.error_of($$SELECT cal_days('FREQ=DAILY', '2024-01-01', rdates => '{2024-01-01}')$$), '22023 the recurrence has no end')
+) AS row(id, result, expected) WHERE result IS DISTINCT FROM expected;
+
 -- zones: no name leaves the folder
 SELECT left(name, 32) AS name, regexp_replace(pg_temp.error_of(format('SELECT cal_local(now(), %L)', name)), 'time zone ".*"', '..') AS error
 FROM unnest(ARRAY['../etc/passwd', '/etc/passwd', 'Europe/../../../../etc/passwd', 'Europe//Berlin', 'Europe', 'Europe/', 'tzdata.zi', './UTC', '',
