@@ -23,7 +23,7 @@ typedef struct Columns {
     void *data[8], *copies[8];
     size_t lengths[8];
     int count;
-    const fots_workdays *workdays;
+    const fots_workdays_view *workdays;
     fots_format format;
     fots_zone zone;
     uint32_t policy;

@@ -35,9 +35,11 @@ typedef struct Value {
     };
 } Value;
 
+/* A view of memory that the object owns, which starts with the counts. */
 typedef struct WorkdaysObject {
     PyObject_HEAD
-    fots_workdays workdays;
+    fots_workdays_view workdays;
+    uint32_t *memory;
 } WorkdaysObject;
 
 /* The size of a value with a field, which takes a multiple of 8 bytes. */

@@ -199,8 +199,8 @@ def _ends(range_of_days: DateRange) -> tuple[Date, Date]:
 
 
 class Workdays(_core.Workdays):
-    """The given weekdays without holidays, by default Monday to Friday. The holidays are any dates,
-    at most 1024, and are sorted once.
+    """The given weekdays without holidays, by default Monday to Friday. The holidays are any dates, and
+    are sorted once.
 
     >>> Workdays().add_workdays(Date(2024, 2, 29), 10)
     Date(2024, 3, 14)
@@ -212,8 +212,8 @@ class Workdays(_core.Workdays):
                 holidays: Iterable[Date] = ()) -> Workdays:
         """Checks the weekdays and the holidays."""
         weekmask = sum({1 << check(weekday, Weekday) for weekday in weekdays})
-        julian_days = sorted({check(holiday, Date).to_julian_day() for holiday in holidays})
-        return super().__new__(cls, weekmask, array.array("i", julian_days).tobytes())
+        julian_days = array.array("i", (check(holiday, Date).to_julian_day() for holiday in holidays))
+        return super().__new__(cls, weekmask, julian_days.tobytes())
 
     @staticmethod
     def of(calendar: str, first: Date = Date(1990, 1, 1), last: Date = Date(2059, 12, 31)

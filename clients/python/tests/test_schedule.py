@@ -2,6 +2,7 @@
 memorandum of the ISDA, from the examples of RFC 5545, from the calendar of the standard library, one day at a time, and from dateutil, if it is
 installed."""
 
+import array
 import calendar
 import copy
 import dataclasses
@@ -16,6 +17,7 @@ try:
 except ImportError:
     relativedelta = rrule = None
 
+import fotsevindre
 from fotsevindre import (
     CalendarUnit, ComponentRange, Convention, Date, DateRange, DayCount, Frequency, Month, OffsetDateTime, ParseError, ParseRuleError, ParseRuleErrorKind, Period, PlainDateTime, Recurrence,
     Rule, SignedDuration, Steps, Time, Weekday, Workdays, Zone, easter, julian_easter)
@@ -333,10 +335,48 @@ class WorkingDays(unittest.TestCase):
         self.assertIsNone(work.checked_add_workdays(start, 2**31))
 
     def test_refusals(self):
-        with self.assertRaisesRegex(ValueError, "too many holidays; expected at most 1024"):
-            Workdays(holidays=day(2000, 1, 1).iter_to(day(2010, 1, 1)))
         self.assertRaises(TypeError, Workdays, holidays=[1])
         self.assertRaises(TypeError, Workdays, [1])
+        self.assertRaisesRegex(ValueError, "^invalid weekmask", fotsevindre._core.Workdays, 128, b"")
+        for number in (-2**31, 2**31 - 1):
+            self.assertRaisesRegex(ValueError, "^holidays must be", fotsevindre._core.Workdays, 31, array.array("i", [2460000, number]).tobytes())
+
+    def test_any_number_of_holidays(self):
+        """Days are counted one by one."""
+        draw = random.Random(5)
+        first = day(2000, 1, 1).to_julian_day()
+        for length in (0, 1, 10, 80, 1023, 1024, 1025, 5000, 40000):
+            span = max(2 * length, 400)
+            free = draw.sample(range(first, first + span), length)
+            work = Workdays(holidays=map(Date.from_julian_day, free + free[:7]))
+            self.assertEqual([one.to_julian_day() for one in work.holidays], sorted(free))
+            every = range(first - 700, first + span + 700)
+            working_days = {number for number in every if number % 7 < 5}.difference(free)
+            working = sorted(working_days)
+            before = list(itertools.accumulate((number in working_days for number in every), initial=0))
+            rows = [draw.randrange(first - 300, first + span + 300) for _ in range(100)]
+            others, moves = [draw.choice(rows) for _ in rows], [draw.randint(-150, 150) for _ in rows]
+            counted = [before[other - first + 700] - before[row - first + 700] for row, other in zip(rows, others)]
+            # For 0 it is the first working day from the day on.
+            moved = [working[before[row - first + 700] + (move - (row not in working_days) if move > 0 else move)] for row, move in zip(rows, moves)]
+            dates = [Date.from_julian_day(row) for row in rows]
+            self.assertEqual([work.is_workday(one) for one in dates], [row in working_days for row in rows])
+            self.assertEqual([work.workdays_between(one, Date.from_julian_day(other)) for one, other in zip(dates, others)], counted)
+            self.assertEqual([work.add_workdays(one, move).to_julian_day() for one, move in zip(dates, moves)], moved)
+            self.assertEqual(list(fotsevindre.dates_add_workdays(rows, moves, work).dates), moved)
+            self.assertEqual(list(fotsevindre.dates_workdays_between(rows, others, work).numbers), counted)
+            self.assertEqual((pickle.loads(pickle.dumps(work)), eval(repr(work))), (work, work))
+
+    def test_columns_of_the_far_ends(self):
+        for work in (Workdays(), Workdays(holidays=day(2000, 1, 1).iter_to(day(2010, 1, 1)))):
+            found = fotsevindre.dates_add_workdays([Date.MAX, Date.MIN, 2**31 - 1, 2460370], [1, -1, 0, 0], work)
+            self.assertEqual((list(found.dates), list(found.statuses), found.error_count), ([-2**31] * 3 + [2460370], [1, 1, 2, 0], 3))
+            found = fotsevindre.dates_workdays_between([2**31 - 1, Date.MIN, 2460370], [Date.MAX, -2**31, 2460377], work)
+            self.assertEqual((list(found.numbers), list(found.statuses), found.error_count), ([-2**31] * 2 + [5], [2, 2, 0], 2))
+            with self.assertRaisesRegex(ValueError, "same length"):
+                fotsevindre.dates_add_workdays([Date.MAX], [1, 2], work)
+            with self.assertRaisesRegex(ValueError, "same length"):
+                fotsevindre.dates_workdays_between([Date.MAX], [Date.MAX] * 2, work)
 
 
 TU, TH, FR, SA, SU = (Weekday[name] for name in ("Tuesday", "Thursday", "Friday", "Saturday", "Sunday"))
