@@ -55,6 +55,7 @@ mod ics;
 #[cfg(any(feature = "chrono", feature = "serde", feature = "time"))]
 mod interop;
 mod iterators;
+mod languages;
 mod months;
 #[cfg(feature = "std")]
 mod std_clock;
@@ -172,6 +173,29 @@ pub mod interval {
 pub mod iter {
     pub use crate::cal_date::DateIter;
     pub use crate::cal_units::iter::{MonthIter, Rev, WeekdayIter};
+}
+
+/// The names of months, weekdays and halves of the day, in twelve languages or as the caller gives
+/// them.
+///
+/// A table of names is a value, and can be a constant. Japanese months begin with a digit, and
+/// Polish months have a second form beside a day:
+///
+/// ```
+/// use fotsevindre::Month;
+/// use fotsevindre::names::{Names, languages, table};
+///
+/// const NAMES: Names<'static> = Names { short_weekdays: ["Mo", "Di", "Mi", "Do", "Fr", "Sa", "So"], ..languages::GERMAN };
+/// assert_eq!(NAMES.short_month(Month::March), "Mär");
+/// assert_eq!(languages::POLISH.month(Month::January), "stycznia");
+/// assert_eq!(languages::POLISH.month_alone(Month::January), "styczeń");
+/// assert_eq!(languages::JAPANESE.month(Month::January), "1月");
+/// // The longest name is found: `Pazar` is Sunday, and `Pazartesi` is Monday.
+/// assert_eq!(table::find(&languages::TURKISH.weekdays, b"Pazartesi 1"), Some(0));
+/// assert_eq!(table::find(&languages::TURKISH.weekdays, b"Pazar 1"), Some(6));
+/// ```
+pub mod names {
+    pub use crate::cal_names::{Names, languages, table};
 }
 
 /// Recurrences of RFC 5545: rules of days and of times of day, sets, and their strings.

@@ -19,7 +19,7 @@ use strip::{Edits, Fault, Options, Source};
 use zones::Zones;
 
 /// The libraries, as modules of the crate.
-const CRATES: [&str; 20] = [
+const CRATES: [&str; 21] = [
     "cal_units",
     "cal_span",
     "cal_clock",
@@ -30,6 +30,7 @@ const CRATES: [&str; 20] = [
     "cal_text",
     "cal_duration",
     "cal_format",
+    "cal_names",
     "cal_zone",
     "cal_zoned",
     "cal_interval",

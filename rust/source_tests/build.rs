@@ -21,6 +21,7 @@ fn main() -> ExitCode {
             "cal_text",
             "cal_duration",
             "cal_format",
+            "cal_names",
             "cal_zone",
             "cal_zoned",
             "cal_interval",

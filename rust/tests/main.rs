@@ -15,6 +15,7 @@ mod intervals;
 mod iso;
 mod lenient;
 mod moments;
+mod names;
 mod rounding;
 mod rows;
 mod rules;

@@ -1,0 +1,6 @@
+use Rattle.std.proofs.Common.{ℕ, ◌<◌, length}
+use Rattle.cal_names.specs.Apart.{IsDistinct, texts}
+use Rattle.cal_names.proofs.table.are_distinct.Given as goal
+
+abbrev pub invariant-loop-i : goal.invariant-loop-i
+invariant-loop-i l = (m : ℕ) → m < l.i → IsDistinct (texts l.names) m (length l.names)
