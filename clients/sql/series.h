@@ -10,7 +10,7 @@
 #include "fotsevindre.h"
 
 #define SQL_PAGE 64
-/* With BYSETPOS a row can cost a few milliseconds. */
+/* With BYSETPOS a row can cost a few milliseconds, and in a zone with many seconds of a day, too. */
 #define SQL_SMALL_PAGE 2
 
 enum sql_step { SQL_ROW, SQL_PAUSE, SQL_END, SQL_FAILED };
@@ -148,10 +148,11 @@ static inline enum sql_step sql_days_step(sql_days *all, fots_date *day)
 
 /* ---- the local times of a recurrence, or its instants in a zone
  *
- * Rules of hours, minutes or seconds are read in windows of a hundred years, up to the year 9999: a
- * rule with an interval can have a day in many thousand years. A window ends with an UNTIL. */
+ * Rules of hours, minutes or seconds are read in windows of ten years, up to the year 9999: a rule with
+ * an interval can have a day in many thousand years, and a rule of seconds can try each second. A window
+ * ends with an UNTIL. */
 
-#define SQL_WINDOW_YEARS 100
+#define SQL_WINDOW_YEARS 10
 #define SQL_LAST_YEAR 9999
 
 typedef struct sql_times {
@@ -162,8 +163,6 @@ typedef struct sql_times {
     int32_t window; /* the year at whose end the window ends, or 0 for the end of the recurrence */
     fots_recurrence_set set; /* has a pointer to the text */
     const fots_zone *zone; /* or NULL for local times */
-    const fots_moment *exceptions; /* local times in the zone, which COUNT counts */
-    size_t exceptions_length;
     fots_moment first, last; /* in the rows, at offset 0: local times without a zone, else at UTC */
     fots_moment from; /* the next local time */
     fots_moment after; /* the last instant */
@@ -171,7 +170,7 @@ typedef struct sql_times {
     int32_t status;
     int is_counting; /* for a zone, until the last time of COUNT is known */
     int is_last, has_until;
-    size_t at, length, page_length;
+    size_t at, length, page_length, zoned_page_length;
     fots_moment page[SQL_PAGE];
 } sql_times;
 
@@ -216,7 +215,7 @@ static inline void sql_times_open_window(sql_times *all, int32_t year)
         memcpy(digits, all->until, 4);
         last_year = (int32_t)strtol(digits, NULL, 10);
     }
-    all->window = year < -SQL_WINDOW_YEARS ? 1 : year + SQL_WINDOW_YEARS;
+    all->window = year <= -SQL_WINDOW_YEARS ? 1 : year + SQL_WINDOW_YEARS;
     if (all->window >= last_year) {
         all->window = 0;
         sql_times_put_until(all, all->until[0] ? all->until : "99991231T235959");
@@ -225,6 +224,13 @@ static inline void sql_times_open_window(sql_times *all, int32_t year)
     /* The first second of the next year, since a second of the start can have a fraction. */
     snprintf(until, sizeof until, "%04d0101T000000", (int)all->window + 1);
     sql_times_put_until(all, until);
+}
+
+/* Returns 1 if a text has a list of more than one second. */
+static inline int sql_has_seconds(const char *text)
+{
+    const char *const list = strstr(text, ";BYSECOND=");
+    return list && list[1 + strcspn(list + 1, ",;")] == ',';
 }
 
 /* Copies the text of a recurrence. Cuts COUNT out of it, and UNTIL if it needs windows. */
@@ -237,6 +243,7 @@ static inline void sql_times_text(sql_times *all, const fots_recurrence_text_res
     }
     all->has_until = strstr(all->text, ";UNTIL=") != NULL;
     all->page_length = strstr(all->text, ";BYSETPOS=") ? SQL_SMALL_PAGE : SQL_PAGE;
+    all->zoned_page_length = strstr(all->text, "FREQ=SECONDLY") || sql_has_seconds(all->text) ? SQL_SMALL_PAGE : all->page_length;
     all->has_windows = strstr(all->text, "FREQ=HOURLY") || strstr(all->text, "FREQ=MINUTELY") || strstr(all->text, "FREQ=SECONDLY");
     if (all->has_windows) {
         sql_times_cut(all, ";UNTIL=", all->until, sizeof all->until);
@@ -253,10 +260,6 @@ static inline void sql_times_restart(sql_times *all)
     all->after = fots_moment_saturating_sub(all->first, nanosecond).moment;
     all->at = all->length = 0;
     all->is_last = 0;
-    if (!all->is_counting && all->exceptions_length > 0) {
-        all->set.exceptions = all->exceptions;
-        all->set.exceptions_length = all->exceptions_length;
-    }
     if (all->has_windows) {
         sql_times_open_window(all, fots_date_year(all->from.date).number);
     }
@@ -307,11 +310,12 @@ static inline enum sql_step sql_times_page(sql_times *all)
 {
     const fots_duration nanosecond = {0, 1};
     const int is_local = !all->zone || all->is_counting;
-    const fots_recurrence_result found = is_local ? fots_recurrence_readings(&all->set, all->from, all->page, all->page_length)
-                                                  : fots_recurrence_moments(&all->set, all->zone, all->after, all->page, all->page_length);
+    const size_t page_length = is_local ? all->page_length : all->zoned_page_length;
+    const fots_recurrence_result found = is_local ? fots_recurrence_readings(&all->set, all->from, all->page, page_length)
+                                                  : fots_recurrence_moments(&all->set, all->zone, all->after, all->page, page_length);
     all->at = 0;
     all->length = found.length;
-    all->is_last = found.length < all->page_length;
+    all->is_last = found.length < page_length;
     all->status = found.status;
     if (found.length > 0) {
         all->after = is_local ? all->after : all->page[found.length - 1];
@@ -474,11 +478,26 @@ static inline int32_t sql_recurrence_add_dates(sql_recurrence *all, fots_moment 
     return FOTS_OK;
 }
 
+/* Gives local times in a zone the offsets at which they are the instants that they mean, in order. A
+ * local time in a gap has the offset before it. */
+static inline void sql_put_offsets(const fots_zone *zone, fots_moment *locals, size_t length)
+{
+    size_t at;
+    for (at = 0; at < length; at++) {
+        const fots_moment_result found = fots_zone_moment(zone, locals[at].date, locals[at].time, FOTS_COMPATIBLE);
+        if (found.status == FOTS_OK) {
+            locals[at].offset.seconds = (int32_t)fots_moment_duration_since(locals[at], found.moment).duration.seconds;
+        }
+    }
+    qsort(locals, length, sizeof *locals, sql_compare);
+}
+
 /* Sets other dates and exceptions, in any order and at offset 0. They stay in the caller's memory, and
  * are changed there. Returns a status. */
 static inline int32_t sql_recurrence_add(sql_recurrence *all, fots_moment *dates, size_t dates_length, fots_moment *exceptions,
     size_t exceptions_length)
 {
+    int32_t status;
     if (dates_length > FOTS_MAX_DATES || exceptions_length > FOTS_MAX_DATES) {
         return FOTS_TOO_MANY_DATES;
     }
@@ -486,13 +505,35 @@ static inline int32_t sql_recurrence_add(sql_recurrence *all, fots_moment *dates
         qsort(exceptions, exceptions_length, sizeof *exceptions, sql_compare);
         all->exceptions = exceptions;
         all->exceptions_length = exceptions_length;
-        if (all->has_times && all->rule.times.zone) {
-            all->rule.times.exceptions = exceptions;
-            all->rule.times.exceptions_length = exceptions_length;
-            sql_times_restart(&all->rule.times);
-        }
     }
-    return sql_recurrence_add_dates(all, dates, dates_length);
+    status = sql_recurrence_add_dates(all, dates, dates_length);
+    if (all->has_times && all->rule.times.zone) {
+        sql_put_offsets(all->rule.times.zone, exceptions, exceptions_length);
+    }
+    return status;
+}
+
+/* Returns 1 if a row of the rule is still one without the exceptions. In a zone another local time of
+ * the rule can be the same instant, if one of both is in a gap. */
+static inline int sql_is_row(const sql_recurrence *all, fots_moment row)
+{
+    const fots_duration nanosecond = {0, 1};
+    fots_recurrence_set set;
+    fots_moment moment = row;
+    size_t from = 0, to;
+    if (!sql_is_exception(all, row) || !all->has_times || !all->rule.times.zone) {
+        return !sql_is_exception(all, row);
+    }
+    while (sql_compare(&all->exceptions[from], &row) != 0) {
+        from++;
+    }
+    for (to = from; to < all->exceptions_length && sql_compare(&all->exceptions[to], &row) == 0; to++) {
+    }
+    set = all->rule.times.set;
+    set.exceptions = &all->exceptions[from];
+    set.exceptions_length = to - from;
+    return fots_recurrence_moments(&set, all->rule.times.zone, fots_moment_saturating_sub(row, nanosecond).moment, &moment, 1).length == 1
+        && sql_compare(&moment, &row) == 0;
 }
 
 /* Makes a step of the rule up to a row that isn't an exception. */
@@ -505,7 +546,7 @@ static inline void sql_recurrence_advance(sql_recurrence *all)
         all->step = sql_days_step(&all->rule.days, &all->next.date);
         all->status = all->rule.days.status;
     }
-    if (all->step == SQL_ROW && !(all->has_times && all->rule.times.zone) && sql_is_exception(all, all->next)) {
+    if (all->step == SQL_ROW && !sql_is_row(all, all->next)) {
         all->step = SQL_PAUSE;
     }
 }

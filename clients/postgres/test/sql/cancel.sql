@@ -29,6 +29,8 @@ SELECT count(*) FROM cal_days('FREQ=DAILY;COUNT=4000000000', '0001-01-01', dater
 INSERT INTO clock VALUES (clock_timestamp());
 SELECT count(*) FROM cal_times_zoned(:'all_times', '0001-01-01', 'Europe/Berlin', tstzrange(NULL, '290000-01-01'), '{0001-01-01}', (SELECT array_agg('0001-01-01'::timestamp + n * interval '1 second') FROM generate_series(1, 1024) AS n));
 INSERT INTO clock VALUES (clock_timestamp());
+SELECT count(*) FROM cal_times_zoned('FREQ=SECONDLY', '0001-01-01', 'Europe/Berlin', tstzrange(NULL, '9000-01-01'), '{0001-01-01}', (SELECT array_agg('0001-01-01'::timestamp + n * interval '1 second') FROM generate_series(1, 1024) AS n));
+INSERT INTO clock VALUES (clock_timestamp());
 SELECT count(*) FROM cal_series('0001-01-01', '999999-01-01', '1 day');
 INSERT INTO clock VALUES (clock_timestamp());
 SELECT count(*) FROM cal_series_local('0001-01-01', '290000-01-01', '1 microsecond');
