@@ -7,7 +7,7 @@ ghost use Rattle.cal_iso.specs.OffsetForm.{HasIsoOffset, IsShift, IsSpacedOffset
 use crate::clock::scan_after_hour;
 use cal_text::{OffsetNumbers, Scanner};
 
-/// Parses an optional space and the numbers of an offset, up to the end of the text.
+/// Parses an optional space and the numbers of an offset, up to the end of the string.
 pub(crate) fn scan_spaced_offset(scanner: &mut Scanner) -> Option<OffsetNumbers>
     ensures scans { ScansWhole (SpacedOffset End) scanner.old.rest.now scanner.new.rest.now result }
     ensures value { IfSome result (IsSpacedOffset scanner.old.rest.now) }
@@ -24,7 +24,7 @@ pub(crate) fn scan_spaced_offset(scanner: &mut Scanner) -> Option<OffsetNumbers>
     }
 }
 
-/// Parses the numbers of an offset up to the end of the text.
+/// Parses the numbers of an offset up to the end of the string.
 fn scan_offset(scanner: &mut Scanner) -> Option<OffsetNumbers>
     ensures scans { ScansWhole (Offset End) scanner.old.rest.now scanner.new.rest.now result }
     ensures value { IfSome result (HasIsoOffset scanner.old.rest.now) }
@@ -44,7 +44,7 @@ fn scan_offset(scanner: &mut Scanner) -> Option<OffsetNumbers>
     }
 }
 
-/// Parses a sign, hours, and perhaps minutes and seconds, up to the end of the text.
+/// Parses a sign, hours, and perhaps minutes and seconds, up to the end of the string.
 fn scan_shift(scanner: &mut Scanner) -> Option<OffsetNumbers>
     ensures scans { ScansWhole (Shift End) scanner.old.rest.now scanner.new.rest.now result }
     ensures value { IfSome result (IsShift scanner.old.rest.now) }

@@ -8,7 +8,7 @@ ghost use Rattle.cal_iso.specs.IsoShape.{AfterHyphen, BasicRest, Date, Expanded,
 
 use cal_text::{DateNumbers, Scanner};
 
-/// Parses the numbers of a date up to the end of the text.
+/// Parses the numbers of a date up to the end of the string.
 pub(super) fn scan_whole_date(scanner: &mut Scanner) -> Option<DateNumbers>
     ensures scans { ScansWhole (Date End) scanner.old.rest.now scanner.new.rest.now result }
     ensures value { IfSome result (HasIsoDate scanner.old.rest.now) }

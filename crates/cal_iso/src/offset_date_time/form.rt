@@ -8,7 +8,7 @@ use crate::offset::scan_spaced_offset;
 use crate::plain::form::scan_date_time;
 use cal_text::{OffsetDateTimeNumbers, Scanner};
 
-/// Parses the numbers of a date-time and an offset up to the end of the text.
+/// Parses the numbers of a date-time and an offset up to the end of the string.
 pub(super) fn scan_moment(scanner: &mut Scanner) -> Option<OffsetDateTimeNumbers>
     ensures scans { ScansWhole (Moment End) scanner.old.rest.now scanner.new.rest.now result }
     ensures value { IfSome result (HasIsoMoment scanner.old.rest.now) }

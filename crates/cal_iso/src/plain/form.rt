@@ -8,7 +8,7 @@ use crate::date::form::scan_date;
 use crate::time::form::{scan_clock, scan_clock_to_end};
 use cal_text::{PlainNumbers, Scanner, TimeNumbers, scan_separator};
 
-/// Parses the numbers of a date and perhaps of a time of day, up to the end of the text.
+/// Parses the numbers of a date and perhaps of a time of day, up to the end of the string.
 pub(super) fn scan_whole_plain(scanner: &mut Scanner) -> Option<PlainNumbers>
     ensures scans { ScansWhole (Plain End) scanner.old.rest.now scanner.new.rest.now result }
     ensures value { IfSome result (HasIsoPlain scanner.old.rest.now) }
@@ -18,7 +18,7 @@ pub(super) fn scan_whole_plain(scanner: &mut Scanner) -> Option<PlainNumbers>
     Some(PlainNumbers { date, time })
 }
 
-/// Parses a separator and a time of day up to the end of the text, or the end.
+/// Parses a separator and a time of day up to the end of the string, or the end.
 fn scan_or_midnight(scanner: &mut Scanner) -> Option<TimeNumbers>
     ensures scans { ScansWhole (OrMidnight End) scanner.old.rest.now scanner.new.rest.now result }
     ensures value { IfSome result (IsTimeOrMidnight scanner.old.rest.now) }

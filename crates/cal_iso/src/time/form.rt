@@ -7,7 +7,7 @@ ghost use Rattle.cal_iso.specs.TimeForm.{HasIsoClock, HasIsoTime};
 use crate::clock::scan_after_hour;
 use cal_text::{Scanner, TimeNumbers};
 
-/// Parses the numbers of a time of day, perhaps after the letter T, up to the end of the text.
+/// Parses the numbers of a time of day, perhaps after the letter T, up to the end of the string.
 pub(super) fn scan_whole_time(scanner: &mut Scanner) -> Option<TimeNumbers>
     ensures scans { ScansWhole (Time End) scanner.old.rest.now scanner.new.rest.now result }
     ensures value { IfSome result (HasIsoTime scanner.old.rest.now) }
@@ -21,7 +21,7 @@ pub(super) fn scan_whole_time(scanner: &mut Scanner) -> Option<TimeNumbers>
     }
 }
 
-/// Parses the numbers of a time of day up to the end of the text.
+/// Parses the numbers of a time of day up to the end of the string.
 pub(crate) fn scan_clock_to_end(scanner: &mut Scanner) -> Option<TimeNumbers>
     ensures scans { ScansWhole (Clock End) scanner.old.rest.now scanner.new.rest.now result }
     ensures value { IfSome result (HasIsoClock scanner.old.rest.now) }
