@@ -1,4 +1,4 @@
-//! Intervals of dates in text, such as `2024-01-01/P1M`.
+//! Intervals of dates as strings, such as `2024-01-01/P1M`.
 ghost use Rattle.std.specs.Prelude.{◌≡◌, ◌↔◌, ℕ, IfErr, IfOk, Ok, Option};
 ghost use Rattle.cal_text.specs.Position.{HasSome};
 ghost use Rattle.cal_interval.specs.declared.error.IntervalComponent.{IntervalComponent};

@@ -35,21 +35,21 @@ pub enum IntervalError {
     CountOutOfRange,
 }
 
-/// An error: a text is not an interval, or a part of the interval is out of range. It prints, for
-/// example, `unexpected byte at 4`, `unexpected end at 2`, `month was not in range` or `years was
-/// not in range`.
+/// An error: a string is not an interval, or a part of the interval is out of range. It prints,
+/// for example, `unexpected byte at 4`, `unexpected end at 2`, `month was not in range` or
+/// `years was not in range`.
 #[derive(Clone, Copy, Debug, PartialEq, Eq)]
 pub enum ParseIntervalError {
-    /// The position, from 0, of the first byte that no text of the form has there.
+    /// The position, from 0, of the first byte that no string of the form has there.
     UnexpectedByte(usize),
-    /// The length of a text that ends too early: more bytes could complete it.
+    /// The length of a string that ends too early: more bytes could complete it.
     UnexpectedEnd(usize),
-    /// A part is out of range in a text that has the form.
+    /// A part is out of range in a string that has the form.
     OutOfRange(IntervalComponent),
 }
 
 impl ParseIntervalError {
-    /// Creates the error of a text of `len` bytes that stops matching a form at `position`, which
+    /// Creates the error of a string of `len` bytes that stops matching a form at `position`, which
     /// is `len` or less.
     pub(crate) fn unexpected(position: usize, len: usize) -> Self
         requires { position ≤ len }

@@ -1,4 +1,5 @@
-//! Consequences of the contracts: a text has at most one value, and an interval at most one range.
+//! Consequences of the contracts: a string has at most one value, and an interval has at most one
+//! range.
 ghost use Rattle.std.specs.Prelude.{◌≡◌, ℕ, Option, Result};
 ghost use Rattle.cal_schedule.specs.Ranges.{Range};
 ghost use Rattle.cal_interval.specs.declared.error.IntervalError.{IntervalError};
@@ -14,7 +15,7 @@ use crate::plain::DateTimeInterval;
 use crate::{date, plain};
 use cal_schedule::{checked_add_period, nth_period};
 
-/// Parses an interval of dates. A text is the text of at most one.
+/// Parses an interval of dates. A string is parsed as at most one.
 pub(crate) fn one_date_interval(text: &[u8]) -> Result<DateInterval, ParseIntervalError>
     ensures { (v w : DateInterval) → IsDateIntervalText text.now v → IsDateIntervalText text.now w
         → v ≡ w }
@@ -22,7 +23,7 @@ pub(crate) fn one_date_interval(text: &[u8]) -> Result<DateInterval, ParseInterv
     date::parse(text)
 }
 
-/// Parses an interval of local date-times. A text is the text of at most one.
+/// Parses an interval of local date-times. A string is parsed as at most one.
 pub(crate) fn one_date_time_interval(text: &[u8]) -> Result<DateTimeInterval, ParseIntervalError>
     ensures { (v w : DateTimeInterval) → IsDateTimeIntervalText text.now v
         → IsDateTimeIntervalText text.now w → v ≡ w }
@@ -30,7 +31,7 @@ pub(crate) fn one_date_time_interval(text: &[u8]) -> Result<DateTimeInterval, Pa
     plain::parse(text)
 }
 
-/// Parses a repeated interval of dates. A text is the text of at most one.
+/// Parses a repeated interval of dates. A string is parsed as at most one.
 pub(crate) fn one_repeated_dates(
     text: &[u8],
 ) -> Result<(Option<u64>, DateInterval), ParseIntervalError>
@@ -40,7 +41,7 @@ pub(crate) fn one_repeated_dates(
     date::parse_repeated(text)
 }
 
-/// Parses a repeated interval of local date-times. A text is the text of at most one.
+/// Parses a repeated interval of local date-times. A string is parsed as at most one.
 pub(crate) fn one_repeated_date_times(
     text: &[u8],
 ) -> Result<(Option<u64>, DateTimeInterval), ParseIntervalError>

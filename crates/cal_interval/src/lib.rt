@@ -1,4 +1,4 @@
-//! Intervals and repeated intervals in text (ISO 8601-1), of dates or of local date-times.
+//! Intervals and repeated intervals as strings (ISO 8601-1), of dates or of local date-times.
 #![tactic(auto)]
 
 pub mod date;

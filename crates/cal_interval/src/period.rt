@@ -1,4 +1,4 @@
-//! The period of an interval in text.
+//! The period of an interval in a string.
 ghost use Rattle.std.specs.Prelude.{◌≡◌, ◌∷◌, ◌↔◌, IfNone, IfOk, IfSome, IsErrAnd, IsTrue, Ok};
 ghost use Rattle.cal_text.specs.Shape.{GoesPast};
 ghost use Rattle.cal_schedule.specs.Period.{Parts};

@@ -1,4 +1,4 @@
-//! Intervals of local date-times in text, such as `2024-01-01T08:00/PT90M`.
+//! Intervals of local date-times as strings, such as `2024-01-01T08:00/PT90M`.
 ghost use Rattle.std.specs.Prelude.{◌≡◌, ◌↔◌, ℕ, IfErr, IfOk, Ok, Option};
 ghost use Rattle.cal_text.specs.Position.{HasSome};
 ghost use Rattle.cal_interval.specs.declared.error.IntervalComponent.{IntervalComponent};

@@ -1,4 +1,4 @@
-//! The text of intervals of dates.
+//! The strings of intervals of dates.
 ghost use Rattle.std.specs.Prelude.{Some};
 ghost use Rattle.cal_interval.specs.IntervalText.{date_interval_text};
 

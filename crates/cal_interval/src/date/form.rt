@@ -12,7 +12,7 @@ use cal_duration::scan_number;
 use cal_text::{DateNumbers, Scanner, scan_date};
 
 /// Parses the letter R, a number of occurrences or none, a slash and the numbers of an interval up
-/// to the end of the text.
+/// to the end of the string.
 pub(super) fn scan_repeated(scanner: &mut Scanner) -> Option<(Option<u64>, DateIntervalNumbers)>
     ensures scans { ScansToEnd (Repeated Date)
         scanner.old.rest.now scanner.new.rest.now result }
@@ -25,7 +25,7 @@ pub(super) fn scan_repeated(scanner: &mut Scanner) -> Option<(Option<u64>, DateI
     Some((count, interval))
 }
 
-/// Parses the numbers of an interval up to the end of the text.
+/// Parses the numbers of an interval up to the end of the string.
 pub(super) fn scan_interval(scanner: &mut Scanner) -> Option<DateIntervalNumbers>
     ensures scans { ScansToEnd (Interval Date)
         scanner.old.rest.now scanner.new.rest.now result }
@@ -47,7 +47,7 @@ pub(super) fn scan_interval(scanner: &mut Scanner) -> Option<DateIntervalNumbers
     }
 }
 
-/// Parses the period or the end after a start, up to the end of the text.
+/// Parses the period or the end after a start, up to the end of the string.
 fn scan_period_or_end(scanner: &mut Scanner, start: DateNumbers) -> Option<DateIntervalNumbers>
     ensures scans { ScansToEnd (PeriodOrEnd Date)
         scanner.old.rest.now scanner.new.rest.now result }

@@ -1,9 +1,9 @@
-//! The numbers of an interval of dates in text.
+//! The numbers of an interval of dates in a string.
 
 use cal_duration::Numbers;
 use cal_text::DateNumbers;
 
-/// The numbers of an interval of dates in text. They need not be in range.
+/// The numbers of an interval of dates in a string. They need not be in range.
 #[derive(Clone, Copy)]
 pub(crate) enum DateIntervalNumbers {
     /// A start and an end.

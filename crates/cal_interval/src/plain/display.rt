@@ -1,4 +1,4 @@
-//! The text of intervals of local date-times.
+//! The strings of intervals of local date-times.
 ghost use Rattle.std.specs.Prelude.{Some};
 ghost use Rattle.cal_interval.specs.IntervalText.{date_time_interval_text};
 

@@ -1,9 +1,9 @@
-//! The numbers of an interval of local date-times in text.
+//! The numbers of an interval of local date-times in a string.
 
 use cal_duration::Numbers;
 use cal_text::PlainNumbers;
 
-/// The numbers of an interval of local date-times in text. They need not be in range.
+/// The numbers of an interval of local date-times in a string. They need not be in range.
 #[derive(Clone, Copy)]
 pub(crate) enum DateTimeIntervalNumbers {
     /// A start and an end.
