@@ -256,7 +256,11 @@ enum fots_status {
     FOTS_MISSING_START = 82, /* expected the start of the interval to repeat */
     FOTS_PERIOD_NOT_POSITIVE = 83, /* expected a positive period to repeat */
     FOTS_COUNT_OUT_OF_RANGE = 84, /* expected 1 to 4294967295 repetitions */
-    FOTS_INVALID_CALENDAR = 85 /* expected 0 (TARGET) to 19 (Thuringia) */
+    FOTS_INVALID_CALENDAR = 85, /* expected 0 (TARGET) to 19 (Thuringia) */
+    FOTS_UNCLOSED_EVENT = 86, /* no line END ends an event of a calendar file */
+    FOTS_OTHER_END = 87, /* a line END that isn't END:VEVENT ends an event */
+    FOTS_OTHER_ZONE = 88, /* a line names another zone than a line before it, or two (TZID) */
+    FOTS_WRONG_KIND = 89 /* a line of an event has a value of another kind, such as a time with Z */
 };
 
 /* Returns the name of a status: the component, such as "day", or words such as "result out of
@@ -350,6 +354,10 @@ static inline const char *fots_status_name(int32_t status)
     case FOTS_PERIOD_NOT_POSITIVE: return "period not positive";
     case FOTS_COUNT_OUT_OF_RANGE: return "count out of range";
     case FOTS_INVALID_CALENDAR: return "invalid calendar";
+    case FOTS_UNCLOSED_EVENT: return "unclosed event";
+    case FOTS_OTHER_END: return "other end of an event";
+    case FOTS_OTHER_ZONE: return "other zone";
+    case FOTS_WRONG_KIND: return "wrong kind of value";
     default: return "unknown";
     }
 }
@@ -562,6 +570,34 @@ typedef struct fots_recurrence_text_result {
     uint32_t length; /* in bytes, or 0 */
     char bytes[4064]; /* ASCII, then zero bytes */
 } fots_recurrence_text_result;
+
+/* Where the lines of an event are in a text. For FOTS_UNCLOSED_EVENT, position is the start of its
+ * BEGIN:VEVENT, and for FOTS_OTHER_END the start of the wrong END. After each error next is SIZE_MAX
+ * and length 0, and position is SIZE_MAX for FOTS_RESULT_OUT_OF_RANGE. */
+typedef struct fots_event_result {
+    int32_t status;
+    size_t position; /* of the first line after BEGIN:VEVENT */
+    size_t length; /* of the lines before END:VEVENT, in bytes */
+    size_t next; /* the position after END:VEVENT and its line break */
+} fots_event_result;
+
+/* The number of values that were written. For an invalid line of an event, line is a
+ * fots_event_line, or 0 for FOTS_MISSING_START. position is the start of the line, or the length of
+ * the lines for FOTS_MISSING_START, or else SIZE_MAX, as it is for FOTS_WRONG_KIND. */
+typedef struct fots_event_set_result {
+    int32_t status;
+    uint32_t line; /* or 0 */
+    size_t length; /* or 0 */
+    size_t position;
+} fots_event_set_result;
+
+typedef struct fots_event_start_result {
+    int32_t status;
+    uint32_t line; /* this and position as above */
+    size_t position;
+    fots_moment start; /* at the offset 0, or an invalid moment */
+    uint32_t kind; /* a fots_event_kind, or 0 */
+} fots_event_start_result;
 
 typedef struct fots_workdays_result {
     int32_t status;
@@ -1084,6 +1120,70 @@ static inline fots_recurrence_set fots_recurrence_set_new(const char *text, size
  * "FREQ=DAILY;BYHOUR=9,17;COUNT=3" from 1997-09-02 9:00 on has 9:00 and 17:00 on that day, and 9:00
  * on the next one. */
 fots_recurrence_result fots_recurrence_readings(const fots_recurrence_set *set, fots_moment from, fots_moment *readings, size_t readings_length);
+
+/* ---- events of calendar files */
+
+/* The lines of an event that its set has. */
+enum fots_event_line {
+    FOTS_EVENT_DTSTART = 1,
+    FOTS_EVENT_RRULE = 2,
+    FOTS_EVENT_RDATE = 3,
+    FOTS_EVENT_EXDATE = 4
+};
+
+/* The kinds of DTSTART. */
+enum fots_event_kind {
+    FOTS_EVENT_DATE = 1, /* 20240131: read days */
+    FOTS_EVENT_LOCAL = 2, /* 20240131T090000: read moments in a zone, or readings */
+    FOTS_EVENT_UTC = 3 /* 20240131T090000Z: read readings, which are in UTC */
+};
+
+/* Writes a text without its folds (RFC 5545): LF or CR LF, and a space or a tab. Returns the number
+ * of bytes, or FOTS_BUFFER_TOO_SHORT with the length of the text if the buffer has fewer bytes. The
+ * buffer must not overlap the text. "RDATE:20240704,\r\n 20240705" becomes
+ * "RDATE:20240704,20240705". */
+fots_length_result fots_unfold(const char *text, size_t text_length, char *bytes, size_t bytes_length);
+
+/* Finds the first VEVENT of a calendar file (RFC 5545) whose lines are unfolded. Call it again with
+ * the rest of the text from `next` on, until it returns FOTS_RESULT_OUT_OF_RANGE. The other errors
+ * are FOTS_UNCLOSED_EVENT and FOTS_OTHER_END. Lines end with LF or CR LF, and names match in any
+ * case. The lines of components in an event, such as VALARM, aren't lines of the event. In
+ * "BEGIN:VEVENT\nUID:1\nEND:VEVENT\n", position is 13, length 6 and next 30. */
+fots_event_result fots_event_first(const char *text, size_t text_length);
+
+/* Writes the value of the first line of an event with a name, such as SUMMARY or DTEND. Returns
+ * FOTS_RESULT_OUT_OF_RANGE without such a line, and FOTS_BUFFER_TOO_SHORT with the length. Escapes
+ * such as \, stay. The buffer must not overlap the text. For "SUMMARY;LANGUAGE=en:Meeting" it is
+ * "Meeting". */
+fots_length_result fots_event_value(const char *lines, size_t lines_length, const char *name, size_t name_length, char *bytes,
+    size_t bytes_length);
+
+/* Writes the name of the zone of an event, the TZID of its set. Returns FOTS_RESULT_OUT_OF_RANGE if
+ * no line of the set names a zone, the status of the first invalid line, or FOTS_BUFFER_TOO_SHORT
+ * with the length. For "DTSTART;TZID=Europe/Berlin:20240101T090000" it is "Europe/Berlin". */
+fots_length_result fots_event_zone(const char *lines, size_t lines_length, char *bytes, size_t bytes_length);
+
+/* Returns the start of an event and its kind. The set of an event is its lines DTSTART, RRULE, RDATE
+ * and EXDATE. Calls for the set return the first invalid line: FOTS_DUPLICATE_PART for a second
+ * DTSTART or RRULE, FOTS_TOO_MANY_VALUES for more than 62 values, FOTS_INVALID_VALUE,
+ * FOTS_OTHER_ZONE, or the status of the first wrong part of an RRULE; or else FOTS_MISSING_START.
+ * For "DTSTART:20240101T090000Z" it is 2024-01-01 9:00, FOTS_EVENT_UTC. */
+fots_event_start_result fots_event_start(const char *lines, size_t lines_length);
+
+/* Writes the days of an event of dates from a date on, in order, and returns their number:
+ * `days_length`, or fewer if no more follow. COUNT counts from the start, without the other dates.
+ * After errors of the lines come FOTS_INVALID_DATE, and FOTS_WRONG_KIND with the first line with a
+ * time of day, or RRULE with periods within days. The array must not overlap the lines.
+ * "DTSTART:20240101\nRRULE:FREQ=DAILY;COUNT=3" has 2024-01-02 and 2024-01-03 from 2024-01-02 on. */
+fots_event_set_result fots_event_days(const char *lines, size_t lines_length, fots_date from, fots_date *days, size_t days_length);
+
+/* Writes the readings of an event of times from a reading on, as fots_recurrence_readings does. If
+ * DTSTART has a Z, they are date-times in UTC. After errors of the lines come FOTS_INVALID_MOMENT,
+ * and FOTS_WRONG_KIND with the first line with a date, or with a time with Z if DTSTART has no Z, or
+ * the other way round. The array must not overlap the lines. "DTSTART:20240101T090000\n
+ * RRULE:FREQ=DAILY;COUNT=2" has 9:00 on 2024-01-01 and 2024-01-02. */
+fots_event_set_result fots_event_readings(const char *lines, size_t lines_length, fots_moment from, fots_moment *readings,
+    size_t readings_length);
 
 /* ---- day counts */
 
@@ -1798,6 +1898,15 @@ fots_moment_result fots_zone_moment(const fots_zone *zone, fots_date date, fots_
  * +02:00 after 2024-03-31 0:00 UTC. */
 fots_recurrence_result fots_recurrence_moments(const fots_recurrence_set *set, const fots_zone *zone, fots_moment after, fots_moment *moments,
     size_t moments_length);
+
+/* Writes the moments of an event with a local DTSTART in a zone, after a moment, as
+ * fots_recurrence_moments does. Values of RDATE and EXDATE with Z are instants. After errors of the
+ * lines come FOTS_INVALID_MOMENT, FOTS_INVALID_ZONE, and FOTS_WRONG_KIND with the first of DTSTART,
+ * RDATE and EXDATE with a date, or DTSTART with a Z. The array must not overlap the lines or the
+ * zone. "DTSTART:20240330T023000\nRRULE:FREQ=DAILY;COUNT=2" in Berlin has 2024-03-31 3:30 +02:00
+ * after 2024-03-31 0:00 UTC. */
+fots_event_set_result fots_event_moments(const char *lines, size_t lines_length, const fots_zone *zone, fots_moment after,
+    fots_moment *moments, size_t moments_length);
 
 /* Writes the offsets at Unix times, as other calls for columns do. */
 size_t fots_zone_offsets(const fots_zone *zone, const int64_t *seconds, size_t seconds_length, int32_t *offsets, size_t offsets_length,

@@ -128,6 +128,13 @@ static const char *const durations[] = {"P1Y2M10DT2H30M", "-P1D", "PT36H", "P2W"
 
 static const char *const intervals[] = {"2024-01-01/2024-02-01", "2024-01-31/P1M", "P1Y/2024-02-29", "2024-02-01/2024-01-01", "2024-03-30T09:30/P1DT2H", "2024-03-30T09:30/2024-03-31T00:00", "PT8H/2024-03-30T17:00",
     "R12/2024-01-31/P1M", "R/2024-02-29/P1Y", "R3/P1W/2024-03-01", "R0/2024-01-01/P1D", "R2/2024-01-01/2024-01-15", "R99999999999/2024-01-01/P1D", "2024-01-01/P0D"};
+static const char *const calendars[] = {"BEGIN:VCALENDAR\r\nBEGIN:VEVENT\r\nUID:one\r\nSUMMARY:Team\r\n  meeting\r\nDTSTART:20240101T090000Z\r\nBEGIN:VALARM\r\nEND:VALARM\r\nEND:VEVENT\r\nEND:VCALENDAR\r\n",
+    "BEGIN:VEVENT\nDTSTART:20240101\nEND:VEVENT\nBEGIN:VEVENT\nDTSTART:20240102\nEND:VEVENT", "BEGIN:VEVENT\nUID:1\nEND:VCALENDAR\n", "X:1\nBEGIN:VEVENT\nUID:1\n\t2\n", "BEGIN:VTODO\nEND:VTODO"};
+static const char *const events[] = {"SUMMARY:Rent\r\nDTSTART;VALUE=DATE:20240131\r\nRRULE:FREQ=MONTHLY;BYMONTHDAY=-1;COUNT=9\r\nEXDATE;VALUE=DATE:20240229\r\n",
+    "DTSTART;TZID=Europe/Berlin:20240330T023000\nRRULE:FREQ=DAILY;COUNT=30\nRDATE:20240601T100000Z\nEXDATE;TZID=Europe/Berlin:20240401T023000\n",
+    "DTSTART:20240101T090000Z\nRRULE:FREQ=WEEKLY;BYDAY=MO,TH;UNTIL=20241231T235959Z\nBEGIN:VALARM\nDTSTART:1\nEND:VALARM\nDTEND:20240101T100000Z\n",
+    "DTSTART:20240101T090000\nRDATE:20240105T090000,20240103T090000\nsummary;LANGUAGE=en:Talk\n", "DTSTART:20240101\nRRULE:FREQ=HOURLY\n", "RRULE:FREQ=DAILY\nUID:1\n", "DTSTART;TZID=A:20240101T090000\nEXDATE;TZID=B:20240101T090000\n"};
+static const char *const properties[] = {"SUMMARY", "dtend", "UID", "DTSTART", "RRULE"};
 static const char *const iso_texts[] = {"20240229", "2024-060", "2024060", "2024-W09", "2024W094", "T232050,5", "2320", "23", "20240229T235959", "2024-02-29 22:59:59.25+00", "19850412T101530+0400", "1985-04-12t23:20:50.52z", "+0020240229"};
 
 static char drawn_text[256];
@@ -175,6 +182,9 @@ static size_t any_recurrence_text(void) { return text_of(recurrences, COUNT(recu
 static size_t any_duration_text(void) { return text_of(durations, COUNT(durations)); }
 static size_t any_interval_text(void) { return text_of(intervals, COUNT(intervals)); }
 static size_t any_iso_text(void) { return text_of(iso_texts, COUNT(iso_texts)); }
+static size_t any_calendar_text(void) { return text_of(calendars, COUNT(calendars)); }
+static size_t any_event(void) { return text_of(events, COUNT(events)); }
+static size_t any_property(void) { return text_of(properties, COUNT(properties)); }
 static size_t any_zone_text(void) { return text_of(zones, COUNT(zones)); }
 
 static fots_format any_fots_format(void)

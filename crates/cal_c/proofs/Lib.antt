@@ -40,3 +40,5 @@ pub mod FormatRows
 pub mod LaterMoments
 pub mod WrittenMoments
 pub mod Calendars
+pub mod EventSets
+pub mod OneEvent

@@ -32,3 +32,4 @@ pub mod FormatColumns
 pub mod OnePass
 pub mod TextSets
 pub mod Calendars
+pub mod Events

@@ -5,6 +5,7 @@ pub mod calendars;
 mod date_list;
 pub mod date_ranges;
 mod easter;
+mod events;
 pub mod laws;
 mod months;
 pub mod pair_periods;

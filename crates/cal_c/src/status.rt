@@ -242,6 +242,18 @@ pub const COUNT_OUT_OF_RANGE: i32 = 84;
 /// No calendar has the number.
 pub const INVALID_CALENDAR: i32 = 85;
 
+/// No line ends an event.
+pub const UNCLOSED_EVENT: i32 = 86;
+
+/// A line `END` of another component ends an event.
+pub const OTHER_END: i32 = 87;
+
+/// A line of an event names another zone than a line before it, or two zones.
+pub const OTHER_ZONE: i32 = 88;
+
+/// A line of an event has a value of another kind than the call reads, such as a date.
+pub const WRONG_KIND: i32 = 89;
+
 /// Returns the status of an error, by its component.
 pub fn error_status(error: ComponentRange) -> i32
     ensures { result ≡ component_status error.component }

@@ -12,12 +12,12 @@ mod days;
 mod formatting;
 mod laws;
 mod lists;
-mod moments;
+pub(super) mod moments;
 mod months;
 mod parsing;
-mod readings;
+pub(super) mod readings;
 mod recurrence_parts;
-mod results;
+pub(super) mod results;
 mod rule_dates;
 mod rule_from_parts;
 mod rule_parts;
@@ -29,7 +29,7 @@ use crate::results::{DateResult, NumberResult};
 use crate::schedule::results::DaysResult;
 use crate::status::INVALID_DATE;
 use crate::values::valid_date;
-use cal_recurrence::RecurrenceSet;
+use cal_recurrence::{RecurrenceSet, RecurrenceSetDays};
 use cal_time::Date;
 use rule_dates::checked_rule;
 use rule_parts::RuleParts;
@@ -120,7 +120,13 @@ pub extern "C" fn fots_rule_days_after(
 fn write_days(set: &RecurrenceSet<'_>, date: Date, days: &mut [i32]) -> usize
     ensures { AreDatesWritten (set_days_after set.now date) days.old days.new result }
 {
-    let mut walk = set.days_after(date);
+    write_walk(set.days_after(date), days)
+}
+
+/// Writes the days of an iterator, as many as fit in the array, and returns their number.
+pub(super) fn write_walk(mut walk: RecurrenceSetDays<'_>, days: &mut [i32]) -> usize
+    ensures { AreDatesWritten walk.entry days.old days.new result }
+{
     for index in 0..days.len() {
         let Some(day) = walk.next() else {
             return index;

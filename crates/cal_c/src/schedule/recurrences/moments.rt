@@ -78,7 +78,7 @@ fn write_in_zone<'a>(
 }
 
 /// Returns the zone of the bytes of a file, or else of a POSIX text.
-fn zone_of(bytes: &[u8]) -> Option<Zone<'_>>
+pub(crate) fn zone_of(bytes: &[u8]) -> Option<Zone<'_>>
     ensures some { IfSome result (IsZoneOf bytes.now) }
     ensures every { (z : Timeline) → IsZoneOf bytes.now z → result ≡ Some z }
 {
@@ -104,7 +104,7 @@ fn c_moment(moment: OffsetDateTime) -> Moment
 }
 
 /// Writes the moments of a set after a moment, as many as fit, and returns their number.
-fn write_moments(
+pub(crate) fn write_moments(
     set: &mut CountedZonedSet<'_>,
     after: OffsetDateTime,
     moments: &mut [Moment],

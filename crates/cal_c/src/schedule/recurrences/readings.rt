@@ -66,7 +66,7 @@ fn utc_moment(reading: PlainDateTime) -> Moment
 }
 
 /// Writes the readings of an iterator, as many as fit, and returns their number.
-fn write_readings(mut walk: DateTimeSetReadings<'_>, readings: &mut [Moment]) -> usize
+pub(crate) fn write_readings(mut walk: DateTimeSetReadings<'_>, readings: &mut [Moment]) -> usize
     ensures { AreReadingsWritten walk.entry readings.old readings.new result }
 {
     for index in 0..readings.len() {

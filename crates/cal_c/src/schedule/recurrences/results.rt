@@ -40,7 +40,7 @@ fn part_number(part: RulePart) -> u32
     }
 }
 
-pub(super) fn reason_status(reason: ParseRuleErrorKind) -> i32
+pub(crate) fn reason_status(reason: ParseRuleErrorKind) -> i32
     ensures { result ≡ reason_status reason }
 {
     match reason {

@@ -2,14 +2,13 @@ use Rattle.std.proofs.Common.{◌≡◌, ◌∙◌, arith, ap, rules, sym, get_o
 use Rattle.std.proofs.lemmas.Grind.{common_steps}
 use Rattle.std.proofs.lemmas.Int.{to_z-of_z}
 use Rattle.cal_time.specs.Date.{julian_day_at}
-use Rattle.cal_recurrence.specs.Sets.{set_days_after}
 use Rattle.cal_c.proofs.Recurring.{goes_on, kept_more, more_left, none_left, written_more}
-use Rattle.cal_c.proofs.schedule.recurrences.write_days.Goals as goal
+use Rattle.cal_c.proofs.schedule.recurrences.write_walk.Goals as goal
 
 pub loop-index-preserved : goal.loop-index-preserved
 loop-index-preserved c =
     let kept = c.loop-index.invariant in
-    let days = set_days_after c.args.set.now c.args.date in
+    let days = c.args.walk in
     let index = c.loop-index.index in
     let from = kept.left ∙ c.in-Some.ensures.steps in
     let more = more_left days c.next.new.self index c.in-Some.day from in
@@ -28,7 +27,7 @@ loop-index-preserved c =
 pub returns-in_default : goal.returns-in_default
 returns-in_default c =
     let kept = c.loop-index.invariant in
-    let days = set_days_after c.args.set.now c.args.date in
+    let days = c.args.walk in
     let end = none_left days c.loop-index.index (kept.left ∙ c.in_default.ensures.steps.0) in
     record { count_is = omega (arith, end); days = kept.written; others = kept.others }
 
