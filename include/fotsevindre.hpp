@@ -71,7 +71,8 @@ private:
             return "unexpected end at " + std::to_string(position);
         }
         if ((status >= FOTS_UNKNOWN_PART && status <= FOTS_MISSING_FREQUENCY) || status == FOTS_UNKNOWN_ITEM
-            || (status >= FOTS_NOT_A_ZONE_FILE && status <= FOTS_TRAILING_BYTES && position != SIZE_MAX)) {
+            || (status >= FOTS_NOT_A_ZONE_FILE && status <= FOTS_TRAILING_BYTES && position != SIZE_MAX)
+            || ((status == FOTS_MISSING_START || (status >= FOTS_UNCLOSED_EVENT && status <= FOTS_OTHER_ZONE)) && position != SIZE_MAX)) {
             return fots_status_name(status) + (" at " + std::to_string(position));
         }
         if (status == FOTS_INVALID_HOLIDAYS && position != SIZE_MAX) {
@@ -100,6 +101,19 @@ public:
 
 private:
     std::uint32_t part_;
+};
+
+// Thrown for the first invalid line of an Event: position() is its start in the lines.
+class parse_event_error : public error {
+public:
+    parse_event_error(std::int32_t status, std::size_t position, std::uint32_t line) : error(status, position), line_(line) {}
+
+    // Returns the line, such as FOTS_EVENT_RDATE, or 0 for FOTS_MISSING_START. For
+    // FOTS_WRONG_KIND position() is SIZE_MAX.
+    std::uint32_t line() const noexcept { return line_; }
+
+private:
+    std::uint32_t line_;
 };
 
 namespace detail {
@@ -138,6 +152,15 @@ template <class Result> Result recurrence_or_throw(Result result)
         throw parse_rule_error(result.status, result.position, result.part);
     }
     return result;
+}
+
+// Returns the result of a function that reads the set of an event, or throws a parse_event_error.
+template <class Result> Result event_or_throw(Result result)
+{
+    if (result.status != FOTS_OK && (result.line != 0 || result.position != SIZE_MAX)) {
+        throw parse_event_error(result.status, result.position, result.line);
+    }
+    return value_or_throw(result);
 }
 
 // Returns whether there is a result, false for FOTS_RESULT_OUT_OF_RANGE, or throws an error.
@@ -1905,6 +1928,108 @@ private:
         return moments;
     }
 };
+
+// A kind of start of an event: a date, a local time, or a time in UTC.
+enum class EventKind : std::uint32_t { date = FOTS_EVENT_DATE, local = FOTS_EVENT_LOCAL, utc = FOTS_EVENT_UTC };
+
+// An event of a calendar file (RFC 5545): the lines of a VEVENT. A function for its set throws a
+// parse_event_error for the first invalid line DTSTART, RRULE, RDATE or EXDATE.
+class Event {
+public:
+    // Takes lines without folds, which end with LF or CR LF.
+    explicit Event(std::string its_lines) : lines_(std::move(its_lines)) {}
+
+    const std::string &lines() const noexcept { return lines_; }
+
+    // Returns the value of the first line with a name in any case, such as "SUMMARY" or "DTEND", if
+    // there is one. Escapes stay.
+    std::optional<std::string> value(std::string_view name) const
+    {
+        return written([&](char *bytes, std::size_t room) {
+            return fots_event_value(lines_.data(), lines_.size(), detail::data(name), name.size(), bytes, room);
+        });
+    }
+    // Returns the name of the zone (TZID), if a line of the set names one.
+    std::optional<std::string> zone() const
+    {
+        detail::event_or_throw(fots_event_start(lines_.data(), lines_.size()));
+        return written([&](char *bytes, std::size_t room) { return fots_event_zone(lines_.data(), lines_.size(), bytes, room); });
+    }
+
+    EventKind kind() const { return static_cast<EventKind>(detail::event_or_throw(fots_event_start(lines_.data(), lines_.size())).kind); }
+    // Returns the start. A date is its midnight.
+    PlainDateTime start() const { return plain(detail::event_or_throw(fots_event_start(lines_.data(), lines_.size())).start); }
+
+    // Return the first days, readings or moments of the set: `count` of them, or fewer if no more
+    // follow. Allocate room for `count`. Days are for EventKind::date, readings for the other kinds,
+    // and moments for EventKind::local. Readings of EventKind::utc are in UTC.
+    std::vector<Date> days_from(Date from, std::size_t count) const
+    {
+        // At least one, so that data() is not null.
+        std::vector<fots_date> room(std::max(count, std::size_t{1}));
+        const fots_event_set_result found = detail::event_or_throw(fots_event_days(lines_.data(), lines_.size(), from.c(), room.data(), count));
+        return detail::first_dates(room, found.length);
+    }
+    std::vector<PlainDateTime> readings_from(PlainDateTime from, std::size_t count) const
+    {
+        std::vector<fots_moment> room(std::max(count, std::size_t{1}));
+        room.resize(detail::event_or_throw(fots_event_readings(lines_.data(), lines_.size(), from.assume_utc().c(), room.data(), count)).length);
+        std::vector<PlainDateTime> readings;
+        for (const fots_moment found : room) {
+            readings.push_back(plain(found));
+        }
+        return readings;
+    }
+    std::vector<OffsetDateTime> moments_after(const Zone &zone, OffsetDateTime after, std::size_t count) const
+    {
+        const fots_zone held = zone.c();
+        std::vector<fots_moment> room(std::max(count, std::size_t{1}));
+        room.resize(detail::event_or_throw(fots_event_moments(lines_.data(), lines_.size(), &held, after.c(), room.data(), count)).length);
+        std::vector<OffsetDateTime> moments;
+        for (const fots_moment found : room) {
+            moments.push_back(OffsetDateTime(found, {}));
+        }
+        return moments;
+    }
+
+private:
+    static PlainDateTime plain(fots_moment moment) { return PlainDateTime(Date(moment.date, {}), Time(moment.time, {})); }
+
+    // Returns what a function writes, which is part of the lines, or nullopt without it.
+    template <class Call> std::optional<std::string> written(Call call) const
+    {
+        std::string bytes(lines_.size(), '\0');
+        const fots_length_result found = call(&bytes[0], bytes.size());
+        if (!detail::is_in_range(found)) {
+            return std::nullopt;
+        }
+        bytes.resize(found.length);
+        return bytes;
+    }
+
+    std::string lines_;
+};
+
+// Returns the events of a calendar file (RFC 5545), or throws an error with its position in the file
+// without folds: FOTS_UNCLOSED_EVENT or FOTS_OTHER_END.
+inline std::vector<Event> events(std::string_view text)
+{
+    std::string unfolded(text.size(), '\0');
+    unfolded.resize(detail::value_or_throw(fots_unfold(detail::data(text), text.size(), &unfolded[0], unfolded.size())).length);
+    std::vector<Event> found;
+    std::size_t start = 0;
+    while (true) {
+        const fots_event_result event = fots_event_first(unfolded.data() + start, unfolded.size() - start);
+        if (event.status == FOTS_RESULT_OUT_OF_RANGE) {
+            return found;
+        }
+        if (event.status != FOTS_OK) {
+            throw error(event.status, start + event.position);
+        }
+        found.emplace_back(unfolded.substr(start + event.position, event.length));
+        start += event.next;
+    }
+}
 
 } // namespace fotsevindre
 

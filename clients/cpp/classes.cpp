@@ -649,6 +649,40 @@ void times_of_day()
     throws([&] { nights.readings_from(nights.start, 1); }, FOTS_TOO_MANY_DATES, "too many dates", "too many readings");
 }
 
+// Events of RFC 5545 and of other calendars; clients/c/events.c has more of them.
+void events_of_files()
+{
+    const auto at = [](const char *date, std::uint32_t hour, std::uint32_t minute) { return PlainDateTime(Date::parse(date), Time::from_hms(hour, minute, 0)); };
+    const std::vector<Event> found = events("BEGIN:VCALENDAR\r\nBEGIN:VEVENT\r\nDTSTART;VALUE=DATE:19971102\r\nSUMMARY:Our Blissful\r\n  Anniversary\r\nRRULE:FREQ=YEARLY\r\n"
+        "BEGIN:VALARM\r\nDTSTART:1\r\nEND:VALARM\r\nEXDATE;VALUE=DATE:19981102\r\nEND:VEVENT\r\nBEGIN:VEVENT\r\nDTSTART;TZID=Europe/Berlin:20240330T023000\r\n"
+        "RRULE:FREQ=DAILY;COUNT=3\r\nEXDATE;TZID=Europe/Berlin:20240401T023000\r\nEND:VEVENT\r\nBEGIN:VEVENT\r\nDTSTART:19960401T010000Z\r\n"
+        "DTEND:19960401T020000Z\r\nEND:VEVENT\r\nEND:VCALENDAR\r\n");
+    if (found.size() != 3) {
+        return check(false, "three events");
+    }
+    check(found[0].kind() == EventKind::date && found[1].kind() == EventKind::local && found[2].kind() == EventKind::utc, "the kinds of three starts");
+    check(found[0].start() == at("1997-11-02", 0, 0) && found[1].start() == at("2024-03-30", 2, 30) && found[2].start() == at("1996-04-01", 1, 0), "three starts");
+    check(found[0].value("summary") == "Our Blissful Anniversary" && found[2].value("DTEND") == "19960401T020000Z" && !found[1].value("DTEND"), "values of events");
+    check(!found[0].zone() && found[1].zone() == "Europe/Berlin" && !found[2].zone(), "the zone of an event");
+    check(found[0].days_from(Date::parse("1997-11-02"), 2) == std::vector{Date::parse("1997-11-02"), Date::parse("1999-11-02")}, "days of an event");
+    check(found[1].readings_from(at("2024-03-31", 0, 0), 9) == std::vector{at("2024-03-31", 2, 30)} && found[2].readings_from(at("1996-01-01", 0, 0), 9) == std::vector{at("1996-04-01", 1, 0)}, "readings of events");
+    const Zone berlin = Zone::from_posix("CET-1CEST,M3.5.0,M10.5.0/3");
+    const std::vector<OffsetDateTime> moments = found[1].moments_after(berlin, at("2024-03-30", 0, 0).assume_utc(), 9);
+    check(moments.size() == 2 && moments[0].local() == found[1].start() && moments[1].local() == at("2024-03-31", 3, 30) && moments[1].offset() == UtcOffset::from_hms(2, 0, 0), "moments of an event");
+    check(events("").empty() && events(std::string_view()).empty() && found[0].days_from(Date::max(), 0).empty(), "no events and no days");
+    throws([&] { found[0].readings_from(at("1997-11-02", 0, 0), 1); }, FOTS_WRONG_KIND, "wrong kind of value", "readings of dates");
+    throws([&] { found[2].days_from(Date::min(), 1); }, FOTS_WRONG_KIND, "wrong kind of value", "days of times");
+    throws([] { events("BEGIN:VEVENT\nEND:VEVENT\nX:1\nBEGIN:VEVENT\n"); }, FOTS_UNCLOSED_EVENT, "unclosed event at 28", "an event without an end");
+    throws([] { events("BEGIN:VEVENT\nEND:VEVENT\nBEGIN:VEVENT\nEND:VTODO"); }, FOTS_OTHER_END, "other end of an event at 37", "another end");
+    throws([] { Event("UID:1\n").kind(); }, FOTS_MISSING_START, "missing start at 6", "no DTSTART");
+    try {
+        Event("DTSTART:20240101\nRDATE:x\n").zone();
+        check(false, "an invalid RDATE");
+    } catch (const parse_event_error &thrown) {
+        check(thrown.status() == FOTS_INVALID_VALUE && thrown.line() == FOTS_EVENT_RDATE && thrown.position() == 17, "an invalid RDATE");
+    }
+}
+
 int main()
 {
     dates();
@@ -667,6 +701,7 @@ int main()
     periods();
     named_zones();
     times_of_day();
+    events_of_files();
     formats();
 #if __cplusplus >= 202002L
     days_of_chrono();
