@@ -12,6 +12,7 @@
 #include "formats.c"
 #include "zones.c"
 #include "recurrence.c"
+#include "events.c"
 #include "columns.c"
 #include "arrow.c"
 

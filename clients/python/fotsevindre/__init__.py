@@ -21,7 +21,7 @@ import datetime as _datetime
 
 from . import _core, choices as _choices
 from .enums import Month, Weekday, YearFraction
-from .errors import ComponentRange, ContradictionError, FormatError, ParseError, ParseRuleError
+from .errors import ComponentRange, ContradictionError, EventError, FormatError, ParseError, ParseRuleError
 from .errors import ParseRuleErrorKind, ZoneError, status_error
 
 _core.setup(_datetime.date, _datetime.time, _datetime.datetime, _datetime.timedelta,
@@ -34,6 +34,7 @@ from . import calls as _calls, members as _members
 from ._core import IsoCalendarDate
 from .arrow import ArrowColumn
 from .calls import *
+from .events import Event, Recurrences
 from .formats import Format
 from .schedules import DateRange, Days, Recurrence, Rule, Steps, Workdays
 from .strings import dates_to_strings, instants_to_strings, strings_to_dates, strings_to_instants
@@ -42,8 +43,8 @@ from .zones import Local, Zone, ZonedDateTime
 __version__ = "0.2.0"
 
 __all__ = [
-    "ArrowColumn", "ComponentRange", "ContradictionError", "DateRange", "Days", "Format", "FormatError",
-    "IsoCalendarDate", "Local", "Month", "ParseError", "ParseRuleError", "ParseRuleErrorKind", "Recurrence", "Rule", "Steps", "Weekday",
+    "ArrowColumn", "ComponentRange", "ContradictionError", "DateRange", "Days", "Event", "EventError", "Format", "FormatError",
+    "IsoCalendarDate", "Local", "Month", "ParseError", "ParseRuleError", "ParseRuleErrorKind", "Recurrence", "Recurrences", "Rule", "Steps", "Weekday",
     "Workdays", "YearFraction", "Zone", "ZonedDateTime", "ZoneError", "dates_to_strings",
     "instants_to_strings", "status_error", "strings_to_dates", "strings_to_instants",
 ]

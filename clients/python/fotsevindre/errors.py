@@ -132,6 +132,33 @@ class ParseRuleError(ValueError):
         return f"{self.kind.value.format(self.part or 'part')} at {self.position}"
 
 
+class EventError(ValueError):
+    """A calendar file or a line of an event is invalid. `reason` and `position`, from 0, describe
+    the first wrong line in the file without folds, or in the lines of the event. `line` is its
+    name, such as `RDATE`, or `None`. A value of the wrong kind has no position."""
+
+    __match_args__ = ("position", "reason", "line")
+
+    @property
+    def position(self) -> int | None:
+        """The start of the first wrong line, from 0, or `None` for a value of the wrong kind."""
+        return self.args[0]  # type: ignore[no-any-return]
+
+    @property
+    def reason(self) -> str:
+        """Why the line is wrong."""
+        return self.args[1]  # type: ignore[no-any-return]
+
+    @property
+    def line(self) -> str | None:
+        """The name of the line."""
+        return self.args[2]  # type: ignore[no-any-return]
+
+    def __str__(self) -> str:
+        where = "" if self.position is None else f" at {self.position}"
+        return f"{self.reason}{' in ' + self.line if self.line else ''}{where}"
+
+
 class ZoneError(ValueError):
     """The bytes or the string of a time zone are invalid. `reason` and `position`, from 0, describe
     the first wrong byte."""
@@ -151,6 +178,9 @@ class ZoneError(ValueError):
     def __str__(self) -> str:
         return f"{self.reason} at {self.position}"
 
+
+# The lines of an event, in the order of C. Their numbers come after those of the parts of a recurrence.
+_LINES = (None, "DTSTART", "RRULE", "RDATE", "EXDATE")
 
 # The names of components, and whether their range is conditional.
 _COMPONENTS = {status: (NAMES[status], 64 <= status < 68) for status in (*range(16, 30), *range(64, 68), *range(75, 81))
@@ -184,6 +214,9 @@ def status_error(status: int, position: int | None = None, part: int = 0) -> Exc
     if status == 0:
         return None
     if position is not None:
+        if part > len(PARTS) or status in (86, 87):
+            line = _LINES[max(part - len(PARTS) - 1, 0)]
+            return EventError(None if position < 0 else position, NAMES[status], line)
         if status in (8, 31):
             return ParseError(position, status == 31)
         if status in (38, 39):
