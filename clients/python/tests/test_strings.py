@@ -57,6 +57,8 @@ class Lists(unittest.TestCase):
         self.assertEqual(strings_to_instants(rows, iso=True, errors="missing"), found)
         self.assertRaisesRegex(ValueError, "^row 0: '20240229T2259': unexpected end at 13$", strings_to_instants, rows, iso=True)
         self.assertRaisesRegex(ValueError, "not both", strings_to_dates, days, "%F", iso=True)
+        for lenient in (fotsevindre.Format("%F").lenient(), fotsevindre.Format("%m/%d/%y").lenient(pivot=1970)):
+            self.assertRaisesRegex(ValueError, "isn't lenient", strings_to_dates, ["2/29/24"], lenient)
 
     def test_rows_without_a_string(self):
         with self.assertRaisesRegex(ValueError, "^row 1: a format shows"):
