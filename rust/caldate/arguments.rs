@@ -260,7 +260,12 @@ fn reader_text(reader: &Reader) -> String {
         Reader::Named(Reading::Date(DateOrder::MonthFirst)) => "mdy".into(),
         Reader::Named(Reading::Unix(unit)) => unix_name(*unit).into(),
         Reader::Named(Reading::Local(_)) | Reader::Local => "local".into(),
-        Reader::Spelled(caldate_answers::reading::spelling::Spelling::Iso) => "iso".into(),
+        Reader::Named(Reading::IsoDate) => "iso-date".into(),
+        Reader::Named(Reading::IsoMoment) => "iso-moment".into(),
+        Reader::Named(Reading::IsoLocal(offset)) => {
+            format!("iso-local@{}", offset.whole_seconds()).into()
+        }
+        Reader::Spelled(caldate_answers::reading::spelling::Spelling::Iso) => "spelled".into(),
         Reader::Spelled(caldate_answers::reading::spelling::Spelling::Seconds) => "unix".into(),
         Reader::Format(format) => value_format_text(format),
         Reader::Yearless(format) => format!("yearless {}", value_format_text(format)),

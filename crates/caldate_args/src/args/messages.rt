@@ -1,13 +1,10 @@
 //! The words of the messages for invalid arguments.
-ghost use Rattle.std.specs.Prelude.{◌≤◌, length};
 
 use crate::args::usage_error::Expected;
 
 /// Returns the message for an expected argument without the wrong word, which stands before the `;`
 /// or at the end.
-pub fn message_for(expected: Expected) -> &'static str
-    ensures { length result.now ≤ 330 }
-{
+pub fn message_for(expected: Expected) -> &'static str {
     match expected {
         Expected::Requirement(requirement) => requirement.message(),
         Expected::Start => {

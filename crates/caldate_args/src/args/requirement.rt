@@ -1,5 +1,4 @@
 //! Requirements of the arguments.
-ghost use Rattle.std.specs.Prelude.{◌≤◌, length};
 
 /// A requirement that no single word meets.
 #[derive(Clone, Copy)]
@@ -56,9 +55,7 @@ pub enum Requirement {
 
 impl Requirement {
     /// Returns the message if the requirement isn't met.
-    pub fn message(self) -> &'static str
-        ensures { length result.now ≤ 60 }
-    {
+    pub fn message(self) -> &'static str {
         match self {
             Requirement::Something => "missing command; try 'caldate --help'",
             Requirement::Short => "arguments too long; expected at most 4096 bytes",

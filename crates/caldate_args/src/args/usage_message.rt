@@ -16,6 +16,9 @@ use caldate_lines::output::write_all;
 use caldate_lines::run_error::RunError;
 use caldate_lines::streams::Sink;
 
+/// The maximum length of a message without the wrong word, in bytes.
+const LONGEST_MESSAGE: usize = 330;
+
 /// Writes the message for invalid arguments, in one line. Fails with `RunError::Write` if the write
 /// does.
 ///
@@ -52,7 +55,9 @@ fn push_problem(line: &mut Buffer, arguments: &[u8], usage_error: UsageError<'_>
     requires { length line.old ≤ 9 }
     ensures short { length line.new ≤ 9_500 }
 {
-    let message = message_for(usage_error.expected).as_bytes();
+    let words = message_for(usage_error.expected).as_bytes();
+    // A proof of how long each message is costs more than this.
+    let message = &words[..words.len().min(LONGEST_MESSAGE)];
     if let Expected::Requirement(_) = usage_error.expected {
         line.push(message);
         return;
