@@ -62,7 +62,7 @@ typedef struct State {
     PyObject *timezone;
     PyObject *has_layouts; /* True if datetime has the layouts of standard.c */
     PyObject *weekday, *calendar_unit, *rounding_mode, *convention, *day_count, *year_fraction;
-    PyObject *status_error, *component_range;
+    PyObject *status_error, *explain, *component_range;
     PyObject *months[12], *weekdays[7];
 } State;
 
@@ -256,6 +256,27 @@ static PyObject *raise_position(const State *state, int32_t status, size_t posit
         PyErr_SetObject((PyObject *)Py_TYPE(error), error);
         Py_DECREF(error);
     }
+    return NULL;
+}
+
+/* Passes the error of a method, and its arguments by their names, to the function that adds them to
+ * it. Returns NULL. */
+static PyObject *explained(const State *state, PyObject *self, const char *method,
+    const char *const *names, PyObject *const *given, Py_ssize_t count)
+{
+    PyObject *type, *error, *trace;
+    PyErr_Fetch(&type, &error, &trace);
+    PyErr_NormalizeException(&type, &error, &trace);
+    PyObject *arguments = PyDict_New();
+    for (Py_ssize_t index = 0; arguments && index < count; index++) {
+        if (given[index] && given[index] != Py_None) {
+            PyDict_SetItemString(arguments, names[index], given[index]);
+        }
+    }
+    Py_XDECREF(PyObject_CallFunction(state->explain, "OOsO", error, self, method, arguments));
+    Py_XDECREF(arguments);
+    PyErr_Clear();
+    PyErr_Restore(type, error, trace);
     return NULL;
 }
 

@@ -52,10 +52,13 @@ static int to_format(const State *state, PyObject *object, fots_format *format)
 /* Takes a text, and whether it is in the syntax of the Rust crate time. Returns bytes. */
 static PyObject *core_format_new(PyObject *self, PyObject *const *given, Py_ssize_t count)
 {
+    static const char *const names[] = {"format", "is_description"};
+    const State *state = state_of_module(self);
     fots_format format;
     int is_made = is_count("format_new", count, 2) &&
-        parse_format(state_of_module(self), given[0], given[1] == Py_True, &format);
-    return is_made ? Py_BuildValue("y#", &format, (Py_ssize_t)sizeof format) : NULL;
+        parse_format(state, given[0], given[1] == Py_True, &format);
+    return is_made ? Py_BuildValue("y#", &format, (Py_ssize_t)sizeof format) :
+        explained(state, self, "format_new", names, given, count);
 }
 
 /* ---- the methods strftime and strptime, by the name of the value in C */
@@ -84,21 +87,26 @@ static fots_parse_offset_result fots_offset_parse_leniently(
     return (fots_parse_offset_result){FOTS_INSUFFICIENT_FORMAT, {FOTS_NO_VALUE}, SIZE_MAX};
 }
 
+static const char *const strptime_names[] = {"text", "format"};
+
 #define STRPTIME(name, part, kind, value) \
     static PyObject *name(PyObject *self, PyObject *const *given, Py_ssize_t count) \
     { \
         const State *state = state_of_type((PyTypeObject *)self); \
         Text text = {NULL, NULL, 0}; \
         fots_format format; \
-        if (!is_count("strptime", count, 2) || !to_format(state, given[1], &format) || \
-            !to_text(state, given[0], &text)) { \
+        if (!is_count("strptime", count, 2)) { \
             return NULL; \
+        } \
+        if (!to_format(state, given[1], &format) || !to_text(state, given[0], &text)) { \
+            return explained(state, self, "strptime", strptime_names, given, count); \
         } \
         int32_t pivot = pivot_of(given[1]); \
         fots_parse_##kind##_result result = pivot == -2 ? \
             fots_##part##_parse_format(text.start, text.length, &format) : \
             fots_##part##_parse_leniently(text.start, text.length, &format, pivot); \
-        return is_parsed(state, result.status, result.position, &text) ? value : NULL; \
+        return is_parsed(state, result.status, result.position, &text) ? value : \
+            explained(state, self, "strptime", strptime_names, given, count); \
     }
 STRPTIME(date_strptime, date, date, new_date(state, result.date))
 STRPTIME(time_strptime, time, time, new_time(state, result.time))

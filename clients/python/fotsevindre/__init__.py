@@ -22,13 +22,13 @@ import datetime as _datetime
 from . import _core, choices as _choices
 from .enums import Month, Weekday, YearFraction
 from .errors import ComponentRange, ContradictionError, FormatError, ParseError, ParseRuleError
-from .errors import ParseRuleErrorKind, ZoneError, status_error
+from .errors import ParseRuleErrorKind, ZoneError, explain as _explain, status_error
 
 _core.setup(_datetime.date, _datetime.time, _datetime.datetime, _datetime.timedelta,
     _datetime.tzinfo, _datetime.timezone,
     _core.has_layouts(_datetime.date(2024, 2, 29), _datetime.time(1, 2, 3, 4),
         _datetime.datetime(2024, 2, 29, 1, 2, 3, 4), _datetime.timedelta(-1, 2, 3)), Weekday, _choices.CalendarUnit,
-    _choices.RoundingMode, _choices.Convention, _choices.DayCount, YearFraction, status_error, ComponentRange, *Month, *Weekday)
+    _choices.RoundingMode, _choices.Convention, _choices.DayCount, YearFraction, status_error, _explain, ComponentRange, *Month, *Weekday)
 
 from . import calls as _calls, members as _members
 from ._core import IsoCalendarDate

@@ -2,8 +2,12 @@
 
 import datetime
 import enum
+import operator
+import re
+from collections.abc import Callable
 from typing import Any
 
+from . import _core
 from ._core import Date, OffsetDateTime, PlainDateTime
 from .messages import MESSAGES, NAMES, PARTS
 
@@ -11,11 +15,89 @@ from .messages import MESSAGES, NAMES, PARTS
 _MESSAGES = {**MESSAGES, 6: "invalid weekday; expected 0 (Monday) to 6 (Sunday)"}
 
 
+# The minimum and the maximum of the components that depend on no other.
+_RANGES = {"year": (-999999, 999999), "month": (1, 12), "hour": (0, 23), "minute": (0, 59), "second": (0, 59), "millisecond": (0, 999),
+    "microsecond": (0, 999_999), "nanosecond": (0, 999_999_999), "offset hour": (-25, 25), "offset minute": (-59, 59),
+    "offset second": (-59, 59), "julian_day": (-363521074, 366963559)}
+_ARGUMENTS = {"offset hour": "hours", "offset minute": "minutes", "offset second": "seconds"}
+# The components of strings of ISO 8601.
+_ISO = re.compile(
+    r"(?:(?P<year>[+-]?\d+(?=-)|\d{4})-?(?:W(?P<week>\d\d)(?:-?\d)?|(?P<month>\d\d)-?(?P<day>\d\d)|(?P<ordinal>\d{3})))?"
+    r"(?:[Tt ]?(?P<hour>\d\d?)(?::?(?P<minute>\d\d)(?::?(?P<second>\d\d)(?:[.,]\d+)?)?)?)?"
+    r"(?: ?(?:[Zz]|[+-](?P<hours>\d\d?)(?::?(?P<minutes>\d\d)(?::?(?P<seconds>\d\d))?)?))?", re.ASCII)
+# What a parser can expect, and the characters to try.
+_EXPECTED = [("a digit", "0159"), *((f'"{one}"', one) for one in "-:./,+ TZYMWDHSP")]
+# The items of a format that need another one, and the remedy.
+_REMEDIES = [
+    (r"%[-_0^#]*y", r"%[-_0^#]*[YCGsFc]", '"%y" has no century: use %Y or a pivot'),
+    (r"%[-_0^#]*[Il]", r"%[-_0^#]*[pP]", '"%I" has no half of the day: use %H or add %p')]
+
+
+class _Explained(ValueError):
+    """An error whose sentence is made of the arguments of the method, when it is printed."""
+
+    # The object or the type of the method, its name and its arguments by their names.
+    _call: "tuple[Any, str, dict[str, Any]] | None" = None
+    _words: str | None = None
+
+    def __str__(self) -> str:
+        if self._words is None and self._call is not None:
+            try:
+                self._words = self._sentence(*self._call)
+            except (AttributeError, LookupError, TypeError, ValueError, OverflowError):
+                pass
+            self._call = None
+        return self._words or self._short()
+
+    def __reduce__(self) -> tuple[Any, ...]:
+        return type(self), self.args, {"_words": str(self)}
+
+    def _short(self) -> str:
+        raise NotImplementedError
+
+    def _sentence(self, owner: Any, method: str, given: dict[str, Any]) -> str:
+        raise NotImplementedError
+
+
+def explain(error: BaseException, owner: Any, method: str, given: dict[str, Any]) -> None:
+    """Adds the arguments of a method to its error."""
+    if isinstance(error, _Explained):
+        if "number" in given:
+            given[method.removeprefix("replace_")] = given["number"]
+        error._call = owner, method, given
+    elif error.args == (_MESSAGES[41],):
+        text = getattr(given["format"], "_text", given["format"]).replace("%%", "")
+        for item, other, words in _REMEDIES:
+            if re.search(item, text) and not re.search(other, text):
+                error.args = (words,)
+                break
+
+
+def _component(name: str, owner: Any, given: dict[str, Any]) -> int:
+    """Returns a component: of an argument, of a string, or of the value that a method replaces it in."""
+    key = _ARGUMENTS.get(name, name)
+    if "text" in given:
+        found = _ISO.fullmatch(given["text"])
+        return int(found[key]) if found else int("")
+    return operator.index(given[key] if key in given else getattr(owner, key))
+
+
+def _range_of(name: str, component: Callable[[str], int]) -> tuple[int, int, str]:
+    """Returns the minimum and the maximum of a component, and the month or the year that has them."""
+    if name == "day":
+        year, month = component("year"), component("month")
+        return 1, _core.days_in_year_month(year, month), f" ({Date(year, month, 1).strftime('%B')} {year})"
+    if name in ("ordinal", "week"):
+        year = component("year")
+        return 1, _core.days_in_year(year) if name == "ordinal" else _core.weeks_in_year(year), f" ({year})"
+    return *_RANGES[name], ""
+
+
 # The attributes of an error are its arguments, since a function that sets them takes as long as the
 # rest of an error.
 
 
-class ComponentRange(ValueError):
+class ComponentRange(_Explained):
     """A component is out of range. `name` is its name, and `is_conditional` says whether its range
     depends on other components.
 
@@ -34,11 +116,21 @@ class ComponentRange(ValueError):
         """True if the range depends on other components."""
         return self.args[1]  # type: ignore[no-any-return]
 
-    def __str__(self) -> str:
+    def _short(self) -> str:
         return f"{self.name} was not in range"
 
+    def _sentence(self, owner: Any, method: str, given: dict[str, Any]) -> str:
+        component = lambda name: _component(name, owner, given)
+        value = component(self.name)
+        low, high, where = _range_of(self.name, component)
+        if method == "parse_rfc3339" and self.name == "offset hour":
+            low, high = -23, 23
+        # Some methods take a part of the range.
+        is_outside = not low <= value <= high
+        return f"{self.name.replace('_', ' ')} {value} is out of range {low} to {high}{where}" if is_outside else self._short()
 
-class ParseError(ValueError):
+
+class ParseError(_Explained):
     """A string has none of the forms that a method parses. `position` is the first wrong
     character, from 0.
 
@@ -58,8 +150,33 @@ class ParseError(ValueError):
         """True if the string ends too early."""
         return self.args[1]  # type: ignore[no-any-return]
 
-    def __str__(self) -> str:
+    def _short(self) -> str:
         return f"unexpected {'end' if self.is_end else 'byte'} at {self.position}"
+
+    def _sentence(self, owner: Any, method: str, given: dict[str, Any]) -> str:
+        text, parse = given["text"], getattr(owner, method)
+        front, options = text[:self.position], (given["format"],) if "format" in given else ()
+
+        def takes(character: str) -> bool:
+            try:
+                parse(front + character, *options)
+            except ParseError as error:
+                return error.position > self.position
+            except ValueError:
+                pass
+            return True
+
+        words = [words for words, characters in _EXPECTED if any(map(takes, characters))]
+        try:
+            parse(front, *options)
+            words.append("the end")
+        except ValueError:
+            pass
+        if not words:
+            return self._short() if self.is_end else f'unexpected "{text[self.position]}" at {self.position}'
+        expected = " or ".join(filter(None, [", ".join(words[:-1]), words[-1]]))
+        found = "the end" if self.is_end else f'"{text[self.position]}"'
+        return f"expected {expected} at {self.position}, found {found}"
 
 
 class ContradictionError(ValueError):
@@ -77,7 +194,7 @@ class ContradictionError(ValueError):
         return f"{self.name} contradicts the other components"
 
 
-class FormatError(ValueError):
+class FormatError(_Explained):
     """A string is not a format. No item begins at `position`, from 0, or it is `None` if the format
     has more than 64 items."""
 
@@ -88,10 +205,16 @@ class FormatError(ValueError):
         """The position at which no item begins, from 0."""
         return self.args[0]  # type: ignore[no-any-return]
 
-    def __str__(self) -> str:
+    def _short(self) -> str:
         if self.position is None:
             return "too many items in a format; expected at most 64"
         return f"unknown item in a format at {self.position}"
+
+    def _sentence(self, owner: Any, method: str, given: dict[str, Any]) -> str:
+        if self.position is None or given.get("is_description"):
+            return self._short()
+        item = re.match("%[-_0^#:]*.?|.", given["format"][self.position:])
+        return f'unknown item "{item[0] if item else ""}" in a format at {self.position}'
 
 
 class ParseRuleErrorKind(enum.Enum):

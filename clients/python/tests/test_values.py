@@ -55,7 +55,8 @@ class Cases(unittest.TestCase):
         with self.assertRaises(ComponentRange, msg=arguments) as caught:
             call(*arguments)
         self.assertEqual((caught.exception.name, caught.exception.is_conditional), (name, is_conditional), arguments)
-        self.assertEqual(str(caught.exception), f"{name} was not in range")
+        label = re.escape(name.replace("_", " "))
+        self.assertRegex(str(caught.exception), f"^{name} was not in range$|^{label} -?[0-9]+ is out of range -?[0-9]+ to [0-9]+( [(]([A-Z][a-z]+ )?-?[0-9]+[)])?$")
 
     def past(self, call, *arguments):
         with self.assertRaises(OverflowError, msg=arguments):
@@ -911,7 +912,7 @@ class Columns(Cases):
         self.assertEqual(Time.parse_iso("T232050,5"), Time.parse("23:20:50.5"))
         self.assertEqual(str(PlainDateTime.parse_iso("19850412T1015")), "1985-04-12T10:15:00")
         self.assertEqual(str(OffsetDateTime.parse_iso("2024-02-29 22:59:59.25+00")), "2024-02-29T22:59:59.250000+00:00")
-        with self.assertRaisesRegex(fotsevindre.ParseError, "unexpected byte at 6"):
+        with self.assertRaisesRegex(fotsevindre.ParseError, '^expected a digit at 6, found "-"$'):
             Date.parse_iso("198504-12")
 
     def test_texts_printed(self):
