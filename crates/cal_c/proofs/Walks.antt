@@ -32,12 +32,12 @@ commute-at p q x xs true false e f ih = rw (e, f) ih
 commute-at p q x xs false true e f ih = rw (e, f) (rw e ih)
 commute-at p q x xs false false e f ih = rw (e, f) ih
 
-filters_commute : (p q : ℕ → Bool) (xs : List ℕ) → filter p (filter q xs) ≡ filter q (filter p xs)
+pub filters_commute : (p q : ℕ → Bool) (xs : List ℕ) → filter p (filter q xs) ≡ filter q (filter p xs)
 filters_commute p q [] = refl
 filters_commute p q (x ∷ xs) = commute-at p q x xs (p x) (q x) refl refl (filters_commute p q xs)
 
 -- of days one after the other, those that do not come before day k
-all_late : (k n count : ℕ) → k ≤ n → filter (nat_le k) (days_from n count) ≡ days_from n count
+pub all_late : (k n count : ℕ) → k ≤ n → filter (nat_le k) (days_from n count) ≡ days_from n count
 unfolding days_from
 all_late k n zero h = refl
 all_late k n (suc count) h =
@@ -48,7 +48,7 @@ first_early : (k n count : ℕ) → n < k → filter (nat_le k) (days_from n (su
 unfolding days_from
 first_early k n count h = let early : nat_le k n ≡ false = grind (arith, nat_tests) in rw early refl
 
-late_days : (d k n count : ℕ) → k ≡ n + d → filter (nat_le k) (days_from n (d + count)) ≡ days_from k count
+pub late_days : (d k n count : ℕ) → k ≡ n + d → filter (nat_le k) (days_from n (d + count)) ≡ days_from k count
 late_days zero k n count e =
     let start : n ≡ k = omega arith in
     let all : zero + count ≡ count = omega arith in
