@@ -25,6 +25,7 @@ typedef struct Columns {
     int count;
     const fots_workdays_view *workdays;
     fots_format format;
+    int32_t pivot;
     fots_zone zone;
     uint32_t policy;
     fots_duration unit;
@@ -159,6 +160,7 @@ static int to_unit_and_mode(const State *state, PyObject *tuple, fots_duration *
 static int get_extra(Columns *columns, char extra, const State *state, PyObject *object)
 {
     columns->workdays = WORKDAYS(object);
+    columns->pivot = extra == 'f' ? pivot_of(object) : NO_LENIENCY;
     return extra == 'f' ? to_format(state, object, &columns->format) :
         extra == 'z' ? to_zone_and_policy(object, &columns->zone, &columns->policy) :
         extra == 'u' ? to_unit_and_mode(state, object, &columns->unit, &columns->mode) :

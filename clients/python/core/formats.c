@@ -66,11 +66,14 @@ static fots_length_result plain_strftime(
     return fots_pair_format(moment.date, moment.time, format, bytes, bytes_length);
 }
 
-/* Returns the pivot of a lenient format, FOTS_NO_PIVOT without one, or -2 for another format. */
+/* In place of a pivot: the format isn't lenient. */
+#define NO_LENIENCY (-2)
+
+/* Returns the pivot of a lenient format, FOTS_NO_PIVOT without one, or NO_LENIENCY. */
 static int32_t pivot_of(PyObject *format)
 {
     PyObject *pivot = PyUnicode_Check(format) ? NULL : PyObject_GetAttrString(format, "_pivot");
-    int32_t found = pivot && pivot != Py_None ? (int32_t)PyLong_AsLong(pivot) : -2;
+    int32_t found = pivot && pivot != Py_None ? (int32_t)PyLong_AsLong(pivot) : NO_LENIENCY;
     Py_XDECREF(pivot);
     PyErr_Clear();
     return found;
@@ -95,7 +98,7 @@ static fots_parse_offset_result fots_offset_parse_leniently(
             return NULL; \
         } \
         int32_t pivot = pivot_of(given[1]); \
-        fots_parse_##kind##_result result = pivot == -2 ? \
+        fots_parse_##kind##_result result = pivot == NO_LENIENCY ? \
             fots_##part##_parse_format(text.start, text.length, &format) : \
             fots_##part##_parse_leniently(text.start, text.length, &format, pivot); \
         return is_parsed(state, result.status, result.position, &text) ? value : NULL; \
@@ -107,3 +110,29 @@ STRPTIME(plain_strptime, pair, moment,
     new_moment(state->plain, (fots_moment){result.date, {0}, result.time}))
 STRPTIME(moment_strptime, moment, moment,
     new_moment(state->moment, (fots_moment){result.date, result.offset, result.time}))
+
+/* ---- columns */
+
+/* Parses rows like fots_dates_parse_format, by variants if the format is lenient. */
+static size_t core_dates_parse_format(const char *bytes, size_t bytes_length,
+    const int32_t *bounds, size_t bounds_length, const fots_format *format, int32_t pivot,
+    int32_t *dates, size_t dates_length, uint8_t *statuses, size_t length)
+{
+    size_t error_count = 0;
+    if (pivot == NO_LENIENCY || dates_length != length || bounds_length != length + 1) {
+        return fots_dates_parse_format(bytes, bytes_length, bounds, bounds_length, format, dates,
+            dates_length, statuses, length);
+    }
+    for (size_t row = 0; row < length; row++) {
+        int64_t start = bounds[row], end = bounds[row + 1];
+        int is_inside = start >= 0 && start <= end && (uint64_t)end <= bytes_length;
+        fots_parse_date_result result = {FOTS_INVALID_BOUNDS, {FOTS_NO_VALUE}, SIZE_MAX};
+        if (is_inside) {
+            result = fots_date_parse_leniently(bytes + start, (size_t)(end - start), format, pivot);
+        }
+        dates[row] = result.date.julian_day;
+        statuses[row] = (uint8_t)result.status;
+        error_count += result.status != FOTS_OK;
+    }
+    return error_count;
+}

@@ -8,6 +8,7 @@ from typing import Any, Callable, SupportsIndex, TypeVar
 from . import _core
 from ._core import Date
 from .errors import is_like_date
+from .formats import Format
 from .schedules import Workdays, range_of
 
 _R = TypeVar("_R")
@@ -182,7 +183,7 @@ def _days_later(dates: Any, days: Any) -> Any:
 
 
 def call(kind: Callable[..., _R], name: str, reads: str, writes: str,
-         extra: Workdays | bytes | tuple[Any, ...] | None, **columns: Any) -> _R:
+         extra: Workdays | Format | tuple[Any, ...] | None, **columns: Any) -> _R:
     """Calls C for columns by their names, with numbers in these letters and working days, a format,
     a zone or a unit, and makes the result."""
     later = _days_later(**columns) if name == "dates_add_days" else None
@@ -204,9 +205,9 @@ def call(kind: Callable[..., _R], name: str, reads: str, writes: str,
         for one, code in zip(columns, reads) if one == "bounds" or one not in single}
     rows = len(found["bounds"]) - 1 if "bounds" in found else len(next(iter(found.values())))
     room = {"dates_calendar_texts": 13, "moments_texts": 38, "durations_texts": 36}.get(name, 0)
-    if name == "dates_format" and isinstance(extra, bytes):
+    if name == "dates_format" and isinstance(extra, Format):
         # 15 bytes for each item, of which the number comes first.
-        room = 15 * max(1, int.from_bytes(extra[:4], sys.byteorder))
+        room = 15 * max(1, int.from_bytes(extra._items[:4], sys.byteorder))
     if rows < 0:
         raise ValueError("no bounds; expected one more than there are texts")
     if rows * room > 2**31 - 1:

@@ -70,6 +70,6 @@ def _made(text: str, is_description: bool, pivot: int | None) -> Format:
     return format if pivot is None else format.lenient(None if pivot < 0 else pivot)
 
 
-def bytes_of(format: str | Format) -> bytes:
-    """Returns the struct of C."""
-    return (format if isinstance(format, Format) else Format(format))._items
+def format_of(format: str | Format) -> Format:
+    """Returns a format, or the one of a string."""
+    return format if isinstance(format, Format) else Format(format)

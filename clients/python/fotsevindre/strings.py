@@ -157,7 +157,7 @@ def strings_to_dates(strings: Any, format: Format | str | None = None, *, iso: b
     series or an index of pandas one of `datetime64[ns]`, and a column of Arrow an `ArrowColumn` of
     date32. A missing value stays one. A row without a result raises `ValueError` with its number, or
     is missing, or with `"column"` the errors are a second column. A format and `iso=True` together
-    raise `ValueError`, and so does a lenient format.
+    raise `ValueError`.
 
     >>> strings_to_dates(["2024-02-29", None])
     [Date(2024, 2, 29), None]
@@ -169,8 +169,6 @@ def strings_to_dates(strings: Any, format: Format | str | None = None, *, iso: b
     _check_option(errors)
     if iso and format is not None:
         raise ValueError("expected a format or iso=True, not both")
-    if isinstance(format, Format) and format._pivot is not None:
-        raise ValueError("expected a format that isn't lenient; Date.strptime parses by a lenient one")
     column = _Strings(strings)
     parse: Callable[[Any], Any] = Date.parse_iso if iso else Date.parse
     if format is None:

@@ -362,6 +362,10 @@ class ZonedDateTime:
         """Returns what the clocks show, with their offset."""
         return self._moment
 
+    def to_utc(self) -> OffsetDateTime:
+        """Returns the same instant at UTC, or raises `OverflowError` if its date is out of range."""
+        return self._moment.to_utc()
+
     def date(self) -> Date:
         """Returns the date."""
         return self._moment.date()

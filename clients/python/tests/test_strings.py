@@ -1,6 +1,7 @@
 """Tests of columns of strings: lists, and with numpy and pandas arrays, series and indexes."""
 
 import datetime
+import itertools
 import os
 import pathlib
 import random
@@ -12,7 +13,7 @@ import numpy
 import pandas
 
 import fotsevindre
-from fotsevindre import Date, OffsetDateTime, UtcOffset
+from fotsevindre import Date, Format, OffsetDateTime, UtcOffset
 from fotsevindre import dates_to_strings, instants_to_strings, strings_to_dates, strings_to_instants
 
 
@@ -57,8 +58,21 @@ class Lists(unittest.TestCase):
         self.assertEqual(strings_to_instants(rows, iso=True, errors="missing"), found)
         self.assertRaisesRegex(ValueError, "^row 0: '20240229T2259': unexpected end at 13$", strings_to_instants, rows, iso=True)
         self.assertRaisesRegex(ValueError, "not both", strings_to_dates, days, "%F", iso=True)
-        for lenient in (fotsevindre.Format("%F").lenient(), fotsevindre.Format("%m/%d/%y").lenient(pivot=1970)):
-            self.assertRaisesRegex(ValueError, "isn't lenient", strings_to_dates, ["2/29/24"], lenient)
+
+    def test_lenient_formats(self):
+        for form, pivot, rows in (("%m/%d/%y", 1970, ["2/29/24", None, "02/9/70", "2/29/23", "2-9-70"]), ("%d %b %Y", None, ["29 FEB 2024", None, "9  feb 1970", "29 feb 2023", "9 m 1970"])):
+            lenient = Format(form).lenient(pivot)
+            days, errors = strings_to_dates(rows, lenient, errors="column")
+            self.assertEqual(days, [Date(2024, 2, 29), None, Date(1970, 2, 9), None, None])
+            self.assertEqual([one is not None for one in errors], [False, False, False, True, True])
+            self.assertRaisesRegex(ValueError, "^row 3: '29? ?.feb 2023'|^row 3: '2/29/23'", strings_to_dates, rows, lenient)
+            bounds = [0, *itertools.accumulate(len(row or "") for row in rows)]
+            found = fotsevindre.dates_parse_format("".join(row or "" for row in rows).encode(), bounds, lenient)
+            self.assertEqual([bool(status) for status in found.statuses], [False, True, False, True, True])
+            self.assertEqual((found.dates[0], found.error_count), (Date(2024, 2, 29).to_julian_day(), 3))
+            wrong = fotsevindre.dates_parse_format(b"9 feb 1970", [0, 11, 0, -1, 10], lenient)
+            self.assertEqual((list(wrong.statuses[:3]), wrong.error_count), ([30, 30, 30], 4))
+        self.assertEqual(strings_to_dates(["20240229"], Format("%Y%m%d").lenient(), errors="missing"), [None])
 
     def test_rows_without_a_string(self):
         with self.assertRaisesRegex(ValueError, "^row 1: a format shows"):

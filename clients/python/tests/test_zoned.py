@@ -142,7 +142,7 @@ class WorkedRows(unittest.TestCase):
                 self.assertRaises(OverflowError, call, seconds * 10**9, east)
         # What the clocks show is in the range, and what they show at UTC isn't.
         self.assertEqual(ZonedDateTime.from_unix_timestamp_nanos(last.unix_timestamp_nanos(), west), last)
-        self.assertRaises(OverflowError, lambda: last.to_offset_date_time().to_utc())
+        self.assertRaises(OverflowError, lambda: last.to_utc())
 
 
 class Values(unittest.TestCase):
@@ -151,7 +151,7 @@ class Values(unittest.TestCase):
         moment = OffsetDateTime.from_unix_timestamp(instant)
         found = ZonedDateTime(moment, berlin)
         self.assertEqual((str(found), repr(found), found.to_offset_date_time()), ("2024-03-31T03:00:00+02:00", "ZonedDateTime(OffsetDateTime(2024, 3, 31, 3, 0, offset=UtcOffset(2)), Zone('Europe/Berlin'))", moment))
-        self.assertEqual(found.to_offset_date_time().offset, UtcOffset(2))
+        self.assertEqual((found.to_offset_date_time().offset, str(found.to_utc()), type(found.to_utc())), (UtcOffset(2), "2024-03-31T01:00:00+00:00", OffsetDateTime))
         for same in (ZonedDateTime.from_unix_timestamp(instant, berlin), ZonedDateTime.from_unix_duration(SignedDuration.seconds(instant), berlin),
                 ZonedDateTime.from_unix_timestamp_nanos(instant * 10**9, berlin), of("2024-03-31T03:00", "Europe/Berlin"), copy.copy(found),
                 copy.deepcopy(found), *(pickle.loads(pickle.dumps(found, protocol)) for protocol in range(6)), found.in_zone(Zone("Asia/Tokyo")).in_zone(berlin)):
