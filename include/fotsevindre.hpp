@@ -46,20 +46,27 @@ public:
     }
 
     // Returns the status of the call, such as FOTS_DAY_OUT_OF_RANGE.
-    std::int32_t status() const noexcept { return status_; }
+    [[nodiscard]] std::int32_t status() const noexcept { return status_; }
 
     // Returns the name of the status: the component, such as "day", or a few words.
-    const char *name() const noexcept { return fots_status_name(status_); }
+    [[nodiscard]] const char *name() const noexcept { return fots_status_name(status_); }
 
     // Returns whether the range of the component depends on other components.
-    bool is_conditional() const noexcept { return fots_status_is_conditional(status_) != 0; }
+    [[nodiscard]] bool is_conditional() const noexcept { return fots_status_is_conditional(status_) != 0; }
 
     // Returns the position of the first wrong byte for FOTS_UNEXPECTED_BYTE, the length of the text
     // for FOTS_UNEXPECTED_END, the position of the part for a parse_rule_error, of the item for
     // FOTS_UNKNOWN_ITEM, of the first wrong byte of a zone, and of the first of the holidays that
     // isn't after the one before. For FOTS_CONTRADICTION it is the status of the component, such as
     // FOTS_WEEKDAY_OUT_OF_RANGE.
-    std::size_t position() const noexcept { return position_; }
+    [[nodiscard]] std::size_t position() const noexcept { return position_; }
+
+protected:
+    // Takes the message of a class below.
+    error(std::int32_t status, std::size_t position, const std::string &message)
+        : std::runtime_error(message), status_(status), position_(position)
+    {
+    }
 
 private:
     static std::string message(std::int32_t status, std::size_t position)
@@ -70,9 +77,9 @@ private:
         if (status == FOTS_UNEXPECTED_END) {
             return "unexpected end at " + std::to_string(position);
         }
-        if ((status >= FOTS_UNKNOWN_PART && status <= FOTS_MISSING_FREQUENCY) || status == FOTS_UNKNOWN_ITEM
-            || (status >= FOTS_NOT_A_ZONE_FILE && status <= FOTS_TRAILING_BYTES && position != SIZE_MAX)
-            || ((status == FOTS_MISSING_START || (status >= FOTS_UNCLOSED_EVENT && status <= FOTS_OTHER_ZONE)) && position != SIZE_MAX)) {
+        const bool is_of_event = status == FOTS_UNCLOSED_EVENT || status == FOTS_OTHER_END;
+        if (position != SIZE_MAX && (status == FOTS_UNKNOWN_ITEM || status == FOTS_MISSING_START || is_of_event
+                || (status >= FOTS_NOT_A_ZONE_FILE && status <= FOTS_TRAILING_BYTES))) {
             return fots_status_name(status) + (" at " + std::to_string(position));
         }
         if (status == FOTS_INVALID_HOLIDAYS && position != SIZE_MAX) {
@@ -93,26 +100,63 @@ private:
 // Thrown by Recurrence::parse: the first wrong part of a text.
 class parse_rule_error : public error {
 public:
-    parse_rule_error(std::int32_t status, std::size_t position, std::uint32_t part) : error(status, position), part_(part) {}
+    parse_rule_error(std::int32_t status, std::size_t position, std::uint32_t part)
+        : error(status, position, message(status, position, part)), part_(part)
+    {
+    }
 
     // Returns the part, such as FOTS_RULE_BYDAY, or 0 for FOTS_UNKNOWN_PART and
     // FOTS_MISSING_FREQUENCY.
-    std::uint32_t part() const noexcept { return part_; }
+    [[nodiscard]] std::uint32_t part() const noexcept { return part_; }
+
+    // Returns the name of the part, such as "BYDAY", or "part" for 0.
+    [[nodiscard]] const char *part_name() const noexcept { return name_of(part_); }
 
 private:
+    static const char *name_of(std::uint32_t part) noexcept
+    {
+        constexpr const char *names[] = {"part", "FREQ", "INTERVAL", "WKST", "BYMONTH", "BYMONTHDAY", "BYDAY", "UNTIL", "COUNT", "BYSETPOS",
+            "BYYEARDAY", "BYWEEKNO", "BYHOUR", "BYMINUTE", "BYSECOND"};
+        return names[part <= FOTS_RULE_BYSECOND ? part : 0];
+    }
+
+    static std::string message(std::int32_t status, std::size_t position, std::uint32_t part)
+    {
+        const std::string name = name_of(part);
+        std::string said = fots_status_name(status);
+        if (status == FOTS_DUPLICATE_PART) {
+            said = "duplicate " + name;
+        } else if (status == FOTS_TOO_MANY_VALUES) {
+            said += " in " + name;
+        } else if (status == FOTS_INVALID_VALUE) {
+            said += " of " + name;
+        }
+        return said + " at " + std::to_string(position);
+    }
+
     std::uint32_t part_;
 };
 
 // Thrown for the first invalid line of an Event: position() is its start in the lines.
 class parse_event_error : public error {
 public:
-    parse_event_error(std::int32_t status, std::size_t position, std::uint32_t line) : error(status, position), line_(line) {}
+    parse_event_error(std::int32_t status, std::size_t position, std::uint32_t line)
+        : error(status, position, message(status, position, line)), line_(line)
+    {
+    }
 
     // Returns the line, such as FOTS_EVENT_RDATE, or 0 for FOTS_MISSING_START. For
     // FOTS_WRONG_KIND position() is SIZE_MAX.
-    std::uint32_t line() const noexcept { return line_; }
+    [[nodiscard]] std::uint32_t line() const noexcept { return line_; }
 
 private:
+    static std::string message(std::int32_t status, std::size_t position, std::uint32_t line)
+    {
+        constexpr const char *names[] = {"", " in DTSTART", " in RRULE", " in RDATE", " in EXDATE"};
+        const std::string place = position == SIZE_MAX ? "" : " at " + std::to_string(position);
+        return fots_status_name(status) + std::string(names[line <= FOTS_EVENT_EXDATE ? line : 0]) + place;
+    }
+
     std::uint32_t line_;
 };
 
@@ -238,12 +282,12 @@ inline std::string bytes_of_zone(const std::string &name)
 
 // Compares by a key.
 template <class Value> struct Ordered {
-    friend bool operator==(const Value &one, const Value &other) { return one.key() == other.key(); }
-    friend bool operator!=(const Value &one, const Value &other) { return one.key() != other.key(); }
-    friend bool operator<(const Value &one, const Value &other) { return one.key() < other.key(); }
-    friend bool operator<=(const Value &one, const Value &other) { return one.key() <= other.key(); }
-    friend bool operator>(const Value &one, const Value &other) { return one.key() > other.key(); }
-    friend bool operator>=(const Value &one, const Value &other) { return one.key() >= other.key(); }
+    [[nodiscard]] friend bool operator==(const Value &one, const Value &other) { return one.key() == other.key(); }
+    [[nodiscard]] friend bool operator!=(const Value &one, const Value &other) { return one.key() != other.key(); }
+    [[nodiscard]] friend bool operator<(const Value &one, const Value &other) { return one.key() < other.key(); }
+    [[nodiscard]] friend bool operator<=(const Value &one, const Value &other) { return one.key() <= other.key(); }
+    [[nodiscard]] friend bool operator>(const Value &one, const Value &other) { return one.key() > other.key(); }
+    [[nodiscard]] friend bool operator>=(const Value &one, const Value &other) { return one.key() >= other.key(); }
 };
 
 } // namespace detail
@@ -254,8 +298,8 @@ enum class Month : std::uint32_t {
 
 enum class Weekday : std::uint32_t { Monday = 1, Tuesday, Wednesday, Thursday, Friday, Saturday, Sunday };
 
-inline std::string to_string(Month month) { return detail::text(fots_month_name(static_cast<std::uint32_t>(month))); }
-inline std::string to_string(Weekday weekday) { return detail::text(fots_weekday_name(static_cast<std::uint32_t>(weekday))); }
+[[nodiscard]] inline std::string to_string(Month month) { return detail::text(fots_month_name(static_cast<std::uint32_t>(month))); }
+[[nodiscard]] inline std::string to_string(Weekday weekday) { return detail::text(fots_weekday_name(static_cast<std::uint32_t>(weekday))); }
 inline std::ostream &operator<<(std::ostream &out, Month month) { return out << to_string(month); }
 inline std::ostream &operator<<(std::ostream &out, Weekday weekday) { return out << to_string(weekday); }
 
@@ -264,12 +308,12 @@ class Format {
 public:
     // Take a text in the syntax of strftime, or of the Rust crate time.
     explicit Format(std::string_view text) : Format(fots_format_new(detail::data(text), text.size())) {}
-    static Format from_description(std::string_view text)
+    [[nodiscard]] static Format from_description(std::string_view text)
     {
         return Format(fots_format_from_description(detail::data(text), text.size()));
     }
 
-    const fots_format *c() const noexcept { return &value_; }
+    [[nodiscard]] const fots_format *c() const noexcept { return &value_; }
 
 private:
     explicit Format(const fots_format_result &result) : value_(detail::parsed_or_throw(result).format) {}
@@ -284,8 +328,8 @@ class LenientFormat {
 public:
     explicit LenientFormat(const Format &format, std::int32_t pivot = FOTS_NO_PIVOT) : format_(format), pivot_(pivot) {}
 
-    const fots_format *c() const noexcept { return format_.c(); }
-    std::int32_t pivot() const noexcept { return pivot_; }
+    [[nodiscard]] const fots_format *c() const noexcept { return format_.c(); }
+    [[nodiscard]] std::int32_t pivot() const noexcept { return pivot_; }
 
 private:
     Format format_;
@@ -303,46 +347,46 @@ public:
     explicit Duration(fots_duration value) : value_(value) { detail::value_or_throw(fots_duration_whole_seconds(value)); }
     Duration(fots_duration value, detail::Unchecked) noexcept : value_(value) {}
 
-    static Duration of(std::int64_t seconds, std::int32_t nanoseconds) { return from(fots_duration_new(seconds, nanoseconds)); }
+    [[nodiscard]] static Duration of(std::int64_t seconds, std::int32_t nanoseconds) { return from(fots_duration_new(seconds, nanoseconds)); }
     // Parses hours, minutes and seconds in ISO 8601, such as "PT2H30M0.5S".
-    static Duration parse(std::string_view text)
+    [[nodiscard]] static Duration parse(std::string_view text)
     {
         return Duration(detail::parsed_or_throw(fots_duration_parse(detail::data(text), text.size())).duration, {});
     }
     // Returns such a text.
-    std::string text() const { return detail::value_or_throw(fots_duration_text(value_)).bytes; }
+    [[nodiscard]] std::string text() const { return detail::value_or_throw(fots_duration_text(value_)).bytes; }
 
-    static Duration weeks(std::int64_t weeks) { return from(fots_duration_weeks(weeks)); }
-    static Duration days(std::int64_t days) { return from(fots_duration_days(days)); }
-    static Duration hours(std::int64_t hours) { return from(fots_duration_hours(hours)); }
-    static Duration minutes(std::int64_t minutes) { return from(fots_duration_minutes(minutes)); }
-    static Duration seconds(std::int64_t seconds) { return from(fots_duration_seconds(seconds)); }
-    static Duration milliseconds(std::int64_t milliseconds) { return from(fots_duration_milliseconds(milliseconds)); }
-    static Duration microseconds(std::int64_t microseconds) { return from(fots_duration_microseconds(microseconds)); }
-    static Duration nanoseconds(std::int64_t nanoseconds) { return from(fots_duration_nanoseconds(nanoseconds)); }
+    [[nodiscard]] static Duration weeks(std::int64_t weeks) { return from(fots_duration_weeks(weeks)); }
+    [[nodiscard]] static Duration days(std::int64_t days) { return from(fots_duration_days(days)); }
+    [[nodiscard]] static Duration hours(std::int64_t hours) { return from(fots_duration_hours(hours)); }
+    [[nodiscard]] static Duration minutes(std::int64_t minutes) { return from(fots_duration_minutes(minutes)); }
+    [[nodiscard]] static Duration seconds(std::int64_t seconds) { return from(fots_duration_seconds(seconds)); }
+    [[nodiscard]] static Duration milliseconds(std::int64_t milliseconds) { return from(fots_duration_milliseconds(milliseconds)); }
+    [[nodiscard]] static Duration microseconds(std::int64_t microseconds) { return from(fots_duration_microseconds(microseconds)); }
+    [[nodiscard]] static Duration nanoseconds(std::int64_t nanoseconds) { return from(fots_duration_nanoseconds(nanoseconds)); }
 
-    std::int64_t whole_weeks() const { return detail::value_or_throw(fots_duration_whole_weeks(value_)).number; }
-    std::int64_t whole_days() const { return detail::value_or_throw(fots_duration_whole_days(value_)).number; }
-    std::int64_t whole_hours() const { return detail::value_or_throw(fots_duration_whole_hours(value_)).number; }
-    std::int64_t whole_minutes() const { return detail::value_or_throw(fots_duration_whole_minutes(value_)).number; }
-    std::int64_t whole_seconds() const noexcept { return value_.seconds; }
-    std::int32_t subsec_nanoseconds() const noexcept { return value_.nanoseconds; }
-    Duration abs() const { return from(fots_duration_abs(value_)); }
+    [[nodiscard]] std::int64_t whole_weeks() const { return detail::value_or_throw(fots_duration_whole_weeks(value_)).number; }
+    [[nodiscard]] std::int64_t whole_days() const { return detail::value_or_throw(fots_duration_whole_days(value_)).number; }
+    [[nodiscard]] std::int64_t whole_hours() const { return detail::value_or_throw(fots_duration_whole_hours(value_)).number; }
+    [[nodiscard]] std::int64_t whole_minutes() const { return detail::value_or_throw(fots_duration_whole_minutes(value_)).number; }
+    [[nodiscard]] std::int64_t whole_seconds() const noexcept { return value_.seconds; }
+    [[nodiscard]] std::int32_t subsec_nanoseconds() const noexcept { return value_.nanoseconds; }
+    [[nodiscard]] Duration abs() const { return from(fots_duration_abs(value_)); }
     // Rounds to a multiple of a positive unit.
-    Duration round(Duration unit, RoundingMode mode) const
+    [[nodiscard]] Duration round(Duration unit, RoundingMode mode) const
     {
         return from(fots_duration_round(value_, unit.value_, static_cast<std::uint32_t>(mode)));
     }
 
-    friend Duration operator+(Duration one, Duration other) { return from(fots_duration_checked_add(one.value_, other.value_)); }
-    friend Duration operator-(Duration one, Duration other) { return from(fots_duration_checked_sub(one.value_, other.value_)); }
-    friend Duration operator*(Duration one, std::int32_t factor) { return from(fots_duration_checked_mul(one.value_, factor)); }
-    friend Duration operator*(std::int32_t factor, Duration one) { return one * factor; }
-    friend Duration operator/(Duration one, std::int32_t divisor) { return from(fots_duration_checked_div(one.value_, divisor)); }
-    Duration operator-() const { return from(fots_duration_checked_neg(value_)); }
+    [[nodiscard]] friend Duration operator+(Duration one, Duration other) { return from(fots_duration_checked_add(one.value_, other.value_)); }
+    [[nodiscard]] friend Duration operator-(Duration one, Duration other) { return from(fots_duration_checked_sub(one.value_, other.value_)); }
+    [[nodiscard]] friend Duration operator*(Duration one, std::int32_t factor) { return from(fots_duration_checked_mul(one.value_, factor)); }
+    [[nodiscard]] friend Duration operator*(std::int32_t factor, Duration one) { return one * factor; }
+    [[nodiscard]] friend Duration operator/(Duration one, std::int32_t divisor) { return from(fots_duration_checked_div(one.value_, divisor)); }
+    [[nodiscard]] Duration operator-() const { return from(fots_duration_checked_neg(value_)); }
 
-    fots_duration c() const noexcept { return value_; }
-    std::pair<std::int64_t, std::int32_t> key() const noexcept { return {value_.seconds, value_.nanoseconds}; }
+    [[nodiscard]] fots_duration c() const noexcept { return value_; }
+    [[nodiscard]] std::pair<std::int64_t, std::int32_t> key() const noexcept { return {value_.seconds, value_.nanoseconds}; }
 
 private:
     static Duration from(fots_duration_result result) { return Duration(detail::value_or_throw(result).duration, {}); }
@@ -370,59 +414,59 @@ public:
     explicit Time(fots_time value) : value_(value) { detail::value_or_throw(fots_time_hour(value)); }
     Time(fots_time value, detail::Unchecked) noexcept : value_(value) {}
 
-    static Time from_hms(std::uint32_t hour, std::uint32_t minute, std::uint32_t second)
+    [[nodiscard]] static Time from_hms(std::uint32_t hour, std::uint32_t minute, std::uint32_t second)
     {
         return Time(detail::value_or_throw(fots_time_from_hms(hour, minute, second)).time, {});
     }
-    static Time from_hms_nano(std::uint32_t hour, std::uint32_t minute, std::uint32_t second, std::uint32_t nanosecond)
+    [[nodiscard]] static Time from_hms_nano(std::uint32_t hour, std::uint32_t minute, std::uint32_t second, std::uint32_t nanosecond)
     {
         return Time(detail::value_or_throw(fots_time_from_hms_nano(hour, minute, second, nanosecond)).time, {});
     }
 
     // Returns the time of day that the clocks of a zone show now.
-    static Time now(const Zone &zone);
+    [[nodiscard]] static Time now(const Zone &zone);
     // Parses a time of day, such as "9:05" or "23:59:59.25".
-    static Time parse(std::string_view text) { return Time(detail::parsed_or_throw(fots_time_parse(detail::data(text), text.size())).time, {}); }
+    [[nodiscard]] static Time parse(std::string_view text) { return Time(detail::parsed_or_throw(fots_time_parse(detail::data(text), text.size())).time, {}); }
     // Parses a text in all formats of ISO 8601, such as "T225959,5" or "22".
-    static Time parse_iso(std::string_view text) { return Time(detail::parsed_or_throw(fots_time_parse_iso(detail::data(text), text.size())).time, {}); }
+    [[nodiscard]] static Time parse_iso(std::string_view text) { return Time(detail::parsed_or_throw(fots_time_parse_iso(detail::data(text), text.size())).time, {}); }
     // Parses the text of a value by a format, and no other text.
-    static Time parse(std::string_view text, const Format &format)
+    [[nodiscard]] static Time parse(std::string_view text, const Format &format)
     {
         return Time(detail::parsed_or_throw(fots_time_parse_format(detail::data(text), text.size(), format.c())).time, {});
     }
-    static Time parse(std::string_view text, const LenientFormat &format)
+    [[nodiscard]] static Time parse(std::string_view text, const LenientFormat &format)
     {
         return Time(detail::parsed_or_throw(fots_time_parse_leniently(detail::data(text), text.size(), format.c(), format.pivot())).time, {});
     }
 
-    std::uint32_t hour() const { return detail::value_or_throw(fots_time_hour(value_)).number; }
-    std::uint32_t minute() const { return detail::value_or_throw(fots_time_minute(value_)).number; }
-    std::uint32_t second() const { return detail::value_or_throw(fots_time_second(value_)).number; }
-    std::uint32_t nanosecond() const { return detail::value_or_throw(fots_time_nanosecond(value_)).number; }
+    [[nodiscard]] std::uint32_t hour() const { return detail::value_or_throw(fots_time_hour(value_)).number; }
+    [[nodiscard]] std::uint32_t minute() const { return detail::value_or_throw(fots_time_minute(value_)).number; }
+    [[nodiscard]] std::uint32_t second() const { return detail::value_or_throw(fots_time_second(value_)).number; }
+    [[nodiscard]] std::uint32_t nanosecond() const { return detail::value_or_throw(fots_time_nanosecond(value_)).number; }
 
     // Moves the time by a duration, modulo 24 hours. 23:00 plus 2 h is 1:00.
-    friend Time operator+(Time time, Duration duration) { return Time(detail::value_or_throw(fots_time_add(time.value_, duration.c())).time, {}); }
-    friend Time operator-(Time time, Duration duration) { return Time(detail::value_or_throw(fots_time_sub(time.value_, duration.c())).time, {}); }
+    [[nodiscard]] friend Time operator+(Time time, Duration duration) { return Time(detail::value_or_throw(fots_time_add(time.value_, duration.c())).time, {}); }
+    [[nodiscard]] friend Time operator-(Time time, Duration duration) { return Time(detail::value_or_throw(fots_time_sub(time.value_, duration.c())).time, {}); }
     // Subtracts on the same day: 0:00 minus 23:00 is -23 h.
-    friend Duration operator-(Time time, Time other)
+    [[nodiscard]] friend Duration operator-(Time time, Time other)
     {
         return Duration(detail::value_or_throw(fots_time_difference(time.value_, other.value_)).duration, {});
     }
 
     // Returns the text by a format, such as "23:59" by "%H:%M".
-    std::string format(const Format &format) const
+    [[nodiscard]] std::string format(const Format &format) const
     {
         return detail::written([&](char *bytes, std::size_t length) { return fots_time_format(value_, format.c(), bytes, length); });
     }
 
     // Rounds to a multiple of a unit since midnight, which divides 24 hours; 24:00 is 0:00.
-    Time round(Duration unit, RoundingMode mode) const
+    [[nodiscard]] Time round(Duration unit, RoundingMode mode) const
     {
         return Time(detail::value_or_throw(fots_time_round(value_, unit.c(), static_cast<std::uint32_t>(mode))).time, {});
     }
 
-    fots_time c() const noexcept { return value_; }
-    fots_time key() const noexcept { return value_; }
+    [[nodiscard]] fots_time c() const noexcept { return value_; }
+    [[nodiscard]] fots_time key() const noexcept { return value_; }
 
 private:
     fots_time value_;
@@ -434,44 +478,44 @@ public:
     explicit UtcOffset(fots_offset value) : value_(value) { detail::value_or_throw(fots_offset_whole_hours(value)); }
     UtcOffset(fots_offset value, detail::Unchecked) noexcept : value_(value) {}
 
-    static UtcOffset utc() { return UtcOffset(fots_offset{0}, {}); }
-    static UtcOffset from_hms(std::int32_t hours, std::int32_t minutes, std::int32_t seconds)
+    [[nodiscard]] static UtcOffset utc() { return UtcOffset(fots_offset{0}, {}); }
+    [[nodiscard]] static UtcOffset from_hms(std::int32_t hours, std::int32_t minutes, std::int32_t seconds)
     {
         return UtcOffset(detail::value_or_throw(fots_offset_from_hms(hours, minutes, seconds)).offset, {});
     }
-    static UtcOffset from_whole_seconds(std::int64_t seconds)
+    [[nodiscard]] static UtcOffset from_whole_seconds(std::int64_t seconds)
     {
         return UtcOffset(detail::value_or_throw(fots_offset_from_whole_seconds(seconds)).offset, {});
     }
 
     // Parses an offset, such as "Z", "+05:30" or "-00:00:01".
-    static UtcOffset parse(std::string_view text)
+    [[nodiscard]] static UtcOffset parse(std::string_view text)
     {
         return UtcOffset(detail::parsed_or_throw(fots_offset_parse(detail::data(text), text.size())).offset, {});
     }
     // Parses the text of a value by a format, and no other text.
-    static UtcOffset parse(std::string_view text, const Format &format)
+    [[nodiscard]] static UtcOffset parse(std::string_view text, const Format &format)
     {
         return UtcOffset(detail::parsed_or_throw(fots_offset_parse_format(detail::data(text), text.size(), format.c())).offset, {});
     }
 
-    std::int32_t whole_seconds() const noexcept { return value_.seconds; }
+    [[nodiscard]] std::int32_t whole_seconds() const noexcept { return value_.seconds; }
     // Returns the hours, minutes and seconds, with one sign.
-    std::tuple<std::int32_t, std::int32_t, std::int32_t> as_hms() const
+    [[nodiscard]] std::tuple<std::int32_t, std::int32_t, std::int32_t> as_hms() const
     {
         const fots_offset_hms_result components = detail::value_or_throw(fots_offset_as_hms(value_));
         return {components.hours, components.minutes, components.seconds};
     }
-    UtcOffset operator-() const { return UtcOffset(detail::value_or_throw(fots_offset_neg(value_)).offset, {}); }
+    [[nodiscard]] UtcOffset operator-() const { return UtcOffset(detail::value_or_throw(fots_offset_neg(value_)).offset, {}); }
 
     // Returns the text by a format, such as "+05:30" by "%:z".
-    std::string format(const Format &format) const
+    [[nodiscard]] std::string format(const Format &format) const
     {
         return detail::written([&](char *bytes, std::size_t length) { return fots_offset_format(value_, format.c(), bytes, length); });
     }
 
-    fots_offset c() const noexcept { return value_; }
-    std::int32_t key() const noexcept { return value_.seconds; }
+    [[nodiscard]] fots_offset c() const noexcept { return value_; }
+    [[nodiscard]] std::int32_t key() const noexcept { return value_.seconds; }
 
 private:
     fots_offset value_;
@@ -491,29 +535,29 @@ public:
     Period(const fots_period &value, detail::Unchecked) noexcept : value_(value) {}
 
     // Parses a period in ISO 8601, such as "P1Y2M10DT2H30M" or "-P1D".
-    static Period parse(std::string_view text)
+    [[nodiscard]] static Period parse(std::string_view text)
     {
         return Period(detail::parsed_or_throw(fots_period_parse(detail::data(text), text.size())).period, {});
     }
     // Returns such a text.
-    std::string text() const { return detail::value_or_throw(fots_period_text(value_)).bytes; }
+    [[nodiscard]] std::string text() const { return detail::value_or_throw(fots_period_text(value_)).bytes; }
 
-    static Period from_years(std::int32_t years) { return {years, 0, 0, 0}; }
-    static Period from_months(std::int32_t months) { return {0, months, 0, 0}; }
-    static Period from_weeks(std::int32_t weeks) { return {0, 0, weeks, 0}; }
-    static Period from_days(std::int32_t days) { return {0, 0, 0, days}; }
-    static Period from_duration(Duration duration) { return {0, 0, 0, 0, duration}; }
+    [[nodiscard]] static Period from_years(std::int32_t years) { return {years, 0, 0, 0}; }
+    [[nodiscard]] static Period from_months(std::int32_t months) { return {0, months, 0, 0}; }
+    [[nodiscard]] static Period from_weeks(std::int32_t weeks) { return {0, 0, weeks, 0}; }
+    [[nodiscard]] static Period from_days(std::int32_t days) { return {0, 0, 0, days}; }
+    [[nodiscard]] static Period from_duration(Duration duration) { return {0, 0, 0, 0, duration}; }
 
-    std::int32_t years() const noexcept { return value_.years; }
-    std::int32_t months() const noexcept { return value_.months; }
-    std::int32_t weeks() const noexcept { return value_.weeks; }
-    std::int32_t days() const noexcept { return value_.days; }
-    Duration duration() const noexcept { return Duration(value_.duration, {}); }
+    [[nodiscard]] std::int32_t years() const noexcept { return value_.years; }
+    [[nodiscard]] std::int32_t months() const noexcept { return value_.months; }
+    [[nodiscard]] std::int32_t weeks() const noexcept { return value_.weeks; }
+    [[nodiscard]] std::int32_t days() const noexcept { return value_.days; }
+    [[nodiscard]] Duration duration() const noexcept { return Duration(value_.duration, {}); }
 
-    fots_period c() const noexcept { return value_; }
+    [[nodiscard]] fots_period c() const noexcept { return value_; }
 
-    friend bool operator==(const Period &one, const Period &other) { return one.key() == other.key(); }
-    friend bool operator!=(const Period &one, const Period &other) { return one.key() != other.key(); }
+    [[nodiscard]] friend bool operator==(const Period &one, const Period &other) { return one.key() == other.key(); }
+    [[nodiscard]] friend bool operator!=(const Period &one, const Period &other) { return one.key() != other.key(); }
 
 private:
     std::tuple<std::int32_t, std::int32_t, std::int32_t, std::int32_t, Duration> key() const { return {years(), months(), weeks(), days(), duration()}; }
@@ -549,181 +593,181 @@ public:
     explicit Date(fots_date value) : value_(value) { detail::value_or_throw(fots_date_year(value)); }
     Date(fots_date value, detail::Unchecked) noexcept : value_(value) {}
 
-    static Date min() { return Date(fots_date{FOTS_MIN_JULIAN_DAY}, {}); }
-    static Date max() { return Date(fots_date{FOTS_MAX_JULIAN_DAY}, {}); }
-    static Date from_julian_day(std::int64_t julian_day) { return from(fots_date_from_julian_day(julian_day)); }
-    static Date from_calendar_date(std::int32_t year, std::uint32_t month, std::uint32_t day)
+    [[nodiscard]] static Date min() { return Date(fots_date{FOTS_MIN_JULIAN_DAY}, {}); }
+    [[nodiscard]] static Date max() { return Date(fots_date{FOTS_MAX_JULIAN_DAY}, {}); }
+    [[nodiscard]] static Date from_julian_day(std::int64_t julian_day) { return from(fots_date_from_julian_day(julian_day)); }
+    [[nodiscard]] static Date from_calendar_date(std::int32_t year, std::uint32_t month, std::uint32_t day)
     {
         return from(fots_date_from_calendar_date(year, month, day));
     }
-    static Date from_calendar_date(std::int32_t year, Month month, std::uint32_t day)
+    [[nodiscard]] static Date from_calendar_date(std::int32_t year, Month month, std::uint32_t day)
     {
         return from_calendar_date(year, static_cast<std::uint32_t>(month), day);
     }
-    static Date from_ordinal_date(std::int32_t year, std::uint32_t ordinal) { return from(fots_date_from_ordinal_date(year, ordinal)); }
-    static Date from_iso_week_date(std::int32_t year, std::uint32_t week, Weekday weekday)
+    [[nodiscard]] static Date from_ordinal_date(std::int32_t year, std::uint32_t ordinal) { return from(fots_date_from_ordinal_date(year, ordinal)); }
+    [[nodiscard]] static Date from_iso_week_date(std::int32_t year, std::uint32_t week, Weekday weekday)
     {
         return from(fots_date_from_iso_week_date(year, week, static_cast<std::uint32_t>(weekday)));
     }
     // Return Easter Sunday of a year in western churches, and in orthodox ones.
-    static Date easter(std::int32_t year) { return from(fots_easter(year)); }
-    static Date julian_easter(std::int32_t year) { return from(fots_julian_easter(year)); }
+    [[nodiscard]] static Date easter(std::int32_t year) { return from(fots_easter(year)); }
+    [[nodiscard]] static Date julian_easter(std::int32_t year) { return from(fots_julian_easter(year)); }
     // Returns the date that the clocks of a zone show now.
-    static Date today(const Zone &zone);
+    [[nodiscard]] static Date today(const Zone &zone);
     // Parses a calendar date, an ordinal date or an ISO week date, such as "2024-W09-4".
-    static Date parse(std::string_view text) { return Date(detail::parsed_or_throw(fots_date_parse(detail::data(text), text.size())).date, {}); }
+    [[nodiscard]] static Date parse(std::string_view text) { return Date(detail::parsed_or_throw(fots_date_parse(detail::data(text), text.size())).date, {}); }
     // Parses a text in all formats of ISO 8601, such as "20240229" or "2024-W09".
-    static Date parse_iso(std::string_view text) { return Date(detail::parsed_or_throw(fots_date_parse_iso(detail::data(text), text.size())).date, {}); }
+    [[nodiscard]] static Date parse_iso(std::string_view text) { return Date(detail::parsed_or_throw(fots_date_parse_iso(detail::data(text), text.size())).date, {}); }
     // Parses the text of a value by a format, and no other text.
-    static Date parse(std::string_view text, const Format &format)
+    [[nodiscard]] static Date parse(std::string_view text, const Format &format)
     {
         return Date(detail::parsed_or_throw(fots_date_parse_format(detail::data(text), text.size(), format.c())).date, {});
     }
-    static Date parse(std::string_view text, const LenientFormat &format)
+    [[nodiscard]] static Date parse(std::string_view text, const LenientFormat &format)
     {
         return Date(detail::parsed_or_throw(fots_date_parse_leniently(detail::data(text), text.size(), format.c(), format.pivot())).date, {});
     }
 
-    std::int32_t to_julian_day() const noexcept { return value_.julian_day; }
-    std::tuple<std::int32_t, Month, std::uint32_t> to_calendar_date() const
+    [[nodiscard]] std::int32_t to_julian_day() const noexcept { return value_.julian_day; }
+    [[nodiscard]] std::tuple<std::int32_t, Month, std::uint32_t> to_calendar_date() const
     {
         const fots_calendar_date_result found = detail::value_or_throw(fots_date_to_calendar_date(value_));
         return {found.year, static_cast<Month>(found.month), found.day};
     }
-    std::tuple<std::int32_t, std::uint32_t> to_ordinal_date() const
+    [[nodiscard]] std::tuple<std::int32_t, std::uint32_t> to_ordinal_date() const
     {
         const fots_ordinal_date_result found = detail::value_or_throw(fots_date_to_ordinal_date(value_));
         return {found.year, found.ordinal};
     }
-    std::tuple<std::int32_t, std::uint32_t, Weekday> to_iso_week_date() const
+    [[nodiscard]] std::tuple<std::int32_t, std::uint32_t, Weekday> to_iso_week_date() const
     {
         const fots_iso_week_date_result found = detail::value_or_throw(fots_date_to_iso_week_date(value_));
         return {found.year, found.week, static_cast<Weekday>(found.weekday)};
     }
 
-    std::int32_t year() const { return detail::value_or_throw(fots_date_year(value_)).number; }
-    Month month() const { return static_cast<Month>(detail::value_or_throw(fots_date_month(value_)).number); }
-    std::uint32_t day() const { return detail::value_or_throw(fots_date_day(value_)).number; }
-    std::uint32_t ordinal() const { return detail::value_or_throw(fots_date_ordinal(value_)).number; }
-    std::uint32_t iso_week() const { return detail::value_or_throw(fots_date_iso_week(value_)).number; }
-    Weekday weekday() const { return static_cast<Weekday>(detail::value_or_throw(fots_date_weekday(value_)).number); }
+    [[nodiscard]] std::int32_t year() const { return detail::value_or_throw(fots_date_year(value_)).number; }
+    [[nodiscard]] Month month() const { return static_cast<Month>(detail::value_or_throw(fots_date_month(value_)).number); }
+    [[nodiscard]] std::uint32_t day() const { return detail::value_or_throw(fots_date_day(value_)).number; }
+    [[nodiscard]] std::uint32_t ordinal() const { return detail::value_or_throw(fots_date_ordinal(value_)).number; }
+    [[nodiscard]] std::uint32_t iso_week() const { return detail::value_or_throw(fots_date_iso_week(value_)).number; }
+    [[nodiscard]] Weekday weekday() const { return static_cast<Weekday>(detail::value_or_throw(fots_date_weekday(value_)).number); }
 
-    std::optional<Date> next_day() const { return if_any(fots_date_next_day(value_)); }
-    std::optional<Date> previous_day() const { return if_any(fots_date_previous_day(value_)); }
-    std::optional<Date> checked_add_days(std::int64_t days) const { return if_any(fots_date_add_days(value_, days)); }
-    std::optional<Date> checked_add(Duration duration) const { return if_any(fots_date_checked_add(value_, duration.c())); }
-    std::optional<Date> checked_sub(Duration duration) const { return if_any(fots_date_checked_sub(value_, duration.c())); }
-    Date saturating_add(Duration duration) const { return from(fots_date_saturating_add(value_, duration.c())); }
-    Date saturating_sub(Duration duration) const { return from(fots_date_saturating_sub(value_, duration.c())); }
-    std::optional<Date> checked_next_occurrence(Weekday weekday) const
+    [[nodiscard]] std::optional<Date> next_day() const { return if_any(fots_date_next_day(value_)); }
+    [[nodiscard]] std::optional<Date> previous_day() const { return if_any(fots_date_previous_day(value_)); }
+    [[nodiscard]] std::optional<Date> checked_add_days(std::int64_t days) const { return if_any(fots_date_add_days(value_, days)); }
+    [[nodiscard]] std::optional<Date> checked_add(Duration duration) const { return if_any(fots_date_checked_add(value_, duration.c())); }
+    [[nodiscard]] std::optional<Date> checked_sub(Duration duration) const { return if_any(fots_date_checked_sub(value_, duration.c())); }
+    [[nodiscard]] Date saturating_add(Duration duration) const { return from(fots_date_saturating_add(value_, duration.c())); }
+    [[nodiscard]] Date saturating_sub(Duration duration) const { return from(fots_date_saturating_sub(value_, duration.c())); }
+    [[nodiscard]] std::optional<Date> checked_next_occurrence(Weekday weekday) const
     {
         return if_any(fots_date_next_occurrence(value_, static_cast<std::uint32_t>(weekday)));
     }
-    std::optional<Date> checked_prev_occurrence(Weekday weekday) const
+    [[nodiscard]] std::optional<Date> checked_prev_occurrence(Weekday weekday) const
     {
         return if_any(fots_date_prev_occurrence(value_, static_cast<std::uint32_t>(weekday)));
     }
 
-    Date replace_year(std::int32_t year) const { return from(fots_date_replace_year(value_, year)); }
-    Date replace_month(Month month) const { return from(fots_date_replace_month(value_, static_cast<std::uint32_t>(month))); }
-    Date replace_day(std::uint32_t day) const { return from(fots_date_replace_day(value_, day)); }
-    Date replace_ordinal(std::uint32_t ordinal) const { return from(fots_date_replace_ordinal(value_, ordinal)); }
+    [[nodiscard]] Date replace_year(std::int32_t year) const { return from(fots_date_replace_year(value_, year)); }
+    [[nodiscard]] Date replace_month(Month month) const { return from(fots_date_replace_month(value_, static_cast<std::uint32_t>(month))); }
+    [[nodiscard]] Date replace_day(std::uint32_t day) const { return from(fots_date_replace_day(value_, day)); }
+    [[nodiscard]] Date replace_ordinal(std::uint32_t ordinal) const { return from(fots_date_replace_ordinal(value_, ordinal)); }
 
-    std::optional<Date> checked_add_months(std::int32_t months) const { return if_any(fots_date_add_months(value_, months)); }
-    std::optional<Date> checked_add_years(std::int32_t years) const { return if_any(fots_date_add_years(value_, years)); }
-    Date saturating_add_months(std::int32_t months) const { return from(fots_date_saturating_add_months(value_, months)); }
+    [[nodiscard]] std::optional<Date> checked_add_months(std::int32_t months) const { return if_any(fots_date_add_months(value_, months)); }
+    [[nodiscard]] std::optional<Date> checked_add_years(std::int32_t years) const { return if_any(fots_date_add_years(value_, years)); }
+    [[nodiscard]] Date saturating_add_months(std::int32_t months) const { return from(fots_date_saturating_add_months(value_, months)); }
     // Return the date a period later, or some periods later at once, without a drift. A period with a
     // duration throws FOTS_PERIOD_HAS_DURATION.
-    std::optional<Date> checked_add_period(const Period &period) const { return if_any(fots_date_add_period(value_, period.c())); }
-    std::optional<Date> nth_period(const Period &period, std::int32_t n) const { return if_any(fots_date_nth_period(value_, period.c(), n)); }
-    std::int32_t months_until(Date other) const { return detail::value_or_throw(fots_date_months_until(value_, other.value_)).number; }
-    std::int32_t years_until(Date other) const { return detail::value_or_throw(fots_date_years_until(value_, other.value_)).number; }
+    [[nodiscard]] std::optional<Date> checked_add_period(const Period &period) const { return if_any(fots_date_add_period(value_, period.c())); }
+    [[nodiscard]] std::optional<Date> nth_period(const Period &period, std::int32_t n) const { return if_any(fots_date_nth_period(value_, period.c(), n)); }
+    [[nodiscard]] std::int32_t months_until(Date other) const { return detail::value_or_throw(fots_date_months_until(value_, other.value_)).number; }
+    [[nodiscard]] std::int32_t years_until(Date other) const { return detail::value_or_throw(fots_date_years_until(value_, other.value_)).number; }
     // The step that a date is in, or none if it is before this date, or if the period has a duration or isn't positive.
-    std::optional<std::int32_t> step_of(const Period &period, Date date) const
+    [[nodiscard]] std::optional<std::int32_t> step_of(const Period &period, Date date) const
     {
         const fots_number_result found = fots_date_step_of(value_, period.c(), date.value_);
         return found.status == FOTS_OK ? std::optional<std::int32_t>(found.number) : std::nullopt;
     }
-    Period period_until(Date other) const { return period_of(fots_date_period_until(value_, other.value_)); }
-    Period period_until_by(Date other, CalendarUnit unit) const
+    [[nodiscard]] Period period_until(Date other) const { return period_of(fots_date_period_until(value_, other.value_)); }
+    [[nodiscard]] Period period_until_by(Date other, CalendarUnit unit) const
     {
         return period_of(fots_date_period_until_by(value_, other.value_, static_cast<std::uint32_t>(unit)));
     }
-    YearFraction day_count(Date other, DayCount convention) const
+    [[nodiscard]] YearFraction day_count(Date other, DayCount convention) const
     {
         const fots_year_fraction_result found =
             detail::value_or_throw(fots_date_day_count(value_, other.value_, static_cast<std::uint32_t>(convention)));
         return {found.numerator, found.denominator};
     }
 
-    Date first_of_month() const { return from(fots_date_first_of_month(value_)); }
-    Date last_of_month() const { return from(fots_date_last_of_month(value_)); }
-    Date first_of_quarter() const { return from(fots_date_first_of_quarter(value_)); }
-    Date last_of_quarter() const { return from(fots_date_last_of_quarter(value_)); }
-    Date first_of_year() const { return from(fots_date_first_of_year(value_)); }
-    Date last_of_year() const { return from(fots_date_last_of_year(value_)); }
-    Date first_of_iso_week() const { return from(fots_date_first_of_iso_week(value_)); }
-    std::optional<Date> last_of_iso_week() const { return if_any(fots_date_last_of_iso_week(value_)); }
-    std::uint32_t quarter() const { return detail::value_or_throw(fots_date_quarter(value_)).number; }
-    static Date nth_weekday_of_month(std::int32_t year, Month month, Weekday weekday, std::uint32_t n)
+    [[nodiscard]] Date first_of_month() const { return from(fots_date_first_of_month(value_)); }
+    [[nodiscard]] Date last_of_month() const { return from(fots_date_last_of_month(value_)); }
+    [[nodiscard]] Date first_of_quarter() const { return from(fots_date_first_of_quarter(value_)); }
+    [[nodiscard]] Date last_of_quarter() const { return from(fots_date_last_of_quarter(value_)); }
+    [[nodiscard]] Date first_of_year() const { return from(fots_date_first_of_year(value_)); }
+    [[nodiscard]] Date last_of_year() const { return from(fots_date_last_of_year(value_)); }
+    [[nodiscard]] Date first_of_iso_week() const { return from(fots_date_first_of_iso_week(value_)); }
+    [[nodiscard]] std::optional<Date> last_of_iso_week() const { return if_any(fots_date_last_of_iso_week(value_)); }
+    [[nodiscard]] std::uint32_t quarter() const { return detail::value_or_throw(fots_date_quarter(value_)).number; }
+    [[nodiscard]] static Date nth_weekday_of_month(std::int32_t year, Month month, Weekday weekday, std::uint32_t n)
     {
         return from(fots_date_nth_weekday_of_month(
             year, static_cast<std::uint32_t>(month), static_cast<std::uint32_t>(weekday), n));
     }
-    static Date last_weekday_of_month(std::int32_t year, Month month, Weekday weekday)
+    [[nodiscard]] static Date last_weekday_of_month(std::int32_t year, Month month, Weekday weekday)
     {
         return from(fots_date_last_weekday_of_month(year, static_cast<std::uint32_t>(month), static_cast<std::uint32_t>(weekday)));
     }
-    std::optional<Date> on_or_after(Weekday weekday) const
+    [[nodiscard]] std::optional<Date> on_or_after(Weekday weekday) const
     {
         return if_any(fots_date_on_or_after(value_, static_cast<std::uint32_t>(weekday)));
     }
-    std::optional<Date> on_or_before(Weekday weekday) const
+    [[nodiscard]] std::optional<Date> on_or_before(Weekday weekday) const
     {
         return if_any(fots_date_on_or_before(value_, static_cast<std::uint32_t>(weekday)));
     }
 
     // Moves the date by the whole days of a duration, truncated toward zero.
-    friend Date operator+(Date date, Duration duration) { return from(fots_date_checked_add(date.value_, duration.c())); }
-    friend Date operator-(Date date, Duration duration) { return from(fots_date_checked_sub(date.value_, duration.c())); }
-    friend Duration operator-(Date date, Date other)
+    [[nodiscard]] friend Date operator+(Date date, Duration duration) { return from(fots_date_checked_add(date.value_, duration.c())); }
+    [[nodiscard]] friend Date operator-(Date date, Duration duration) { return from(fots_date_checked_sub(date.value_, duration.c())); }
+    [[nodiscard]] friend Duration operator-(Date date, Date other)
     {
         return Duration(detail::value_or_throw(fots_date_duration_since(date.value_, other.value_)).duration, {});
     }
 
     // Return texts of ISO 8601: 2024-02-29, 2024-060, 2024-W09-4.
-    std::string calendar_text() const { return detail::text(fots_date_calendar_text(value_)); }
-    std::string ordinal_text() const { return detail::text(fots_date_ordinal_text(value_)); }
-    std::string week_text() const { return detail::text(fots_date_week_text(value_)); }
+    [[nodiscard]] std::string calendar_text() const { return detail::text(fots_date_calendar_text(value_)); }
+    [[nodiscard]] std::string ordinal_text() const { return detail::text(fots_date_ordinal_text(value_)); }
+    [[nodiscard]] std::string week_text() const { return detail::text(fots_date_week_text(value_)); }
 
     // Returns the text by a format, such as "29/02/2024" by "%d/%m/%Y".
-    std::string format(const Format &format) const
+    [[nodiscard]] std::string format(const Format &format) const
     {
         return detail::written([&](char *bytes, std::size_t length) { return fots_date_format(value_, format.c(), bytes, length); });
     }
 
 #if __cplusplus >= 202002L
     // Converts a day of <chrono>, or throws FOTS_JULIAN_DAY_OUT_OF_RANGE.
-    static Date from_sys_days(std::chrono::sys_days day)
+    [[nodiscard]] static Date from_sys_days(std::chrono::sys_days day)
     {
         // Days after the range stay after it, and their sum can't overflow.
         return from_julian_day(std::min(std::int64_t{day.time_since_epoch().count()}, std::int64_t{INT32_MAX}) + unix_epoch);
     }
     // Converts to a day of <chrono>.
-    std::chrono::sys_days to_sys_days() const
+    [[nodiscard]] std::chrono::sys_days to_sys_days() const
     {
         return std::chrono::sys_days(std::chrono::days(value_.julian_day - unix_epoch));
     }
 #endif
 
     // Converts a result of C, which is empty for FOTS_RESULT_OUT_OF_RANGE.
-    static std::optional<Date> if_any(fots_date_result result)
+    [[nodiscard]] static std::optional<Date> if_any(fots_date_result result)
     {
         return detail::is_in_range(result) ? std::optional<Date>(Date(result.date, {})) : std::nullopt;
     }
 
-    fots_date c() const noexcept { return value_; }
-    std::int32_t key() const noexcept { return value_.julian_day; }
+    [[nodiscard]] fots_date c() const noexcept { return value_; }
+    [[nodiscard]] std::int32_t key() const noexcept { return value_.julian_day; }
 
 private:
     // The Julian day of 1970-01-01.
@@ -743,11 +787,18 @@ private:
 // 31 January 2024 they are 31 January, 29 February, 31 March and so on. Each is counted from the start,
 // so nothing drifts. To be read in a loop: for (const Date date : Steps(start, period)).
 template <class Value> class Steps {
+    // What an iterator copies, so that it outlives the steps.
+    struct Parts {
+        Value start;
+        Period period;
+        std::uint32_t count;
+    };
+
 public:
     // Parses a repeated interval in ISO 8601: of dates, such as "R12/2024-01-31/P1M", or of local
     // date-times, such as "R12/2024-01-31T09:00/P1M" by Steps<PlainDateTime>. They end after their number,
     // or never in "R/2024-01-31/P1M".
-    static Steps parse(std::string_view text)
+    [[nodiscard]] static Steps parse(std::string_view text)
     {
         if constexpr (std::is_same<Value, Date>::value) {
             const fots_parse_repeated_dates_result found = detail::parsed_or_throw(fots_repeated_dates_parse(detail::data(text), text.size()));
@@ -760,7 +811,7 @@ public:
     // Throws a std::invalid_argument if the period isn't positive, or has a duration and the start is a date.
     Steps(Value start, const Period &period) : Steps(start, period, 0) {}
     // Only the first `count` of them; 0 for all in the range.
-    Steps(Value start, const Period &period, std::uint32_t count) : start_(start), period_(period), count_(count)
+    Steps(Value start, const Period &period, std::uint32_t count) : parts_{start, period, count}
     {
         if (!start.step_of(period, start)) {
             throw std::invalid_argument("steps of a period that isn't positive, or of dates by a duration");
@@ -775,12 +826,12 @@ public:
         using pointer = const Value *;
         using reference = const Value &;
 
-        reference operator*() const { return *step_; }
-        pointer operator->() const { return &*step_; }
+        [[nodiscard]] reference operator*() const { return *step_; }
+        [[nodiscard]] pointer operator->() const { return &*step_; }
         iterator &operator++()
         {
             ++number_;
-            step_ = static_cast<std::uint32_t>(number_) == steps_->count_ ? std::nullopt : steps_->start_.nth_period(steps_->period_, number_);
+            step_ = static_cast<std::uint32_t>(number_) == steps_.count ? std::nullopt : steps_.start.nth_period(steps_.period, number_);
             return *this;
         }
         iterator operator++(int)
@@ -789,25 +840,23 @@ public:
             ++*this;
             return before;
         }
-        friend bool operator==(const iterator &one, const iterator &other) { return one.step_ == other.step_; }
-        friend bool operator!=(const iterator &one, const iterator &other) { return !(one == other); }
+        [[nodiscard]] friend bool operator==(const iterator &one, const iterator &other) { return one.step_ == other.step_; }
+        [[nodiscard]] friend bool operator!=(const iterator &one, const iterator &other) { return !(one == other); }
 
     private:
         friend class Steps;
-        iterator(const Steps *steps, std::optional<Value> step) : steps_(steps), step_(step) {}
+        iterator(const Parts &steps, std::optional<Value> step) : steps_(steps), step_(step) {}
 
-        const Steps *steps_;
+        Parts steps_;
         std::optional<Value> step_;
         std::int32_t number_ = 0;
     };
 
-    iterator begin() const { return {this, start_}; }
-    iterator end() const { return {this, std::nullopt}; }
+    [[nodiscard]] iterator begin() const { return {parts_, parts_.start}; }
+    [[nodiscard]] iterator end() const { return {parts_, std::nullopt}; }
 
 private:
-    Value start_;
-    Period period_;
-    std::uint32_t count_;
+    Parts parts_;
 };
 
 // The days from a date up to another, which isn't in the range. There may be none.
@@ -816,34 +865,34 @@ public:
     // Creates a range, or throws FOTS_INVALID_RANGE if the end is before the start.
     DateRange(Date start, Date end) : value_{start.c(), end.c()} { detail::value_or_throw(fots_date_range_length(value_)); }
     // Parses an interval in ISO 8601, such as "2024-01-01/2024-02-01", "2024-01-01/P1M" or "P1M/2024-02-01".
-    static DateRange parse(std::string_view text)
+    [[nodiscard]] static DateRange parse(std::string_view text)
     {
         return DateRange(detail::parsed_or_throw(fots_date_interval_parse(detail::data(text), text.size())).range);
     }
 
-    Date start() const noexcept { return Date(value_.start, {}); }
-    Date end() const noexcept { return Date(value_.end, {}); }
-    std::uint32_t length() const { return detail::value_or_throw(fots_date_range_length(value_)).number; }
-    bool contains(Date date) const { return detail::value_or_throw(fots_date_range_contains(value_, date.c())).number == 1; }
+    [[nodiscard]] Date start() const noexcept { return Date(value_.start, {}); }
+    [[nodiscard]] Date end() const noexcept { return Date(value_.end, {}); }
+    [[nodiscard]] std::uint32_t length() const { return detail::value_or_throw(fots_date_range_length(value_)).number; }
+    [[nodiscard]] bool contains(Date date) const { return detail::value_or_throw(fots_date_range_contains(value_, date.c())).number == 1; }
     // Returns whether a day is in both ranges.
-    bool overlaps(DateRange other) const { return detail::value_or_throw(fots_date_range_overlaps(value_, other.value_)).number == 1; }
+    [[nodiscard]] bool overlaps(DateRange other) const { return detail::value_or_throw(fots_date_range_overlaps(value_, other.value_)).number == 1; }
     // Returns the days that are in both ranges, if there are any.
-    std::optional<DateRange> intersection(DateRange other) const
+    [[nodiscard]] std::optional<DateRange> intersection(DateRange other) const
     {
         const fots_date_range_result found = fots_date_range_intersection(value_, other.value_);
         return detail::is_in_range(found) ? std::optional<DateRange>(DateRange(found.range)) : std::nullopt;
     }
     // Returns how many days of the range are in the other one, and how many days it has.
-    std::tuple<std::uint32_t, std::uint32_t> share(DateRange other) const
+    [[nodiscard]] std::tuple<std::uint32_t, std::uint32_t> share(DateRange other) const
     {
         const fots_share_result found = detail::value_or_throw(fots_date_range_share(value_, other.value_));
         return {found.common, found.days};
     }
 
-    fots_date_range c() const noexcept { return value_; }
+    [[nodiscard]] fots_date_range c() const noexcept { return value_; }
 
-    friend bool operator==(DateRange one, DateRange other) { return one.start() == other.start() && one.end() == other.end(); }
-    friend bool operator!=(DateRange one, DateRange other) { return !(one == other); }
+    [[nodiscard]] friend bool operator==(DateRange one, DateRange other) { return one.start() == other.start() && one.end() == other.end(); }
+    [[nodiscard]] friend bool operator!=(DateRange one, DateRange other) { return !(one == other); }
 
 private:
     explicit DateRange(fots_date_range value) noexcept : value_(value) {}
@@ -851,7 +900,7 @@ private:
     fots_date_range value_;
 };
 
-inline std::string to_string(Date date) { return date.calendar_text(); }
+[[nodiscard]] inline std::string to_string(Date date) { return date.calendar_text(); }
 inline std::ostream &operator<<(std::ostream &out, Date date) { return out << date.calendar_text(); }
 
 enum class Convention : std::uint32_t {
@@ -944,7 +993,7 @@ public:
     }
 
     // Takes Monday to Friday without the holidays of a calendar from one date through another.
-    static Workdays of(Calendar calendar, Date first, Date last)
+    [[nodiscard]] static Workdays of(Calendar calendar, Date first, Date last)
     {
         std::vector<fots_date> dates(FOTS_MAX_HOLIDAYS);
         const fots_number_result found = detail::value_or_throw(
@@ -956,18 +1005,18 @@ public:
         return made;
     }
 
-    bool is_workday(Date date) const { return detail::value_or_throw(with_view(fots_workdays_view_contains, date.c())).number == 1; }
-    std::optional<Date> next_workday(Date date) const { return checked_add_workdays(date, 1); }
-    std::optional<Date> previous_workday(Date date) const { return checked_add_workdays(date, -1); }
-    std::optional<Date> checked_add_workdays(Date date, std::int32_t days) const
+    [[nodiscard]] bool is_workday(Date date) const { return detail::value_or_throw(with_view(fots_workdays_view_contains, date.c())).number == 1; }
+    [[nodiscard]] std::optional<Date> next_workday(Date date) const { return checked_add_workdays(date, 1); }
+    [[nodiscard]] std::optional<Date> previous_workday(Date date) const { return checked_add_workdays(date, -1); }
+    [[nodiscard]] std::optional<Date> checked_add_workdays(Date date, std::int32_t days) const
     {
         return Date::if_any(with_view(fots_workdays_view_add, date.c(), days));
     }
-    std::int32_t workdays_between(Date from, Date to) const
+    [[nodiscard]] std::int32_t workdays_between(Date from, Date to) const
     {
         return detail::value_or_throw(with_view(fots_workdays_view_between, from.c(), to.c())).number;
     }
-    std::optional<Date> adjust(Date date, Convention convention) const
+    [[nodiscard]] std::optional<Date> adjust(Date date, Convention convention) const
     {
         return Date::if_any(with_view(fots_workdays_view_adjust, date.c(), static_cast<std::uint32_t>(convention)));
     }
@@ -1028,21 +1077,21 @@ public:
     std::vector<Date> dates{};
     std::vector<Date> exceptions{};
 
-    std::optional<Date> first() const { return Date::if_any(with([](const fots_rule *rule) { return fots_rule_first(rule); })); }
-    std::optional<Date> next_after(Date date) const
+    [[nodiscard]] std::optional<Date> first() const { return Date::if_any(with([](const fots_rule *rule) { return fots_rule_first(rule); })); }
+    [[nodiscard]] std::optional<Date> next_after(Date date) const
     {
         return Date::if_any(with([date](const fots_rule *rule) { return fots_rule_next_after(rule, date.c()); }));
     }
-    std::optional<Date> previous_before(Date date) const
+    [[nodiscard]] std::optional<Date> previous_before(Date date) const
     {
         return Date::if_any(with([date](const fots_rule *rule) { return fots_rule_previous_before(rule, date.c()); }));
     }
-    bool contains(Date date) const
+    [[nodiscard]] bool contains(Date date) const
     {
         return detail::value_or_throw(with([date](const fots_rule *rule) { return fots_rule_contains(rule, date.c()); })).number == 1;
     }
     // Returns the first days after a date, in order: `count` of them, or fewer if no more follow. Allocates room for `count` days.
-    std::vector<Date> days_after(Date date, std::size_t count) const
+    [[nodiscard]] std::vector<Date> days_after(Date date, std::size_t count) const
     {
         // At least one, so that data() is not null.
         std::vector<fots_date> room(std::max(count, std::size_t{1}));
@@ -1051,7 +1100,7 @@ public:
         return detail::first_dates(room, written.length);
     }
     // Returns the first days of the rule, in order: `count` of them, or fewer if no more follow.
-    std::vector<Date> first_days(std::size_t count) const
+    [[nodiscard]] std::vector<Date> first_days(std::size_t count) const
     {
         const std::optional<Date> one = first();
         if (count == 0 || !one) {
@@ -1104,15 +1153,16 @@ private:
 class Recurrence {
 public:
     // Parses a text, or throws a parse_rule_error.
-    static Recurrence parse(std::string_view text) { return Recurrence(std::string(text)); }
+    [[nodiscard]] static Recurrence parse(std::string_view text) { return Recurrence(std::string(text)); }
 
     // Returns the text with its parts in one order.
-    const std::string &text() const noexcept { return text_; }
+    [[nodiscard]] const std::string &text() const & noexcept { return text_; }
+    [[nodiscard]] std::string text() && noexcept { return std::move(text_); }
 
-    Frequency frequency() const noexcept { return static_cast<Frequency>(parts_.frequency); }
-    std::uint32_t interval() const noexcept { return parts_.interval; }
-    Weekday week_start() const noexcept { return static_cast<Weekday>(parts_.week_start); }
-    std::vector<Month> months() const
+    [[nodiscard]] Frequency frequency() const noexcept { return static_cast<Frequency>(parts_.frequency); }
+    [[nodiscard]] std::uint32_t interval() const noexcept { return parts_.interval; }
+    [[nodiscard]] Weekday week_start() const noexcept { return static_cast<Weekday>(parts_.week_start); }
+    [[nodiscard]] std::vector<Month> months() const
     {
         std::vector<Month> months;
         for (std::uint32_t index = 0; index < parts_.months_length; ++index) {
@@ -1120,10 +1170,10 @@ public:
         }
         return months;
     }
-    std::vector<std::int8_t> weeks() const { return {parts_.weeks, parts_.weeks + parts_.weeks_length}; }
-    std::vector<std::int16_t> year_days() const { return {parts_.year_days, parts_.year_days + parts_.year_days_length}; }
-    std::vector<std::int8_t> month_days() const { return {parts_.month_days, parts_.month_days + parts_.month_days_length}; }
-    std::vector<ByDay> weekdays() const
+    [[nodiscard]] std::vector<std::int8_t> weeks() const { return {parts_.weeks, parts_.weeks + parts_.weeks_length}; }
+    [[nodiscard]] std::vector<std::int16_t> year_days() const { return {parts_.year_days, parts_.year_days + parts_.year_days_length}; }
+    [[nodiscard]] std::vector<std::int8_t> month_days() const { return {parts_.month_days, parts_.month_days + parts_.month_days_length}; }
+    [[nodiscard]] std::vector<ByDay> weekdays() const
     {
         std::vector<ByDay> weekdays;
         for (std::uint32_t index = 0; index < parts_.weekdays_length; ++index) {
@@ -1132,16 +1182,16 @@ public:
         }
         return weekdays;
     }
-    std::vector<std::int16_t> set_positions() const { return {parts_.set_positions, parts_.set_positions + parts_.set_positions_length}; }
+    [[nodiscard]] std::vector<std::int16_t> set_positions() const { return {parts_.set_positions, parts_.set_positions + parts_.set_positions_length}; }
     // Return the last day or the number of times, if given.
-    std::optional<Date> until() const
+    [[nodiscard]] std::optional<Date> until() const
     {
         return parts_.until.julian_day == FOTS_NO_VALUE ? std::nullopt : std::optional(Date(parts_.until, {}));
     }
-    std::optional<std::uint32_t> count() const { return parts_.count == 0 ? std::nullopt : std::optional(parts_.count); }
+    [[nodiscard]] std::optional<std::uint32_t> count() const { return parts_.count == 0 ? std::nullopt : std::optional(parts_.count); }
 
     // Returns the rule from a start, without the number of times.
-    Rule rule(Date start) const
+    [[nodiscard]] Rule rule(Date start) const
     {
         Rule rule(start, frequency());
         rule.interval = interval();
@@ -1157,7 +1207,7 @@ public:
     }
 
     // Returns the first days from a start: `count` of them, or fewer if no more follow. Allocates room for `count` days.
-    std::vector<Date> days(Date start, std::size_t count) const { return days_from(start, start, count); }
+    [[nodiscard]] std::vector<Date> days(Date start, std::size_t count) const { return days_from(start, start, count); }
     // Returns the first of these days that are not before `from`.
     std::vector<Date> days_from(Date start, Date from, std::size_t count) const
     {
@@ -1169,8 +1219,8 @@ public:
     }
 
     // Compare the parts, by their texts.
-    friend bool operator==(const Recurrence &one, const Recurrence &other) { return one.text_ == other.text_; }
-    friend bool operator!=(const Recurrence &one, const Recurrence &other) { return one.text_ != other.text_; }
+    [[nodiscard]] friend bool operator==(const Recurrence &one, const Recurrence &other) { return one.text_ == other.text_; }
+    [[nodiscard]] friend bool operator!=(const Recurrence &one, const Recurrence &other) { return one.text_ != other.text_; }
 
 private:
     explicit Recurrence(const std::string &text) : parts_(detail::recurrence_or_throw(fots_recurrence_parse(text.data(), text.size())).recurrence)
@@ -1186,40 +1236,40 @@ private:
 inline std::ostream &operator<<(std::ostream &out, const Recurrence &recurrence) { return out << recurrence.text(); }
 
 // Moves a date and time by a duration. The result is empty out of range.
-inline std::optional<std::pair<Date, Time>> add_to_pair(Date date, Time time, Duration duration)
+[[nodiscard]] inline std::optional<std::pair<Date, Time>> add_to_pair(Date date, Time time, Duration duration)
 {
     const fots_pair_result pair = fots_add_to_pair(date.c(), time.c(), duration.c());
     return detail::is_in_range(pair) ? std::optional(std::pair(Date(pair.date, {}), Time(pair.time, {}))) : std::nullopt;
 }
 
-inline std::optional<std::pair<Date, Time>> sub_from_pair(Date date, Time time, Duration duration)
+[[nodiscard]] inline std::optional<std::pair<Date, Time>> sub_from_pair(Date date, Time time, Duration duration)
 {
     const fots_pair_result pair = fots_sub_from_pair(date.c(), time.c(), duration.c());
     return detail::is_in_range(pair) ? std::optional(std::pair(Date(pair.date, {}), Time(pair.time, {}))) : std::nullopt;
 }
 
 // Returns the text in RFC 3339, such as 2024-02-29T23:59:59.25+01:00; empty if it has none.
-inline std::optional<std::string> rfc3339_text(Date date, Time time, UtcOffset offset)
+[[nodiscard]] inline std::optional<std::string> rfc3339_text(Date date, Time time, UtcOffset offset)
 {
     const fots_text_result text = fots_moment_text(date.c(), time.c(), offset.c());
     return detail::is_in_range(text) ? std::optional(std::string(text.bytes, text.length)) : std::nullopt;
 }
 
 // Parses a date, a time of day and an offset in RFC 3339.
-inline std::tuple<Date, Time, UtcOffset> parse_rfc3339(std::string_view text)
+[[nodiscard]] inline std::tuple<Date, Time, UtcOffset> parse_rfc3339(std::string_view text)
 {
     const fots_parse_moment_result found = detail::parsed_or_throw(fots_moment_parse(detail::data(text), text.size()));
     return {Date(found.date, {}), Time(found.time, {}), UtcOffset(found.offset, {})};
 }
 
 // Returns the Unix time: the duration from 1970-01-01 0:00 UTC.
-inline Duration unix_duration(Date date, Time time, UtcOffset offset)
+[[nodiscard]] inline Duration unix_duration(Date date, Time time, UtcOffset offset)
 {
     return Duration(detail::value_or_throw(fots_unix_time(date.c(), time.c(), offset.c())).duration, {});
 }
 
 // Returns the date and time of a Unix time at an offset; empty out of range.
-inline std::optional<std::pair<Date, Time>> unix_pair(Duration duration, UtcOffset offset)
+[[nodiscard]] inline std::optional<std::pair<Date, Time>> unix_pair(Duration duration, UtcOffset offset)
 {
     const fots_pair_result pair = fots_unix_pair(duration.c(), offset.c());
     return detail::is_in_range(pair) ? std::optional(std::pair(Date(pair.date, {}), Time(pair.time, {}))) : std::nullopt;
@@ -1277,7 +1327,7 @@ inline void check_lengths(std::size_t one, std::size_t other)
 } // namespace detail
 
 // Rounds times of day to multiples of a unit that divides 24 hours.
-inline TimeColumn round_times(const std::vector<std::uint64_t> &times, Duration unit, RoundingMode mode)
+[[nodiscard]] inline TimeColumn round_times(const std::vector<std::uint64_t> &times, Duration unit, RoundingMode mode)
 {
     TimeColumn found{std::vector<std::uint64_t>(times.size()), std::vector<std::uint8_t>(times.size()), 0};
     if (!times.empty()) {
@@ -1288,7 +1338,7 @@ inline TimeColumn round_times(const std::vector<std::uint64_t> &times, Duration 
 }
 
 // Rounds Julian days and times of day in the same way.
-inline PairColumn round_pairs(const std::vector<std::int32_t> &dates, const std::vector<std::uint64_t> &times, Duration unit, RoundingMode mode)
+[[nodiscard]] inline PairColumn round_pairs(const std::vector<std::int32_t> &dates, const std::vector<std::uint64_t> &times, Duration unit, RoundingMode mode)
 {
     PairColumn found{std::vector<std::int32_t>(dates.size()), std::vector<std::uint64_t>(dates.size()),
         std::vector<std::uint8_t>(dates.size()), 0};
@@ -1302,7 +1352,7 @@ inline PairColumn round_pairs(const std::vector<std::int32_t> &dates, const std:
 }
 
 // Parses durations, of which text k is the bytes from bounds[k] to bounds[k + 1].
-inline DurationColumn parse_durations(std::string_view bytes, const std::vector<std::int32_t> &bounds)
+[[nodiscard]] inline DurationColumn parse_durations(std::string_view bytes, const std::vector<std::int32_t> &bounds)
 {
     const std::size_t rows = bounds.empty() ? 0 : bounds.size() - 1;
     DurationColumn found{std::vector<std::int64_t>(rows), std::vector<std::int32_t>(rows), std::vector<std::uint8_t>(rows), 0};
@@ -1314,7 +1364,7 @@ inline DurationColumn parse_durations(std::string_view bytes, const std::vector<
 }
 
 // Returns durations as strings. A row without a result has no bytes.
-inline TextColumn duration_texts(const std::vector<std::int64_t> &seconds, const std::vector<std::int32_t> &nanoseconds)
+[[nodiscard]] inline TextColumn duration_texts(const std::vector<std::int64_t> &seconds, const std::vector<std::int32_t> &nanoseconds)
 {
     const std::size_t rows = seconds.size();
     TextColumn found{std::string(rows * FOTS_MAX_DURATION_LENGTH, ' '), std::vector<std::int32_t>(rows + 1), std::vector<std::uint8_t>(rows), 0};
@@ -1335,89 +1385,89 @@ class PlainDateTime : public detail::Ordered<PlainDateTime> {
 public:
     PlainDateTime(Date date, Time time) : value_(detail::value_or_throw(fots_moment_new(date.c(), time.c(), fots_offset{0})).moment) {}
     // Returns what the clocks of a zone show now.
-    static PlainDateTime now(const Zone &zone);
+    [[nodiscard]] static PlainDateTime now(const Zone &zone);
     // Parses a date and a time of day, such as "2024-02-29 23:59:59.25" or "2024-W09-4T9:05".
-    static PlainDateTime parse(std::string_view text) { return from(fots_pair_parse(detail::data(text), text.size())); }
+    [[nodiscard]] static PlainDateTime parse(std::string_view text) { return from(fots_pair_parse(detail::data(text), text.size())); }
     // Parses a text in all formats of ISO 8601, such as "20240229T2259" or "2024-02-29".
-    static PlainDateTime parse_iso(std::string_view text) { return from(fots_pair_parse_iso(detail::data(text), text.size())); }
+    [[nodiscard]] static PlainDateTime parse_iso(std::string_view text) { return from(fots_pair_parse_iso(detail::data(text), text.size())); }
     // Parses the text of a value by a format, and no other text.
-    static PlainDateTime parse(std::string_view text, const Format &format)
+    [[nodiscard]] static PlainDateTime parse(std::string_view text, const Format &format)
     {
         return from(fots_pair_parse_format(detail::data(text), text.size(), format.c()));
     }
-    static PlainDateTime parse(std::string_view text, const LenientFormat &format)
+    [[nodiscard]] static PlainDateTime parse(std::string_view text, const LenientFormat &format)
     {
         return from(fots_pair_parse_leniently(detail::data(text), text.size(), format.c(), format.pivot()));
     }
 
     // Parses an interval in ISO 8601, such as "2024-01-01T08:00/PT90M", and returns its ends.
-    static std::pair<PlainDateTime, PlainDateTime> parse_interval(std::string_view text)
+    [[nodiscard]] static std::pair<PlainDateTime, PlainDateTime> parse_interval(std::string_view text)
     {
         const fots_parse_pair_range_result found = detail::parsed_or_throw(fots_pair_interval_parse(detail::data(text), text.size()));
         return {{Date(found.start_date, {}), Time(found.start_time, {})}, {Date(found.end_date, {}), Time(found.end_time, {})}};
     }
 
-    Date date() const noexcept { return Date(value_.date, {}); }
-    Time time() const noexcept { return Time(value_.time, {}); }
-    PlainDateTime replace_date(Date date) const { return {date, time()}; }
-    PlainDateTime replace_time(Time time) const { return {date(), time}; }
+    [[nodiscard]] Date date() const noexcept { return Date(value_.date, {}); }
+    [[nodiscard]] Time time() const noexcept { return Time(value_.time, {}); }
+    [[nodiscard]] PlainDateTime replace_date(Date date) const { return {date, time()}; }
+    [[nodiscard]] PlainDateTime replace_time(Time time) const { return {date(), time}; }
 
     // Rounds to a multiple of a unit since midnight, which divides 24 hours.
-    PlainDateTime round(Duration unit, RoundingMode mode) const
+    [[nodiscard]] PlainDateTime round(Duration unit, RoundingMode mode) const
     {
         const fots_pair_result found =
             detail::value_or_throw(fots_pair_round(value_.date, value_.time, unit.c(), static_cast<std::uint32_t>(mode)));
         return {Date(found.date, {}), Time(found.time, {})};
     }
 
-    std::optional<PlainDateTime> checked_add(Duration duration) const { return if_any(fots_moment_checked_add(value_, duration.c())); }
-    std::optional<PlainDateTime> checked_sub(Duration duration) const { return if_any(fots_moment_checked_sub(value_, duration.c())); }
+    [[nodiscard]] std::optional<PlainDateTime> checked_add(Duration duration) const { return if_any(fots_moment_checked_add(value_, duration.c())); }
+    [[nodiscard]] std::optional<PlainDateTime> checked_sub(Duration duration) const { return if_any(fots_moment_checked_sub(value_, duration.c())); }
     // Return the date-time a period later, or some periods later at once, without a drift.
-    std::optional<PlainDateTime> checked_add_period(const Period &period) const { return nth_period(period, 1); }
-    std::optional<PlainDateTime> nth_period(const Period &period, std::int32_t n) const
+    [[nodiscard]] std::optional<PlainDateTime> checked_add_period(const Period &period) const { return nth_period(period, 1); }
+    [[nodiscard]] std::optional<PlainDateTime> nth_period(const Period &period, std::int32_t n) const
     {
         return if_any(fots_pair_nth_period(value_.date, value_.time, period.c(), n));
     }
     // The step that a date-time is in, or none if it is before this one, or if the period isn't positive.
-    std::optional<std::int32_t> step_of(const Period &period, PlainDateTime other) const
+    [[nodiscard]] std::optional<std::int32_t> step_of(const Period &period, PlainDateTime other) const
     {
         const fots_number_result found = fots_pair_step_of(value_.date, value_.time, period.c(), other.value_.date, other.value_.time);
         return found.status == FOTS_OK ? std::optional<std::int32_t>(found.number) : std::nullopt;
     }
     // Returns the period to another date-time: whole units, the largest of which is given, and then the
     // exact rest.
-    Period period_until(PlainDateTime other, CalendarUnit unit) const
+    [[nodiscard]] Period period_until(PlainDateTime other, CalendarUnit unit) const
     {
         return Period(detail::value_or_throw(fots_pair_period_until(value_.date, value_.time, other.value_.date, other.value_.time,
                           static_cast<std::uint32_t>(unit))).period, {});
     }
-    PlainDateTime saturating_add(Duration duration) const { return from(fots_moment_saturating_add(value_, duration.c())); }
-    PlainDateTime saturating_sub(Duration duration) const { return from(fots_moment_saturating_sub(value_, duration.c())); }
+    [[nodiscard]] PlainDateTime saturating_add(Duration duration) const { return from(fots_moment_saturating_add(value_, duration.c())); }
+    [[nodiscard]] PlainDateTime saturating_sub(Duration duration) const { return from(fots_moment_saturating_sub(value_, duration.c())); }
 
-    friend PlainDateTime operator+(PlainDateTime one, Duration duration)
+    [[nodiscard]] friend PlainDateTime operator+(PlainDateTime one, Duration duration)
     {
         return from(fots_moment_checked_add(one.value_, duration.c()));
     }
-    friend PlainDateTime operator-(PlainDateTime one, Duration duration)
+    [[nodiscard]] friend PlainDateTime operator-(PlainDateTime one, Duration duration)
     {
         return from(fots_moment_checked_sub(one.value_, duration.c()));
     }
-    friend Duration operator-(PlainDateTime one, PlainDateTime other)
+    [[nodiscard]] friend Duration operator-(PlainDateTime one, PlainDateTime other)
     {
         return Duration(detail::value_or_throw(fots_moment_duration_since(one.value_, other.value_)).duration, {});
     }
 
     // Returns the text by a format, such as "2024-02-29 23:59" by "%F %R".
-    std::string format(const Format &format) const
+    [[nodiscard]] std::string format(const Format &format) const
     {
         return detail::written([&](char *bytes, std::size_t length) { return fots_pair_format(value_.date, value_.time, format.c(), bytes, length); });
     }
 
     // Return this date and time at an offset.
-    OffsetDateTime assume_offset(UtcOffset offset) const;
-    OffsetDateTime assume_utc() const;
+    [[nodiscard]] OffsetDateTime assume_offset(UtcOffset offset) const;
+    [[nodiscard]] OffsetDateTime assume_utc() const;
 
-    std::pair<std::int32_t, fots_time> key() const noexcept { return {value_.date.julian_day, value_.time}; }
+    [[nodiscard]] std::pair<std::int32_t, fots_time> key() const noexcept { return {value_.date.julian_day, value_.time}; }
 
 private:
     explicit PlainDateTime(fots_moment value) noexcept : value_(value) {}
@@ -1442,89 +1492,89 @@ public:
     explicit OffsetDateTime(fots_moment value) : value_(value) { detail::value_or_throw(fots_moment_unix_timestamp(value)); }
     OffsetDateTime(fots_moment value, detail::Unchecked) noexcept : value_(value) {}
 
-    static OffsetDateTime new_in_offset(Date date, Time time, UtcOffset offset)
+    [[nodiscard]] static OffsetDateTime new_in_offset(Date date, Time time, UtcOffset offset)
     {
         return from(fots_moment_new(date.c(), time.c(), offset.c()));
     }
-    static OffsetDateTime new_utc(Date date, Time time) { return new_in_offset(date, time, UtcOffset::utc()); }
-    static OffsetDateTime from_unix_timestamp(std::int64_t seconds) { return from(fots_moment_from_unix_timestamp(seconds)); }
-    static OffsetDateTime from_unix_duration(Duration duration) { return from(fots_moment_from_unix_time(duration.c())); }
+    [[nodiscard]] static OffsetDateTime new_utc(Date date, Time time) { return new_in_offset(date, time, UtcOffset::utc()); }
+    [[nodiscard]] static OffsetDateTime from_unix_timestamp(std::int64_t seconds) { return from(fots_moment_from_unix_timestamp(seconds)); }
+    [[nodiscard]] static OffsetDateTime from_unix_duration(Duration duration) { return from(fots_moment_from_unix_time(duration.c())); }
     // Returns the current time at UTC, by std::chrono::system_clock.
-    static OffsetDateTime now_utc() { return from_unix_duration(detail::unix_time_now()); }
+    [[nodiscard]] static OffsetDateTime now_utc() { return from_unix_duration(detail::unix_time_now()); }
     // Parses a date, a time of day and an offset, such as "2024-02-29 9:05 +01:00".
-    static OffsetDateTime parse(std::string_view text)
+    [[nodiscard]] static OffsetDateTime parse(std::string_view text)
     {
         return OffsetDateTime(detail::moment_or_throw(fots_offset_date_time_parse(detail::data(text), text.size())), {});
     }
     // Parses a text in all formats of ISO 8601, such as "20240229T2259+01".
-    static OffsetDateTime parse_iso(std::string_view text)
+    [[nodiscard]] static OffsetDateTime parse_iso(std::string_view text)
     {
         return OffsetDateTime(detail::moment_or_throw(fots_moment_parse_iso(detail::data(text), text.size())), {});
     }
     // Parses the text of a value by a format, and no other text.
-    static OffsetDateTime parse(std::string_view text, const Format &format)
+    [[nodiscard]] static OffsetDateTime parse(std::string_view text, const Format &format)
     {
         return OffsetDateTime(detail::moment_or_throw(fots_moment_parse_format(detail::data(text), text.size(), format.c())), {});
     }
-    static OffsetDateTime parse(std::string_view text, const LenientFormat &format)
+    [[nodiscard]] static OffsetDateTime parse(std::string_view text, const LenientFormat &format)
     {
         const fots_parse_moment_result found = fots_moment_parse_leniently(detail::data(text), text.size(), format.c(), format.pivot());
         return OffsetDateTime(detail::moment_or_throw(found), {});
     }
 
-    Date date() const noexcept { return Date(value_.date, {}); }
-    Time time() const noexcept { return Time(value_.time, {}); }
-    UtcOffset offset() const noexcept { return UtcOffset(value_.offset, {}); }
-    PlainDateTime local() const { return {date(), time()}; }
+    [[nodiscard]] Date date() const noexcept { return Date(value_.date, {}); }
+    [[nodiscard]] Time time() const noexcept { return Time(value_.time, {}); }
+    [[nodiscard]] UtcOffset offset() const noexcept { return UtcOffset(value_.offset, {}); }
+    [[nodiscard]] PlainDateTime local() const { return {date(), time()}; }
 
     // Return the Unix time in whole seconds, rounded down, or as a duration.
-    std::int64_t unix_timestamp() const { return detail::value_or_throw(fots_moment_unix_timestamp(value_)).number; }
-    Duration unix_duration() const { return Duration(detail::value_or_throw(fots_moment_unix_time(value_)).duration, {}); }
+    [[nodiscard]] std::int64_t unix_timestamp() const { return detail::value_or_throw(fots_moment_unix_timestamp(value_)).number; }
+    [[nodiscard]] Duration unix_duration() const { return Duration(detail::value_or_throw(fots_moment_unix_time(value_)).duration, {}); }
 
     // Return the same instant at another offset.
-    std::optional<OffsetDateTime> checked_to_offset(UtcOffset offset) const { return if_any(fots_moment_to_offset(value_, offset.c())); }
-    OffsetDateTime to_offset(UtcOffset offset) const { return from(fots_moment_to_offset(value_, offset.c())); }
-    std::optional<OffsetDateTime> checked_to_utc() const { return checked_to_offset(UtcOffset::utc()); }
-    OffsetDateTime to_utc() const { return to_offset(UtcOffset::utc()); }
+    [[nodiscard]] std::optional<OffsetDateTime> checked_to_offset(UtcOffset offset) const { return if_any(fots_moment_to_offset(value_, offset.c())); }
+    [[nodiscard]] OffsetDateTime to_offset(UtcOffset offset) const { return from(fots_moment_to_offset(value_, offset.c())); }
+    [[nodiscard]] std::optional<OffsetDateTime> checked_to_utc() const { return checked_to_offset(UtcOffset::utc()); }
+    [[nodiscard]] OffsetDateTime to_utc() const { return to_offset(UtcOffset::utc()); }
     // Returns the same instant in a time zone.
-    OffsetDateTime in_zone(const Zone &zone) const;
+    [[nodiscard]] OffsetDateTime in_zone(const Zone &zone) const;
     // Returns the text of the same instant in a time zone, such as "03:00 CEST" by "%H:%M %Z".
-    std::string format(const Format &format, const Zone &zone) const;
+    [[nodiscard]] std::string format(const Format &format, const Zone &zone) const;
     // Returns the same date and time at another offset, which is another instant.
-    OffsetDateTime replace_offset(UtcOffset offset) const { return from(fots_moment_replace_offset(value_, offset.c())); }
+    [[nodiscard]] OffsetDateTime replace_offset(UtcOffset offset) const { return from(fots_moment_replace_offset(value_, offset.c())); }
 
     // Rounds the local date-time to a multiple of a unit since midnight, which divides 24 hours.
-    OffsetDateTime round(Duration unit, RoundingMode mode) const
+    [[nodiscard]] OffsetDateTime round(Duration unit, RoundingMode mode) const
     {
         return from(fots_moment_round(value_, unit.c(), static_cast<std::uint32_t>(mode)));
     }
 
-    std::optional<OffsetDateTime> checked_add(Duration duration) const { return if_any(fots_moment_checked_add(value_, duration.c())); }
-    std::optional<OffsetDateTime> checked_sub(Duration duration) const { return if_any(fots_moment_checked_sub(value_, duration.c())); }
-    OffsetDateTime saturating_add(Duration duration) const { return from(fots_moment_saturating_add(value_, duration.c())); }
-    OffsetDateTime saturating_sub(Duration duration) const { return from(fots_moment_saturating_sub(value_, duration.c())); }
+    [[nodiscard]] std::optional<OffsetDateTime> checked_add(Duration duration) const { return if_any(fots_moment_checked_add(value_, duration.c())); }
+    [[nodiscard]] std::optional<OffsetDateTime> checked_sub(Duration duration) const { return if_any(fots_moment_checked_sub(value_, duration.c())); }
+    [[nodiscard]] OffsetDateTime saturating_add(Duration duration) const { return from(fots_moment_saturating_add(value_, duration.c())); }
+    [[nodiscard]] OffsetDateTime saturating_sub(Duration duration) const { return from(fots_moment_saturating_sub(value_, duration.c())); }
 
-    friend OffsetDateTime operator+(OffsetDateTime moment, Duration duration)
+    [[nodiscard]] friend OffsetDateTime operator+(OffsetDateTime moment, Duration duration)
     {
         return from(fots_moment_checked_add(moment.value_, duration.c()));
     }
-    friend OffsetDateTime operator-(OffsetDateTime moment, Duration duration)
+    [[nodiscard]] friend OffsetDateTime operator-(OffsetDateTime moment, Duration duration)
     {
         return from(fots_moment_checked_sub(moment.value_, duration.c()));
     }
-    friend Duration operator-(OffsetDateTime moment, OffsetDateTime other)
+    [[nodiscard]] friend Duration operator-(OffsetDateTime moment, OffsetDateTime other)
     {
         return Duration(detail::value_or_throw(fots_moment_duration_since(moment.value_, other.value_)).duration, {});
     }
 
     // Returns the text by a format, such as "29/Feb/2024:23:59:59 +0530".
-    std::string format(const Format &format) const
+    [[nodiscard]] std::string format(const Format &format) const
     {
         return detail::written([&](char *bytes, std::size_t length) { return fots_moment_format(value_, format.c(), bytes, length); });
     }
 
-    fots_moment c() const noexcept { return value_; }
-    std::pair<std::int64_t, std::int32_t> key() const { return unix_duration().key(); }
+    [[nodiscard]] fots_moment c() const noexcept { return value_; }
+    [[nodiscard]] std::pair<std::int64_t, std::int32_t> key() const { return unix_duration().key(); }
 
 private:
     static OffsetDateTime from(fots_moment_result result) { return OffsetDateTime(detail::value_or_throw(result).moment, {}); }
@@ -1570,7 +1620,7 @@ class Zone {
 public:
     // Creates the zone of a TZif file, such as /usr/share/zoneinfo/Europe/Berlin. Throws a
     // std::system_error if that isn't a regular file of at most 65536 bytes that can be read.
-    static Zone from_file(const std::filesystem::path &path) { return from_bytes(detail::bytes_of_file(path)); }
+    [[nodiscard]] static Zone from_file(const std::filesystem::path &path) { return from_bytes(detail::bytes_of_file(path)); }
     // Returns the zone with a name, such as "Europe/Berlin": of its file in the folder that the
     // variable TZDIR names, or else in /usr/share/zoneinfo, or with FOTSEVINDRE_ZONE_DATA in the
     // program. It is read once and kept. Throws a std::system_error like from_file, and a
@@ -1585,25 +1635,25 @@ public:
         return found != zones.end() ? found->second : zones.emplace(name, from_bytes(detail::bytes_of_zone(name))).first->second;
     }
     // Creates the zone of the bytes of a TZif file.
-    static Zone from_bytes(std::string bytes)
+    [[nodiscard]] static Zone from_bytes(std::string bytes)
     {
         const fots_zone_parts_result found = fots_zone_file_parts(reinterpret_cast<const std::uint8_t *>(bytes.data()), bytes.size());
         return Zone(std::move(bytes), found);
     }
     // Creates the zone of a POSIX text, such as CET-1CEST,M3.5.0,M10.5.0/3.
-    static Zone from_posix(std::string text)
+    [[nodiscard]] static Zone from_posix(std::string text)
     {
         const fots_zone_parts_result found = fots_zone_posix_parts(text.data(), text.size());
         return Zone(std::move(text), found);
     }
 
     // Return the offset, whether this is daylight saving time, and the abbreviation at a Unix time.
-    UtcOffset offset_at(std::int64_t seconds) const
+    [[nodiscard]] UtcOffset offset_at(std::int64_t seconds) const
     {
         return UtcOffset(detail::value_or_throw(with(fots_zone_offset, seconds)).offset, {});
     }
-    bool is_daylight_at(std::int64_t seconds) const { return local_type_at(seconds).is_daylight != 0; }
-    std::string abbreviation_at(std::int64_t seconds) const
+    [[nodiscard]] bool is_daylight_at(std::int64_t seconds) const { return local_type_at(seconds).is_daylight != 0; }
+    [[nodiscard]] std::string abbreviation_at(std::int64_t seconds) const
     {
         const fots_local_type_result found = local_type_at(seconds);
         return bytes_.substr(found.abbreviation, found.abbreviation_length);
@@ -1611,14 +1661,14 @@ public:
 
     // Return the Unix time of the first change after another one, or of the last one that is not
     // after it; empty if there is none.
-    std::optional<std::int64_t> next_change(std::int64_t seconds) const { return if_any(with(fots_zone_next_change, seconds)); }
-    std::optional<std::int64_t> previous_change(std::int64_t seconds) const
+    [[nodiscard]] std::optional<std::int64_t> next_change(std::int64_t seconds) const { return if_any(with(fots_zone_next_change, seconds)); }
+    [[nodiscard]] std::optional<std::int64_t> previous_change(std::int64_t seconds) const
     {
         return if_any(with(fots_zone_previous_change, seconds));
     }
 
     // Returns exactly the instants at which clocks show a reading.
-    Local resolve(PlainDateTime reading) const
+    [[nodiscard]] Local resolve(PlainDateTime reading) const
     {
         const fots_local_result found = detail::value_or_throw(with(fots_zone_resolve, reading.date().c(), reading.time().c()));
         return {static_cast<LocalKind>(found.kind), found.earlier, found.later, UtcOffset(found.earlier_offset, {}),
@@ -1626,7 +1676,7 @@ public:
     }
 
     // Returns the date-time of a reading, or throws an error.
-    OffsetDateTime date_time(PlainDateTime reading, Policy policy = Policy::Compatible) const
+    [[nodiscard]] OffsetDateTime date_time(PlainDateTime reading, Policy policy = Policy::Compatible) const
     {
         const fots_moment_result found =
             with(fots_zone_moment, reading.date().c(), reading.time().c(), static_cast<std::uint32_t>(policy));
@@ -1634,7 +1684,7 @@ public:
     }
 
     // Returns the offsets at Unix times, in seconds.
-    std::vector<std::int32_t> offsets(const std::vector<std::int64_t> &seconds) const
+    [[nodiscard]] std::vector<std::int32_t> offsets(const std::vector<std::int64_t> &seconds) const
     {
         std::vector<std::int32_t> found(seconds.size());
         std::vector<std::uint8_t> statuses(seconds.size());
@@ -1647,7 +1697,7 @@ public:
 
     // Returns the Unix times at which clocks show readings, by a policy. A reading is the seconds by
     // the clock since 1970-01-01 0:00.
-    InstantColumn instants(const std::vector<std::int64_t> &readings, Policy policy = Policy::Compatible) const
+    [[nodiscard]] InstantColumn instants(const std::vector<std::int64_t> &readings, Policy policy = Policy::Compatible) const
     {
         InstantColumn found{std::vector<std::int64_t>(readings.size()), std::vector<std::uint8_t>(readings.size()), 0};
         if (!readings.empty()) {
@@ -1659,20 +1709,21 @@ public:
 
     // Returns the date-time of the first instant at which the clocks have reached a date, and the
     // length of the day from there to the start of the next one.
-    ZonedDateTime start_of_day(Date date) const;
-    Duration day_length(Date date) const { return Duration(detail::value_or_throw(with(fots_zoned_day_length, date.c())).duration, {}); }
+    [[nodiscard]] ZonedDateTime start_of_day(Date date) const &;
+    ZonedDateTime start_of_day(Date date) const && = delete;
+    [[nodiscard]] Duration day_length(Date date) const { return Duration(detail::value_or_throw(with(fots_zoned_day_length, date.c())).duration, {}); }
 
     // Return the Unix times some days or months after Unix times, and of the starts of their days, by
     // the clocks of the zone.
-    InstantColumn add_days(const std::vector<std::int64_t> &seconds, const std::vector<std::int64_t> &days, Policy policy = Policy::Compatible) const
+    [[nodiscard]] InstantColumn add_days(const std::vector<std::int64_t> &seconds, const std::vector<std::int64_t> &days, Policy policy = Policy::Compatible) const
     {
         return moved(fots_zoned_add_days, seconds, days, policy);
     }
-    InstantColumn add_months(const std::vector<std::int64_t> &seconds, const std::vector<std::int32_t> &months, Policy policy = Policy::Compatible) const
+    [[nodiscard]] InstantColumn add_months(const std::vector<std::int64_t> &seconds, const std::vector<std::int32_t> &months, Policy policy = Policy::Compatible) const
     {
         return moved(fots_zoned_add_months, seconds, months, policy);
     }
-    InstantColumn starts_of_day(const std::vector<std::int64_t> &seconds) const
+    [[nodiscard]] InstantColumn starts_of_day(const std::vector<std::int64_t> &seconds) const
     {
         InstantColumn found{std::vector<std::int64_t>(seconds.size()), std::vector<std::uint8_t>(seconds.size()), 0};
         if (!seconds.empty()) {
@@ -1683,7 +1734,7 @@ public:
     }
 
     // Returns the struct of C, which uses the bytes of this zone.
-    fots_zone c() const noexcept { return {reinterpret_cast<const std::uint8_t *>(bytes_.data()), bytes_.size(), parts_}; }
+    [[nodiscard]] fots_zone c() const noexcept { return {reinterpret_cast<const std::uint8_t *>(bytes_.data()), bytes_.size(), parts_}; }
 
 private:
     Zone(std::string bytes, const fots_zone_parts_result &found)
@@ -1741,7 +1792,8 @@ inline std::string OffsetDateTime::format(const Format &format, const Zone &zone
 }
 
 // An instant in a time zone, with the date and the time of day that its clocks show then. It refers
-// to the zone, which must outlive it. Compares by instant, whatever the zones are.
+// to the zone, which must outlive it in its place, so a temporary zone doesn't compile. Compares by
+// instant, whatever the zones are.
 class ZonedDateTime : public detail::Ordered<ZonedDateTime> {
 public:
     // Creates the date-time in a zone at the instant of another date-time.
@@ -1749,98 +1801,100 @@ public:
     ZonedDateTime(OffsetDateTime, const Zone &&) = delete;
 
     // Returns the current time in a zone, by std::chrono::system_clock.
-    static ZonedDateTime now(const Zone &zone) { return from_unix_duration(detail::unix_time_now(), zone); }
+    [[nodiscard]] static ZonedDateTime now(const Zone &zone) { return from_unix_duration(detail::unix_time_now(), zone); }
     static ZonedDateTime now(const Zone &&) = delete;
-    static ZonedDateTime from_unix_duration(Duration duration, const Zone &zone) { return from(&zone, fots_zoned_at, duration.c()); }
+    [[nodiscard]] static ZonedDateTime from_unix_duration(Duration duration, const Zone &zone) { return from(&zone, fots_zoned_at, duration.c()); }
+    static ZonedDateTime from_unix_duration(Duration, const Zone &&) = delete;
     // Creates the date-time that a local one means in a zone, or throws FOTS_SKIPPED_TIME or
     // FOTS_REPEATED_TIME by Policy::Reject.
-    static ZonedDateTime from_local(PlainDateTime local, const Zone &zone, Policy policy = Policy::Compatible)
+    [[nodiscard]] static ZonedDateTime from_local(PlainDateTime local, const Zone &zone, Policy policy = Policy::Compatible)
     {
         return from(&zone, fots_zoned_from_local, local.date().c(), local.time().c(), static_cast<std::uint32_t>(policy));
     }
+    static ZonedDateTime from_local(PlainDateTime, const Zone &&, Policy = Policy::Compatible) = delete;
 
-    const Zone &zone() const noexcept { return *zone_; }
-    Date date() const noexcept { return Date(value_.date, {}); }
-    Time time() const noexcept { return Time(value_.time, {}); }
-    UtcOffset offset() const noexcept { return UtcOffset(value_.offset, {}); }
-    PlainDateTime local() const { return {date(), time()}; }
-    OffsetDateTime to_offset_date_time() const noexcept { return OffsetDateTime(value_, {}); }
-    std::int64_t unix_timestamp() const { return to_offset_date_time().unix_timestamp(); }
-    Duration unix_duration() const { return to_offset_date_time().unix_duration(); }
+    [[nodiscard]] const Zone &zone() const noexcept { return *zone_; }
+    [[nodiscard]] Date date() const noexcept { return Date(value_.date, {}); }
+    [[nodiscard]] Time time() const noexcept { return Time(value_.time, {}); }
+    [[nodiscard]] UtcOffset offset() const noexcept { return UtcOffset(value_.offset, {}); }
+    [[nodiscard]] PlainDateTime local() const { return {date(), time()}; }
+    [[nodiscard]] OffsetDateTime to_offset_date_time() const noexcept { return OffsetDateTime(value_, {}); }
+    [[nodiscard]] std::int64_t unix_timestamp() const { return to_offset_date_time().unix_timestamp(); }
+    [[nodiscard]] Duration unix_duration() const { return to_offset_date_time().unix_duration(); }
 
     // Returns the same instant in another zone.
-    ZonedDateTime in_zone(const Zone &zone) const { return {to_offset_date_time(), zone}; }
+    [[nodiscard]] ZonedDateTime in_zone(const Zone &zone) const { return {to_offset_date_time(), zone}; }
     ZonedDateTime in_zone(const Zone &&) const = delete;
 
     // Move to another local date-time, date or time of day. They keep the offset if the clocks show
     // it then, and otherwise go by the policy.
-    ZonedDateTime with_local(PlainDateTime local, Policy policy = Policy::Compatible) const
+    [[nodiscard]] ZonedDateTime with_local(PlainDateTime local, Policy policy = Policy::Compatible) const
     {
         return from(zone_, fots_zoned_with_local, value_, local.date().c(), local.time().c(), static_cast<std::uint32_t>(policy));
     }
-    ZonedDateTime with_date(Date date, Policy policy = Policy::Compatible) const { return with_local({date, time()}, policy); }
-    ZonedDateTime with_time(Time time, Policy policy = Policy::Compatible) const { return with_local({date(), time}, policy); }
+    [[nodiscard]] ZonedDateTime with_date(Date date, Policy policy = Policy::Compatible) const { return with_local({date, time()}, policy); }
+    [[nodiscard]] ZonedDateTime with_time(Time time, Policy policy = Policy::Compatible) const { return with_local({date(), time}, policy); }
 
     // Returns the date-time on another date, such as the next working day. The time of day stays, by the
     // policy on the new date. On its own date it stays as it is.
-    ZonedDateTime moved_to(Date date, Policy policy = Policy::Compatible) const
+    [[nodiscard]] ZonedDateTime moved_to(Date date, Policy policy = Policy::Compatible) const
     {
         return from(zone_, fots_zoned_moved_to, value_, date.c(), static_cast<std::uint32_t>(policy));
     }
 
     // Returns the date-time a period later: the date is moved, the time of day stays, by the policy
     // on the new date, and then the duration moves the instant.
-    ZonedDateTime add_period(const Period &period, Policy policy = Policy::Compatible) const
+    [[nodiscard]] ZonedDateTime add_period(const Period &period, Policy policy = Policy::Compatible) const
     {
         return from(zone_, fots_zoned_add_period, value_, period.c(), static_cast<std::uint32_t>(policy));
     }
-    friend ZonedDateTime operator+(const ZonedDateTime &one, const Period &period) { return one.add_period(period); }
+    [[nodiscard]] friend ZonedDateTime operator+(const ZonedDateTime &one, const Period &period) { return one.add_period(period); }
     // Returns the date-time some periods later at once, without a drift.
-    ZonedDateTime nth_period(const Period &period, std::int32_t n, Policy policy = Policy::Compatible) const
+    [[nodiscard]] ZonedDateTime nth_period(const Period &period, std::int32_t n, Policy policy = Policy::Compatible) const
     {
         return from(zone_, fots_zoned_nth_period, value_, period.c(), n, static_cast<std::uint32_t>(policy));
     }
     // Returns the period to another date-time, which is seen in this zone: whole units, the largest of
     // which is given, up to the last day that doesn't pass it, and then the exact rest.
-    Period period_until(const ZonedDateTime &other, CalendarUnit unit, Policy policy = Policy::Compatible) const
+    [[nodiscard]] Period period_until(const ZonedDateTime &other, CalendarUnit unit, Policy policy = Policy::Compatible) const
     {
         const fots_zone held = zone_->c();
         return Period(detail::value_or_throw(fots_zoned_period_until(&held, value_, other.in_zone(*zone_).value_, static_cast<std::uint32_t>(unit),
                           static_cast<std::uint32_t>(policy))).period, {});
     }
     // Durations move the instant.
-    friend ZonedDateTime operator+(const ZonedDateTime &one, Duration duration)
+    [[nodiscard]] friend ZonedDateTime operator+(const ZonedDateTime &one, Duration duration)
     {
         return from(one.zone_, fots_zoned_checked_add, one.value_, duration.c());
     }
-    friend ZonedDateTime operator-(const ZonedDateTime &one, Duration duration)
+    [[nodiscard]] friend ZonedDateTime operator-(const ZonedDateTime &one, Duration duration)
     {
         return from(one.zone_, fots_zoned_checked_sub, one.value_, duration.c());
     }
-    friend Duration operator-(const ZonedDateTime &one, const ZonedDateTime &other)
+    [[nodiscard]] friend Duration operator-(const ZonedDateTime &one, const ZonedDateTime &other)
     {
         return one.to_offset_date_time() - other.to_offset_date_time();
     }
 
     // Rounds to a multiple of a unit since the midnight of the date, by what the clocks show. Keeps the
     // offset if the clocks show the result at it. To 24 hours it is the start of the day or of the next.
-    ZonedDateTime round(Duration unit, RoundingMode mode) const
+    [[nodiscard]] ZonedDateTime round(Duration unit, RoundingMode mode) const
     {
         return from(zone_, fots_zoned_round, value_, unit.c(), static_cast<std::uint32_t>(mode));
     }
 
     // Return the start of the day, and its length.
-    ZonedDateTime start_of_day() const { return zone_->start_of_day(date()); }
-    Duration day_length() const { return zone_->day_length(date()); }
+    [[nodiscard]] ZonedDateTime start_of_day() const { return zone_->start_of_day(date()); }
+    [[nodiscard]] Duration day_length() const { return zone_->day_length(date()); }
     // Return the first and the last instant of the day, ISO week, month, quarter or year.
-    ZonedDateTime start_of(CalendarUnit unit) const { return from(zone_, fots_zoned_start_of, value_, static_cast<std::uint32_t>(unit)); }
-    ZonedDateTime end_of(CalendarUnit unit) const { return from(zone_, fots_zoned_end_of, value_, static_cast<std::uint32_t>(unit)); }
+    [[nodiscard]] ZonedDateTime start_of(CalendarUnit unit) const { return from(zone_, fots_zoned_start_of, value_, static_cast<std::uint32_t>(unit)); }
+    [[nodiscard]] ZonedDateTime end_of(CalendarUnit unit) const { return from(zone_, fots_zoned_end_of, value_, static_cast<std::uint32_t>(unit)); }
 
     // Returns the text by a format, such as "03:00 CEST" by "%H:%M %Z".
-    std::string format(const Format &format) const { return to_offset_date_time().format(format, *zone_); }
+    [[nodiscard]] std::string format(const Format &format) const { return to_offset_date_time().format(format, *zone_); }
 
-    fots_moment c() const noexcept { return value_; }
-    std::pair<std::int64_t, std::int32_t> key() const { return unix_duration().key(); }
+    [[nodiscard]] fots_moment c() const noexcept { return value_; }
+    [[nodiscard]] std::pair<std::int64_t, std::int32_t> key() const { return unix_duration().key(); }
 
 private:
     friend class Zone;
@@ -1863,7 +1917,7 @@ inline PlainDateTime PlainDateTime::now(const Zone &zone) { return ZonedDateTime
 inline Date Date::today(const Zone &zone) { return PlainDateTime::now(zone).date(); }
 inline Time Time::now(const Zone &zone) { return PlainDateTime::now(zone).time(); }
 
-inline ZonedDateTime Zone::start_of_day(Date date) const { return ZonedDateTime::from(this, fots_zoned_start_of_day, date.c()); }
+inline ZonedDateTime Zone::start_of_day(Date date) const & { return ZonedDateTime::from(this, fots_zoned_start_of_day, date.c()); }
 
 // A recurrence with times of day, its start, other readings (RDATE) and readings to leave out
 // (EXDATE), at most FOTS_MAX_DATES each, in any order.
@@ -1939,38 +1993,39 @@ public:
     // Takes lines without folds, which end with LF or CR LF.
     explicit Event(std::string its_lines) : lines_(std::move(its_lines)) {}
 
-    const std::string &lines() const noexcept { return lines_; }
+    [[nodiscard]] const std::string &lines() const & noexcept { return lines_; }
+    [[nodiscard]] std::string lines() && noexcept { return std::move(lines_); }
 
     // Returns the value of the first line with a name in any case, such as "SUMMARY" or "DTEND", if
     // there is one. Escapes stay.
-    std::optional<std::string> value(std::string_view name) const
+    [[nodiscard]] std::optional<std::string> value(std::string_view name) const
     {
         return written([&](char *bytes, std::size_t room) {
             return fots_event_value(lines_.data(), lines_.size(), detail::data(name), name.size(), bytes, room);
         });
     }
     // Returns the name of the zone (TZID), if a line of the set names one.
-    std::optional<std::string> zone() const
+    [[nodiscard]] std::optional<std::string> zone() const
     {
         detail::event_or_throw(fots_event_start(lines_.data(), lines_.size()));
         return written([&](char *bytes, std::size_t room) { return fots_event_zone(lines_.data(), lines_.size(), bytes, room); });
     }
 
-    EventKind kind() const { return static_cast<EventKind>(detail::event_or_throw(fots_event_start(lines_.data(), lines_.size())).kind); }
+    [[nodiscard]] EventKind kind() const { return static_cast<EventKind>(detail::event_or_throw(fots_event_start(lines_.data(), lines_.size())).kind); }
     // Returns the start. A date is its midnight.
-    PlainDateTime start() const { return plain(detail::event_or_throw(fots_event_start(lines_.data(), lines_.size())).start); }
+    [[nodiscard]] PlainDateTime start() const { return plain(detail::event_or_throw(fots_event_start(lines_.data(), lines_.size())).start); }
 
     // Return the first days, readings or moments of the set: `count` of them, or fewer if no more
     // follow. Allocate room for `count`. Days are for EventKind::date, readings for the other kinds,
     // and moments for EventKind::local. Readings of EventKind::utc are in UTC.
-    std::vector<Date> days_from(Date from, std::size_t count) const
+    [[nodiscard]] std::vector<Date> days_from(Date from, std::size_t count) const
     {
         // At least one, so that data() is not null.
         std::vector<fots_date> room(std::max(count, std::size_t{1}));
         const fots_event_set_result found = detail::event_or_throw(fots_event_days(lines_.data(), lines_.size(), from.c(), room.data(), count));
         return detail::first_dates(room, found.length);
     }
-    std::vector<PlainDateTime> readings_from(PlainDateTime from, std::size_t count) const
+    [[nodiscard]] std::vector<PlainDateTime> readings_from(PlainDateTime from, std::size_t count) const
     {
         std::vector<fots_moment> room(std::max(count, std::size_t{1}));
         room.resize(detail::event_or_throw(fots_event_readings(lines_.data(), lines_.size(), from.assume_utc().c(), room.data(), count)).length);
@@ -1980,7 +2035,7 @@ public:
         }
         return readings;
     }
-    std::vector<OffsetDateTime> moments_after(const Zone &zone, OffsetDateTime after, std::size_t count) const
+    [[nodiscard]] std::vector<OffsetDateTime> moments_after(const Zone &zone, OffsetDateTime after, std::size_t count) const
     {
         const fots_zone held = zone.c();
         std::vector<fots_moment> room(std::max(count, std::size_t{1}));
@@ -2012,7 +2067,7 @@ private:
 
 // Returns the events of a calendar file (RFC 5545), or throws an error with its position in the file
 // without folds: FOTS_UNCLOSED_EVENT or FOTS_OTHER_END.
-inline std::vector<Event> events(std::string_view text)
+[[nodiscard]] inline std::vector<Event> events(std::string_view text)
 {
     std::string unfolded(text.size(), '\0');
     unfolded.resize(detail::value_or_throw(fots_unfold(detail::data(text), text.size(), &unfolded[0], unfolded.size())).length);
@@ -2034,7 +2089,7 @@ inline std::vector<Event> events(std::string_view text)
 } // namespace fotsevindre
 
 template <> struct std::hash<fotsevindre::Date> {
-    std::size_t operator()(fotsevindre::Date date) const noexcept { return std::hash<std::int32_t>()(date.key()); }
+    [[nodiscard]] std::size_t operator()(fotsevindre::Date date) const noexcept { return std::hash<std::int32_t>()(date.key()); }
 };
 
 #endif
