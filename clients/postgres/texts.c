@@ -37,17 +37,8 @@ static const fots_format *format_of(FunctionCallInfo fcinfo, int argument)
 /* What a text is parsed to. */
 enum form { DATE, LOCAL, INSTANT };
 
-/* Parses argument 0, by the format in argument 1 if there is one. */
-static fots_parse_moment_result parse(FunctionCallInfo fcinfo, enum form form)
+static fots_parse_moment_result by_format(const char *bytes, size_t length, const fots_format *format, enum form form)
 {
-    const text *const value = PG_GETARG_TEXT_PP(0);
-    const char *const bytes = VARDATA_ANY(value);
-    const size_t length = VARSIZE_ANY_EXHDR(value);
-    const fots_format *format;
-    if (PG_NARGS() == 1) {
-        return form == LOCAL ? fots_pair_parse(bytes, length) : fots_moment_parse(bytes, length);
-    }
-    format = format_of(fcinfo, 1);
     if (form == DATE) {
         const fots_parse_date_result parsed = fots_date_parse_format(bytes, length, format);
         const fots_parse_moment_result found = {parsed.status, parsed.date, 0, {0}, parsed.position};
@@ -56,13 +47,27 @@ static fots_parse_moment_result parse(FunctionCallInfo fcinfo, enum form form)
     return form == LOCAL ? fots_pair_parse_format(bytes, length, format) : fots_moment_parse_format(bytes, length, format);
 }
 
+/* Parses argument 0, by the format in argument 1 if there is one. */
+static fots_parse_moment_result parse(FunctionCallInfo fcinfo, enum form form)
+{
+    const text *const value = PG_GETARG_TEXT_PP(0);
+    const char *const bytes = VARDATA_ANY(value);
+    const size_t length = VARSIZE_ANY_EXHDR(value);
+    fots_parse_moment_result found;
+    if (PG_NARGS() == 1) {
+        return form == LOCAL ? fots_pair_parse(bytes, length) : fots_moment_parse(bytes, length);
+    }
+    found = by_format(bytes, length, format_of(fcinfo, 1), form);
+    if (found.status == FOTS_INSUFFICIENT_FORMAT) {
+        fail("format", found.status);
+    }
+    return found;
+}
+
 static fots_parse_moment_result parse_or_fail(FunctionCallInfo fcinfo, enum form form)
 {
     static const char *const names[] = {"date", "local time", "instant"};
     const fots_parse_moment_result parsed = parse(fcinfo, form);
-    if (parsed.status == FOTS_INSUFFICIENT_FORMAT) {
-        fail("format", parsed.status);
-    }
     if (parsed.status != FOTS_OK) {
         fail_text(names[form], PG_GETARG_TEXT_PP(0), parsed.status, parsed.position);
     }
@@ -71,11 +76,7 @@ static fots_parse_moment_result parse_or_fail(FunctionCallInfo fcinfo, enum form
 
 static Datum is_valid(FunctionCallInfo fcinfo, enum form form)
 {
-    const int32 status = parse(fcinfo, form).status;
-    if (status == FOTS_INSUFFICIENT_FORMAT) {
-        fail("format", status);
-    }
-    return BoolGetDatum(status == FOTS_OK);
+    return BoolGetDatum(parse(fcinfo, form).status == FOTS_OK);
 }
 
 PG_FUNCTION_INFO_V1(cal_valid);
@@ -94,6 +95,36 @@ PG_FUNCTION_INFO_V1(cal_valid_instant);
 Datum cal_valid_instant(PG_FUNCTION_ARGS)
 {
     return is_valid(fcinfo, INSTANT);
+}
+
+/* Returns why a string isn't valid, or NULL for a valid one. */
+static Datum error_of(FunctionCallInfo fcinfo, enum form form)
+{
+    const fots_parse_moment_result parsed = parse(fcinfo, form);
+    char reason[SQL_REASON_BYTES];
+    if (parsed.status == FOTS_OK) {
+        PG_RETURN_NULL();
+    }
+    reason_of(reason, PG_GETARG_TEXT_PP(0), parsed.status, parsed.position);
+    PG_RETURN_TEXT_P(text_of(reason, strlen(reason)));
+}
+
+PG_FUNCTION_INFO_V1(cal_error);
+Datum cal_error(PG_FUNCTION_ARGS)
+{
+    return error_of(fcinfo, DATE);
+}
+
+PG_FUNCTION_INFO_V1(cal_error_local);
+Datum cal_error_local(PG_FUNCTION_ARGS)
+{
+    return error_of(fcinfo, LOCAL);
+}
+
+PG_FUNCTION_INFO_V1(cal_error_instant);
+Datum cal_error_instant(PG_FUNCTION_ARGS)
+{
+    return error_of(fcinfo, INSTANT);
 }
 
 PG_FUNCTION_INFO_V1(cal_parse);

@@ -29,14 +29,17 @@ void fail(const char *what, int32 status)
     ereport(ERROR, (errcode(code_of(status)), errmsg("%s: %s%s", what, fots_status_name(status), out_of_range(status))));
 }
 
+void reason_of(char bytes[SQL_REASON_BYTES], const text *value, int32 status, size_t position)
+{
+    const bool has_position = position <= (size_t)VARSIZE_ANY_EXHDR(value);
+    sql_reason(bytes, status, position, has_position ? (size_t)pg_mbstrlen_with_len(VARDATA_ANY(value), (int)position) + 1 : 0);
+}
+
 void fail_text(const char *what, const text *value, int32 status, size_t position)
 {
-    const bool has_position = position <= (size_t)VARSIZE_ANY_EXHDR(value) && status != FOTS_CONTRADICTION;
-    const int character = has_position ? pg_mbstrlen_with_len(VARDATA_ANY(value), (int)position) + 1 : 0;
-    ereport(ERROR,
-        (errcode(code_of(status)), errmsg("invalid %s: \"%s\"", what, text_to_cstring(value)),
-            has_position ? errdetail("%s at character %d", fots_status_name(status), character)
-                         : errdetail("%s%s", fots_status_name(status), out_of_range(status))));
+    char reason[SQL_REASON_BYTES];
+    reason_of(reason, value, status, position);
+    ereport(ERROR, (errcode(code_of(status)), errmsg("invalid %s: \"%s\"", what, text_to_cstring(value)), errdetail_internal("%s", reason)));
 }
 
 static void fail_infinite(const char *what)

@@ -3,6 +3,7 @@
 #define FOTSEVINDRE_SQL_NAMES_H
 
 #include <stdint.h>
+#include <stdio.h>
 #include <string.h>
 
 #include "fotsevindre_names.h"
@@ -36,6 +37,22 @@ static inline enum sql_error sql_error_of(int32_t status)
         return SQL_OUT_OF_RANGE;
     default:
         return sql_is_component(status) ? SQL_OUT_OF_RANGE : SQL_INVALID_ARGUMENT;
+    }
+}
+
+#define SQL_REASON_BYTES 96
+
+/* Writes why a string isn't valid, such as "day out of range". `character` is the one at the position,
+ * counted from 1, or 0 if the error has no position. */
+static inline void sql_reason(char bytes[SQL_REASON_BYTES], int32_t status, size_t position, size_t character)
+{
+    const char *const name = fots_status_name(status);
+    if (status == FOTS_CONTRADICTION) {
+        snprintf(bytes, SQL_REASON_BYTES, "%s contradicts the other components", fots_status_name((int32_t)position));
+    } else if (character > 0) {
+        snprintf(bytes, SQL_REASON_BYTES, "%s at character %llu", name, (unsigned long long)character);
+    } else {
+        snprintf(bytes, SQL_REASON_BYTES, "%s%s", name, sql_is_component(status) ? " out of range" : "");
     }
 }
 

@@ -65,6 +65,17 @@ static void valid(const sql_function *function, sqlite3_context *context, int co
     }
 }
 
+/* The reason why a string isn't valid, or NULL for a valid one. */
+static void error(const sql_function *function, sqlite3_context *context, int count, sqlite3_value **values)
+{
+    char reason[SQL_REASON_BYTES];
+    fots_parse_moment_result parsed;
+    if (get_parsed(function, context, count, values, &parsed) && parsed.status != FOTS_OK) {
+        sql_text_reason(reason, sql_text_of(values[0]), parsed.status, parsed.position);
+        set_text(context, reason, strlen(reason));
+    }
+}
+
 static void parse(const sql_function *function, sqlite3_context *context, int count, sqlite3_value **values)
 {
     static const char *const names[] = {"date", "local time", "instant"};
@@ -132,6 +143,9 @@ const sql_call sql_text_calls[] = {
     {"cal_valid", 1, 2, valid, NULL, NULL, NULL, SQL_DATE, 0},
     {"cal_valid_local", 1, 2, valid, NULL, NULL, NULL, SQL_LOCAL, 0},
     {"cal_valid_instant", 1, 2, valid, NULL, NULL, NULL, SQL_INSTANT, 0},
+    {"cal_error", 1, 2, error, NULL, NULL, NULL, SQL_DATE, 0},
+    {"cal_error_local", 1, 2, error, NULL, NULL, NULL, SQL_LOCAL, 0},
+    {"cal_error_instant", 1, 2, error, NULL, NULL, NULL, SQL_INSTANT, 0},
     {"cal_parse", 1, 2, parse, NULL, NULL, NULL, SQL_DATE, 0},
     {"cal_parse_local", 1, 2, parse, NULL, NULL, NULL, SQL_LOCAL, 0},
     {"cal_parse_instant", 1, 2, parse, NULL, NULL, NULL, SQL_INSTANT, 0},

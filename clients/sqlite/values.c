@@ -14,21 +14,25 @@ char *sql_message(const char *what, int32_t status)
     return sqlite3_mprintf("%s: %s%s", what, fots_status_name(status), sql_is_component(status) ? " out of range" : "");
 }
 
+void sql_text_reason(char bytes[SQL_REASON_BYTES], sql_text text, int32_t status, size_t position)
+{
+    size_t character = position <= text.length, at;
+    for (at = 0; position <= text.length && at < position; at++) {
+        character += (text.bytes[at] & 0xC0) != 0x80;
+    }
+    sql_reason(bytes, status, position, character);
+}
+
 /* Shows at most 60 bytes, up to the end of a character. */
 char *sql_text_message(const char *what, sql_text text, int32_t status, size_t position)
 {
-    const char *const reason = fots_status_name(status), *const range = sql_is_component(status) ? " out of range" : "";
-    size_t shown = text.length < 60 ? text.length : 60, character = 1, at;
+    char reason[SQL_REASON_BYTES];
+    size_t shown = text.length < 60 ? text.length : 60;
     while (shown < text.length && shown > 0 && (text.bytes[shown] & 0xC0) == 0x80) {
         shown--;
     }
-    if (position > text.length || status == FOTS_CONTRADICTION) {
-        return sqlite3_mprintf("invalid %s: \"%.*s\": %s%s", what, (int)shown, text.bytes, reason, range);
-    }
-    for (at = 0; at < position; at++) {
-        character += (text.bytes[at] & 0xC0) != 0x80;
-    }
-    return sqlite3_mprintf("invalid %s: \"%.*s\": %s at character %llu", what, (int)shown, text.bytes, reason, (unsigned long long)character);
+    sql_text_reason(reason, text, status, position);
+    return sqlite3_mprintf("invalid %s: \"%.*s\": %s", what, (int)shown, text.bytes, reason);
 }
 
 void sql_fail(sqlite3_context *context, char *message)

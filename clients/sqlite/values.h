@@ -61,6 +61,9 @@ typedef struct sql_text {
 
 sql_text sql_text_of(sqlite3_value *value);
 
+/* Writes why a string isn't valid, with the position of its first wrong character. */
+void sql_text_reason(char bytes[SQL_REASON_BYTES], sql_text text, int32_t status, size_t position);
+
 /* Return a message in memory of SQLite. */
 char *sql_message(const char *what, int32_t status);
 char *sql_text_message(const char *what, sql_text text, int32_t status, size_t position);

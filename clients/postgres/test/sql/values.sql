@@ -54,7 +54,7 @@ SELECT * FROM (VALUES
     (2, pg_temp.error_of($$SELECT cal_parse('2024-02-2x')$$), '22007 invalid date: "2024-02-2x" / unexpected byte at character 10'),
     (3, pg_temp.error_of($$SELECT cal_parse('2024-02')$$), '22007 invalid date: "2024-02" / unexpected end at character 8'),
     (4, pg_temp.error_of($$SELECT cal_parse('2024–02-29')$$), '22007 invalid date: "2024–02-29" / unexpected byte at character 5'),
-    (5, pg_temp.error_of($$SELECT cal_parse('Wed 2024-02-29', '%a %Y-%m-%d')$$), '22007 invalid date: "Wed 2024-02-29" / contradiction'),
+    (5, pg_temp.error_of($$SELECT cal_parse('Wed 2024-02-29', '%a %Y-%m-%d')$$), '22007 invalid date: "Wed 2024-02-29" / weekday contradicts the other components'),
     (6, pg_temp.error_of($$SELECT cal_parse('05', '%m')$$), '22023 format: insufficient format'),
     (7, pg_temp.error_of($$SELECT cal_valid('05', '%m')$$), '22023 format: insufficient format'),
     (8, pg_temp.error_of($$SELECT cal_format('2024-02-29', '%d %Q')$$), '22023 invalid format: "%d %Q" / unknown item at character 4'),
@@ -81,6 +81,23 @@ SELECT * FROM (VALUES
     (28, (SELECT string_agg(t::text, ' ') FROM cal_times_local('FREQ=DAILY', '2024-01-01 09:00', '(2024-01-02 09:00,2024-01-04 09:00]') AS t), '2024-01-03 09:00:00 2024-01-04 09:00:00'),
     (29, (SELECT string_agg(t::text, ' ') FROM cal_times_zoned('FREQ=DAILY', '2024-01-01 09:00', 'UTC', '[2024-01-02 09:00Z,2024-01-04 09:00Z)') AS t), '2024-01-02 09:00:00+00 2024-01-03 09:00:00+00'),
     (25, cal_add_months(NULL, 1)::text, NULL), (26, cal_workdays('2024-01-01', '2024-02-01', NULL)::text, NULL)
+) AS row(id, result, expected) WHERE result IS DISTINCT FROM expected;
+
+-- why a string isn't valid: the words of the error, NULL for a valid one, and an error for a format that can't say
+SELECT * FROM (VALUES
+    (1, cal_error('2024-02-29'), NULL), (2, cal_error(NULL), NULL), (3, cal_error('2023-02-29'), 'day out of range'),
+    (4, cal_error('2024-13-01'), 'month out of range'), (5, cal_error('2024-02-2x'), 'unexpected byte at character 10'),
+    (6, cal_error('2024–02-29'), 'unexpected byte at character 5'), (7, cal_error(''), 'unexpected end at character 1'),
+    (8, cal_error('29.02.2024', '%d.%m.%Y'), NULL), (9, cal_error('31.04.2024', '%d.%m.%Y'), 'day out of range'),
+    (10, cal_error('Wed 2024-02-29', '%a %Y-%m-%d'), 'weekday contradicts the other components'),
+    (11, cal_error_local('2024-02-29 9:05'), NULL), (12, cal_error_local('2024-02-29 24:00'), 'hour out of range'),
+    (13, cal_error_local('9:65 29.02.2024', '%-H:%M %d.%m.%Y'), 'minute out of range'),
+    (14, cal_error_instant('2024-02-29T23:59:59Z'), NULL), (15, cal_error_instant('2024-02-29T23:59:59'), 'unexpected end at character 20'),
+    (16, cal_error_instant('2024-02-29 9:05 +26:00', '%Y-%m-%d %-H:%M %:z'), 'offset hour out of range'),
+    (17, pg_temp.error_of($$SELECT cal_error('05', '%m')$$), '22023 format: insufficient format'),
+    (18, pg_temp.error_of($$SELECT cal_error('05', '%Q')$$), '22023 invalid format: "%Q" / unknown item at character 1'),
+    (19, (SELECT string_agg(t || ': ' || cal_error(t), '; ' ORDER BY t) FROM unnest(ARRAY['2024-02-29', NULL, '2023-02-29', '29.2.']) AS t WHERE NOT cal_valid(t)),
+        '2023-02-29: day out of range; 29.2.: unexpected byte at character 3')
 ) AS row(id, result, expected) WHERE result IS DISTINCT FROM expected;
 
 -- other dates and exceptions: in any order, twice, in both, before the start, outside the range, in a gap, NULL, infinity, too many
