@@ -36,7 +36,6 @@ const CRATES: [&str; 20] = [
 fn main() -> ExitCode {
     let folder = |name| env::var_os(name).map(PathBuf::from).unwrap_or_default();
     let top = folder("CARGO_MANIFEST_DIR").join("../..");
-    println!("cargo::rerun-if-changed=.");
     println!("cargo::rerun-if-changed=../build/strip");
     let options = strip::Options { crates: &CRATES, standard: "core", tests: None, more: Some(&parameters::change) };
     match strip::write_crates(&top.join("crates"), &folder("OUT_DIR"), &options) {
