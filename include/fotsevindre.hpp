@@ -41,7 +41,12 @@ class Zone;
 class error : public std::runtime_error {
 public:
     explicit error(std::int32_t status, std::size_t position = SIZE_MAX)
-        : std::runtime_error(message(status, position)), status_(status), position_(position)
+        : error(status, position, message(status, position))
+    {
+    }
+    // Takes a message of its own.
+    error(std::int32_t status, std::size_t position, const std::string &message)
+        : std::runtime_error(message), status_(status), position_(position)
     {
     }
 
@@ -60,13 +65,6 @@ public:
     // isn't after the one before. For FOTS_CONTRADICTION it is the status of the component, such as
     // FOTS_WEEKDAY_OUT_OF_RANGE.
     [[nodiscard]] std::size_t position() const noexcept { return position_; }
-
-protected:
-    // Takes the message of a class below.
-    error(std::int32_t status, std::size_t position, const std::string &message)
-        : std::runtime_error(message), status_(status), position_(position)
-    {
-    }
 
 private:
     static std::string message(std::int32_t status, std::size_t position)
@@ -181,6 +179,19 @@ template <class Result> Result parsed_or_throw(Result result)
         throw error(result.status, result.position);
     }
     return result;
+}
+
+// Returns the result of a function that makes a format of a text, or throws an error that has the wrong item.
+inline fots_format_result format_or_throw(fots_format_result result, std::string_view text)
+{
+    const std::string_view rest = result.status == FOTS_UNKNOWN_ITEM ? text.substr(result.position) : std::string_view();
+    if (!rest.empty() && (rest[0] == '%' || rest[0] == '[')) {
+        // An item of strftime ends with its first letter.
+        const std::size_t last = rest[0] == '[' ? rest.find(']') : rest.find_first_not_of("-_^#:0123456789", 1);
+        const std::string item(rest.substr(0, last == std::string_view::npos ? last : last + 1));
+        throw error(result.status, result.position, "unknown item '" + item + "' at " + std::to_string(result.position));
+    }
+    return parsed_or_throw(result);
 }
 
 inline fots_moment moment_or_throw(fots_parse_moment_result result)
@@ -307,16 +318,16 @@ inline std::ostream &operator<<(std::ostream &out, Weekday weekday) { return out
 class Format {
 public:
     // Take a text in the syntax of strftime, or of the Rust crate time.
-    explicit Format(std::string_view text) : Format(fots_format_new(detail::data(text), text.size())) {}
+    explicit Format(std::string_view text) : Format(fots_format_new(detail::data(text), text.size()), text) {}
     [[nodiscard]] static Format from_description(std::string_view text)
     {
-        return Format(fots_format_from_description(detail::data(text), text.size()));
+        return Format(fots_format_from_description(detail::data(text), text.size()), text);
     }
 
     [[nodiscard]] const fots_format *c() const noexcept { return &value_; }
 
 private:
-    explicit Format(const fots_format_result &result) : value_(detail::parsed_or_throw(result).format) {}
+    Format(const fots_format_result &result, std::string_view text) : value_(detail::format_or_throw(result, text).format) {}
 
     fots_format value_;
 };

@@ -615,7 +615,10 @@ void formats()
     throws([] { return Date::parse("Wed 2024-02-29", Format("%a %F")); }, FOTS_CONTRADICTION, "weekday contradicts the other components",
         "a wrong weekday");
     throws([] { return Date::parse("02", Format("%m")); }, FOTS_INSUFFICIENT_FORMAT, "insufficient format", "a month only");
-    throws([] { return Format("ab%"); }, FOTS_UNKNOWN_ITEM, "unknown item at 2", "no item");
+    throws([] { return Format("ab%"); }, FOTS_UNKNOWN_ITEM, "unknown item '%' at 2", "no item");
+    throws([] { return Format("%F %-Q!"); }, FOTS_UNKNOWN_ITEM, "unknown item '%-Q' at 3", "a wrong letter");
+    throws([] { return Format::from_description("[day] [wekday]"); }, FOTS_UNKNOWN_ITEM, "unknown item '[wekday]' at 6", "a wrong component");
+    throws([] { return Format("a\xff"); }, FOTS_UNEXPECTED_BYTE, "unexpected byte at 1", "no UTF-8");
     throws([] { return Format(std::string(65, 'a')); }, FOTS_TOO_MANY_ITEMS, "too many items", "65 items");
     throws([day] { return day.format(Format("%H")); }, FOTS_UNSUPPORTED_ITEM, "unsupported item", "the hour of a date");
 }
