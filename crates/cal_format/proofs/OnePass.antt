@@ -1,5 +1,5 @@
 -- The numbers that one pass over the items leaves in the fields.
-use Rattle.std.proofs.Common.{◌≡◌, ◌≢◌, ℕ, ◌-◌, ◌≤◌, List, [], ◌∷◌, ◌++◌, length, refl, sym, ap, subst, ◌∙◌, arith, append_assoc, append-nil}
+use Rattle.std.proofs.Common.{◌≡◌, ◌≢◌, ℕ, ◌-◌, ◌<◌, ◌≤◌, List, [], ◌∷◌, ◌++◌, length, refl, sym, ap, subst, ◌∙◌, arith, append_assoc, append-nil}
 use Rattle.std.proofs.lemmas.List.{take_all}
 use Rattle.std.specs.Prelude.{Bool, true, false, ◌==◌, ◌||◌, IsTrue, if◌then◌else◌, Option, Some, None, is_some, IfSome}
 use Rattle.std.proofs.Math.Bool.{or-false}
@@ -124,6 +124,21 @@ pub scanned : (items : List Item) (old mid new : Fields) (text rest end : List �
 scanned [] old mid new text rest end some first others = absurd (omega arith)
 scanned (i ∷ items) old mid new text rest end some first others =
     scanned-more i items old mid new text rest end first (subst (λ l. HasFields l mid new rest end) (take_all (length (i ∷ items) - 1) items (omega arith)) others)
+
+-- No items.
+pub none-has : (f : Fields) (text : List ℕ) → HasFields [] f f text text
+none-has f text = record {
+  fit = tt;
+  in_range = refl;
+  text_is = refl;
+  kept = λ c e. refl;
+  marked = λ c h. refl;
+  shown = λ before are. subst (λ l. AreShown l f.shown) (sym (append-nil before)) are;
+}
+
+pub none-scanned : (f : Fields) (text : List ℕ) (items : List Item) → length items < 1 → HasFields items f f text text
+none-scanned f text [] few = none-has f text
+none-scanned f text (i ∷ items) few = absurd (omega (arith, few))
 
 -- ---- the fields
 own-field : (o : Option Component) (c : Component) (f : Fields) → IsTrue (is_component c o) → field_of f o ≡ number_at c f

@@ -105,14 +105,7 @@ impl LenientFormat {
         ensures same { IfSome result (λ format. format ≡ self) }
     {
         let known = self.known_items()?;
-        if known.is_apart() && known.is_within(0, DATE_END) && shows_date(&known) {
-            Some(LenientDateFormat {
-                format: self,
-                known,
-            })
-        } else {
-            None
-        }
+        determining!(known, [0..DATE_END] shows_date => LenientDateFormat { format: self, known })
     }
 
     /// Returns the format for times of day, or `None` if its texts don't determine a time of day,
@@ -123,14 +116,10 @@ impl LenientFormat {
         ensures same { IfSome result (λ format. format ≡ self) }
     {
         let known = self.known_items()?;
-        if known.is_apart() && known.is_within(DATE_END, TIME_END) && shows_time(&known) {
-            Some(LenientTimeFormat {
-                format: self,
-                known,
-            })
-        } else {
-            None
-        }
+        determining!(
+            known,
+            [DATE_END..TIME_END] shows_time => LenientTimeFormat { format: self, known }
+        )
     }
 
     /// Returns the format for date-times, or `None` if its texts don't determine a date and a time
@@ -141,18 +130,10 @@ impl LenientFormat {
         ensures same { IfSome result (λ format. format ≡ self) }
     {
         let known = self.known_items()?;
-        if known.is_apart()
-            && known.is_within(0, TIME_END)
-            && shows_date(&known)
-            && shows_time(&known)
-        {
-            Some(LenientDateTimeFormat {
-                format: self,
-                known,
-            })
-        } else {
-            None
-        }
+        determining!(
+            known,
+            [0..TIME_END] shows_date, shows_time => LenientDateTimeFormat { format: self, known }
+        )
     }
 
     /// Returns the format for date-times at an offset, or `None` if its texts don't determine a
@@ -163,14 +144,10 @@ impl LenientFormat {
         ensures same { IfSome result (λ format. format ≡ self) }
     {
         let known = self.known_items()?;
-        if known.is_apart() && known.is_within(0, MOMENT_END) && shows_moment(&known) {
-            Some(LenientOffsetDateTimeFormat {
-                format: self,
-                known,
-            })
-        } else {
-            None
-        }
+        determining!(
+            known,
+            [0..MOMENT_END] shows_moment => LenientOffsetDateTimeFormat { format: self, known }
+        )
     }
 }
 

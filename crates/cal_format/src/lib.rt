@@ -8,6 +8,21 @@
 //! [`ParseError`] says why.
 #![tactic(auto)]
 
+/// Returns a format for values of one type if these items show components within a range and pass
+/// these tests, or `None`.
+macro_rules! determining {
+    ($items:ident, [$low:tt..$high:ident] $($shows:ident),+ => $format:expr) => {{
+        if $items.is_apart()
+            && $items.is_within($low, $high)
+            $(&& $shows(&$items))+
+        {
+            Some($format)
+        } else {
+            None
+        }
+    }};
+}
+
 mod date_parts;
 mod description;
 mod determines;

@@ -25,11 +25,7 @@ pub(crate) fn parse_once(items: &Format, text: &[u8]) -> Option<Moment>
     ensures value { IfSome result (λ v. IsPrinted items.now v text.now) }
 {
     let mut fields = Fields::new();
-    let mut scanner = Scanner { rest: text };
-    if !scan_fields(items.items(), &mut scanner, &mut fields) {
-        return None;
-    }
-    if !scanner.rest.is_empty() {
+    if !scan_whole(items.items(), text, &mut fields) {
         return None;
     }
     let moment = find_moment(items, &fields)?;
@@ -84,26 +80,18 @@ pub(crate) fn parse_pair_once(items: &Format, text: &[u8]) -> Option<PlainDateTi
 
 /// Parses the items up to the end of a text, and sets the numbers of their components. Returns
 /// `false` at a byte that doesn't fit, or at a number out of range.
-#[inline(always)]
 fn scan_whole(items: &[Item], text: &[u8], fields: &mut Fields) -> bool
     ensures { IsTrue result → HasFields items.now fields.old fields.new text.now [] }
 {
     let mut scanner = Scanner { rest: text };
-    scan_fields(items, &mut scanner, fields) && scanner.rest.is_empty()
-}
-
-/// Parses the items at the front of a text, and sets the numbers of their components. Returns
-/// `false` at a byte that doesn't fit, or at a number out of range.
-fn scan_fields(items: &[Item], scanner: &mut Scanner, fields: &mut Fields) -> bool
-    ensures { IsTrue result → HasFields items.now fields.old fields.new scanner.old.rest.now
-        scanner.new.rest.now }
-{
-    match items {
-        [] => true,
-        [item, others @ ..] => {
-            fields.scan(*item, scanner) && scan_fields(others, scanner, fields)
+    let mut left = items;
+    while let [item, others @ ..] = left {
+        if !fields.scan(*item, &mut scanner) {
+            return false;
         }
+        left = others;
     }
+    scanner.rest.is_empty()
 }
 
 /// Returns the component of the first item whose number in the fields isn't the number of the

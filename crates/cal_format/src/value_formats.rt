@@ -111,21 +111,6 @@ impl Model for OffsetDateTimeFormat {
     ghost invariant = { λ f. DeterminesOffsetDateTime f.format };
 }
 
-/// Returns the format for values of one type if its items show components within a range and pass
-/// these tests, or `None`.
-macro_rules! determining {
-    ($self:ident, $format:ident, [$low:tt..$high:ident] $($shows:ident),+) => {{
-        if $self.is_apart()
-            && $self.is_within($low, $high)
-            $(&& $shows(&$self))+
-        {
-            Some($format { format: $self })
-        } else {
-            None
-        }
-    }};
-}
-
 impl Format {
     /// Returns the format for dates, or `None` if its texts don't determine a date, or show more
     /// than a date. `%F` and `%G-W%V-%u` determine a date, and `%Y-%m` doesn't.
@@ -133,7 +118,7 @@ impl Format {
         ensures determines { IsSome result ↔ DeterminesDate self }
         ensures same { IfSome result (λ format. format ≡ self) }
     {
-        determining!(self, DateFormat, [0..DATE_END] shows_date)
+        determining!(self, [0..DATE_END] shows_date => DateFormat { format: self })
     }
 
     /// Returns the format for times of day, or `None` if its texts don't determine a time of day,
@@ -142,7 +127,7 @@ impl Format {
         ensures determines { IsSome result ↔ DeterminesTime self }
         ensures same { IfSome result (λ format. format ≡ self) }
     {
-        determining!(self, TimeFormat, [DATE_END..TIME_END] shows_time)
+        determining!(self, [DATE_END..TIME_END] shows_time => TimeFormat { format: self })
     }
 
     /// Returns the format for offsets, or `None` if its texts don't determine an offset, or show
@@ -151,7 +136,7 @@ impl Format {
         ensures determines { IsSome result ↔ DeterminesOffset self }
         ensures same { IfSome result (λ format. format ≡ self) }
     {
-        determining!(self, OffsetFormat, [TIME_END..OFFSET_END] shows_offset)
+        determining!(self, [TIME_END..OFFSET_END] shows_offset => OffsetFormat { format: self })
     }
 
     /// Returns the format for date-times, or `None` if its texts don't determine a date and a time
@@ -160,7 +145,7 @@ impl Format {
         ensures determines { IsSome result ↔ DeterminesDateTime self }
         ensures same { IfSome result (λ format. format ≡ self) }
     {
-        determining!(self, DateTimeFormat, [0..TIME_END] shows_date, shows_time)
+        determining!(self, [0..TIME_END] shows_date, shows_time => DateTimeFormat { format: self })
     }
 
     /// Returns the format for date-times at an offset, or `None` if its texts don't determine a
@@ -170,7 +155,7 @@ impl Format {
         ensures determines { IsSome result ↔ DeterminesOffsetDateTime self }
         ensures same { IfSome result (λ format. format ≡ self) }
     {
-        determining!(self, OffsetDateTimeFormat, [0..MOMENT_END] shows_moment)
+        determining!(self, [0..MOMENT_END] shows_moment => OffsetDateTimeFormat { format: self })
     }
 }
 

@@ -1,0 +1,10 @@
+use Rattle.std.proofs.Common.{List, ℕ, length}
+use Rattle.cal_format.specs.declared.fields.Fields.{Fields}
+use Rattle.cal_format.specs.Scanning.{HasFields}
+use Rattle.cal_format.proofs.one_pass.scan_whole.Given as goal
+
+abbrev pub invariant-loop-left : goal.invariant-loop-left
+invariant-loop-left l = (new : Fields) (end : List ℕ) → HasFields l.left l.fields new l.scanner.rest.now end → HasFields l.fn.items l.fn.fields new l.fn.text end
+
+abbrev pub decreases-loop-left : goal.decreases-loop-left
+decreases-loop-left l = length l.left
