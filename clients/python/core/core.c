@@ -62,7 +62,8 @@ typedef struct State {
     PyObject *timezone;
     PyObject *has_layouts; /* True if datetime has the layouts of standard.c */
     PyObject *weekday, *calendar_unit, *rounding_mode, *convention, *day_count, *year_fraction;
-    PyObject *status_error, *component_range;
+    PyObject *status_error, *format_error, *insufficient_format, *component_range, *parse_error;
+    PyObject *components; /* by status: the arguments of component_range, or None */
     PyObject *months[12], *weekdays[7];
 } State;
 
@@ -238,24 +239,65 @@ static int to_text(const State *Py_UNUSED(state), PyObject *object, Text *text)
 
 /* ---- results */
 
-static PyObject *raise_position(const State *state, int32_t status, size_t position, uint32_t part)
+/* Raises an error that was made, unless that failed. Returns NULL. */
+static PyObject *raise_made(PyObject *error)
 {
-    int is_conditional = fots_status_is_conditional(status);
-    if (is_conditional ||
-        (status >= FOTS_YEAR_OUT_OF_RANGE && status <= FOTS_TIMESTAMP_OUT_OF_RANGE) ||
-        (status >= FOTS_YEARS_OUT_OF_RANGE && status <= FOTS_MINUTES_OUT_OF_RANGE)) {
-        PyObject *given = Py_BuildValue("sO", fots_status_name(status),
-            is_conditional ? Py_True : Py_False);
-        PyErr_SetObject(state->component_range, given);
-        Py_XDECREF(given);
-        return NULL;
-    }
-    PyObject *error = PyObject_CallFunction(state->status_error, "inI", (int)status,
-        (Py_ssize_t)position, (unsigned)part);
     if (error) {
         PyErr_SetObject((PyObject *)Py_TYPE(error), error);
         Py_DECREF(error);
     }
+    return NULL;
+}
+
+/* Returns the arguments of component_range for a status, or NULL for another one. */
+static PyObject *component_of(const State *state, int32_t status)
+{
+    PyObject *component = status < PyTuple_Size(state->components) ?
+        PyTuple_GetItem(state->components, status) : Py_None;
+    return component == Py_None ? NULL : component;
+}
+
+static PyObject *raise_position(const State *state, int32_t status, size_t position, uint32_t part)
+{
+    PyObject *component = component_of(state, status);
+    if (component) {
+        PyErr_SetObject(state->component_range, component);
+        return NULL;
+    }
+    return raise_made(PyObject_CallFunction(state->status_error, "inI", (int)status,
+        (Py_ssize_t)position, (unsigned)part));
+}
+
+/* Calls that aren't generated, in the order of CALLS_EXPLAINED of tools/python_members. */
+enum { CALL_NEW_DATE_TIME, CALL_REPLACE_DATE_TIME, CALL_STRPTIME };
+
+/* Raises an error with the call that failed, of which it makes its sentence when it is printed: what
+ * has the method, the number of the call, and its arguments come after those of the error. Returns
+ * NULL. */
+static PyObject *raise_explained(const State *state, int32_t status, size_t position,
+    PyObject *self, long call, PyObject *const *given, Py_ssize_t count)
+{
+    PyObject *component = component_of(state, status);
+    int is_end = status == FOTS_UNEXPECTED_END;
+    if (!component && !is_end && status != FOTS_UNEXPECTED_BYTE) {
+        return raise_position(state, status, position, 0);
+    }
+    PyObject *arguments = PyTuple_New(4 + count);
+    if (!arguments) {
+        return NULL;
+    }
+    PyTuple_SetItem(arguments, 0, component ? new_reference(PyTuple_GetItem(component, 0)) :
+        PyLong_FromSize_t(position));
+    PyTuple_SetItem(arguments, 1, component ? new_reference(PyTuple_GetItem(component, 1)) :
+        PyBool_FromLong(is_end));
+    PyTuple_SetItem(arguments, 2, new_reference(self));
+    PyTuple_SetItem(arguments, 3, PyLong_FromLong(call));
+    for (Py_ssize_t index = 0; index < count; index++) {
+        PyObject *one = given[index] ? given[index] : Py_None;
+        PyTuple_SetItem(arguments, 4 + index, new_reference(one));
+    }
+    PyErr_SetObject(component ? state->component_range : state->parse_error, arguments);
+    Py_DECREF(arguments);
     return NULL;
 }
 

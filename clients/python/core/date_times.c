@@ -65,8 +65,9 @@ static const char *const plain_names[] = {"year", "month", "day", "hour", "minut
     "nanosecond", NULL};
 
 /* Converts components to a date-time with the components of another one where none are given. The
- * last one is an offset, or NULL. */
-static int to_components(const State *state, PyObject *const *given, fots_moment *moment)
+ * last one is an offset, or NULL. An error has the call. */
+static int to_components(const State *state, PyObject *self, long call,
+    PyObject *const *given, fots_moment *moment)
 {
     fots_calendar_date_result own = {0};
     fots_hms_nano_result time = {0};
@@ -94,7 +95,7 @@ static int to_components(const State *state, PyObject *const *given, fots_moment
     moment->date = date.date;
     moment->time = clock.time;
     int32_t status = date.status ? date.status : clock.status;
-    return !status || raise_status(state, status);
+    return !status || raise_explained(state, status, 0, self, call, given, 7);
 }
 
 /* Makes a date-time of a date, a time and, if it has one, an offset, or of components by position
@@ -125,7 +126,8 @@ static PyObject *moment_create(PyTypeObject *type, PyObject *arguments, PyObject
     if (!is_plain && !given[7]) {
         return PyErr_Format(PyExc_TypeError, "%s() missing required argument 'offset'", name);
     }
-    return to_components(state, given, &moment) ? new_moment(type, moment) : NULL;
+    return to_components(state, (PyObject *)type, CALL_NEW_DATE_TIME, given, &moment) ?
+        new_moment(type, moment) : NULL;
 }
 
 static PyObject *moment_replace(PyObject *self, PyObject *arguments, PyObject *named)
@@ -135,6 +137,7 @@ static PyObject *moment_replace(PyObject *self, PyObject *arguments, PyObject *n
     PyObject *given[8] = {0};
     fots_moment moment = MOMENT(self);
     return take_arguments("replace", arguments, named, type == state->plain ? plain_names :
-        component_names, 0, 0, given) && to_components(state, given, &moment) ?
+        component_names, 0, 0, given) &&
+        to_components(state, self, CALL_REPLACE_DATE_TIME, given, &moment) ?
         new_moment(type, moment) : NULL;
 }

@@ -1,10 +1,9 @@
 /* Formats, for the file formats.py. A format is the bytes of its struct. The library checks each of
  * its numbers. */
 
-/* Releases a text that was parsed. Returns 0 after it has raised an error, if there is one. The
- * position of a byte becomes that of its character. For FOTS_CONTRADICTION there is a status in its
- * place. */
-static int is_parsed(const State *state, int32_t status, size_t position, Text *text)
+/* Releases a text that was parsed, and returns the position of the character of a wrong byte. For
+ * FOTS_CONTRADICTION there is a status in its place. */
+static size_t release(Text *text, int32_t status, size_t position)
 {
     if (status && status != FOTS_CONTRADICTION && position <= text->length) {
         PyObject *front = PyUnicode_DecodeUTF8(text->start, (Py_ssize_t)position, "ignore");
@@ -12,10 +11,7 @@ static int is_parsed(const State *state, int32_t status, size_t position, Text *
         Py_XDECREF(front);
     }
     Py_XDECREF(text->bytes);
-    if (status) {
-        raise_position(state, status, position, 0);
-    }
-    return !status;
+    return position;
 }
 
 /* Parses a format in the syntax of strftime, or in that of the Rust crate time. */
@@ -32,7 +28,9 @@ static int parse_format(const State *state, PyObject *object, int is_description
     *format = result.format;
     /* A lone surrogate isn't UTF-8, and no item begins with one. */
     int32_t status = result.status == FOTS_UNEXPECTED_BYTE ? FOTS_UNKNOWN_ITEM : result.status;
-    return is_parsed(state, status, result.position, &text);
+    size_t position = release(&text, status, result.position);
+    return !status || raise_made(PyObject_CallFunction(state->format_error, "inOi", (int)status,
+        (Py_ssize_t)position, object, is_description));
 }
 
 /* Converts a Format, the bytes of one, or a text in the syntax of strftime. */
@@ -87,6 +85,15 @@ static fots_parse_offset_result fots_offset_parse_leniently(
     return (fots_parse_offset_result){FOTS_INSUFFICIENT_FORMAT, {FOTS_NO_VALUE}, SIZE_MAX};
 }
 
+/* Raises the error of a string that has no value by a format. Returns NULL. */
+static PyObject *raise_strptime(const State *state, int32_t status, size_t position,
+    PyObject *self, PyObject *const *given)
+{
+    return status == FOTS_INSUFFICIENT_FORMAT ?
+        raise_made(PyObject_CallFunctionObjArgs(state->insufficient_format, given[1], NULL)) :
+        raise_explained(state, status, position, self, CALL_STRPTIME, given, 2);
+}
+
 #define STRPTIME(name, part, kind, value) \
     static PyObject *name(PyObject *self, PyObject *const *given, Py_ssize_t count) \
     { \
@@ -101,7 +108,8 @@ static fots_parse_offset_result fots_offset_parse_leniently(
         fots_parse_##kind##_result result = pivot == NO_LENIENCY ? \
             fots_##part##_parse_format(text.start, text.length, &format) : \
             fots_##part##_parse_leniently(text.start, text.length, &format, pivot); \
-        return is_parsed(state, result.status, result.position, &text) ? value : NULL; \
+        size_t position = release(&text, result.status, result.position); \
+        return result.status ? raise_strptime(state, result.status, position, self, given) : value; \
     }
 STRPTIME(date_strptime, date, date, new_date(state, result.date))
 STRPTIME(time_strptime, time, time, new_time(state, result.time))

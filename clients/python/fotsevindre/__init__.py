@@ -19,7 +19,7 @@ Values are immutable. They compare and hash by their number, date-times at an of
 
 import datetime as _datetime
 
-from . import _core, choices as _choices
+from . import _core, choices as _choices, errors as _errors
 from .enums import Month, Weekday, YearFraction
 from .errors import ComponentRange, ContradictionError, EventError, FormatError, ParseError, ParseRuleError
 from .errors import ParseRuleErrorKind, ZoneError, status_error
@@ -28,7 +28,8 @@ _core.setup(_datetime.date, _datetime.time, _datetime.datetime, _datetime.timede
     _datetime.tzinfo, _datetime.timezone,
     _core.has_layouts(_datetime.date(2024, 2, 29), _datetime.time(1, 2, 3, 4),
         _datetime.datetime(2024, 2, 29, 1, 2, 3, 4), _datetime.timedelta(-1, 2, 3)), Weekday, _choices.CalendarUnit,
-    _choices.RoundingMode, _choices.Convention, _choices.DayCount, YearFraction, status_error, ComponentRange, *Month, *Weekday)
+    _choices.RoundingMode, _choices.Convention, _choices.DayCount, YearFraction,
+    status_error, _errors.format_error, _errors.insufficient_format, ComponentRange, ParseError, _errors.COMPONENTS, *Month, *Weekday)
 
 from . import calls as _calls, members as _members
 from ._core import IsoCalendarDate

@@ -4,6 +4,7 @@ import datetime
 import enum
 from typing import Any
 
+from . import explanations
 from ._core import Date, OffsetDateTime, PlainDateTime
 from .messages import MESSAGES, NAMES, PARTS
 
@@ -15,7 +16,43 @@ _MESSAGES = {**MESSAGES, 6: "invalid weekday; expected 0 (Monday) to 6 (Sunday)"
 # rest of an error.
 
 
-class ComponentRange(ValueError):
+class _Explained(ValueError):
+    """An error with two attributes that makes its sentence when it is printed: most errors aren't.
+
+    What C raises has three kinds of arguments after them: what has the method that failed, the
+    number of the call, and its arguments."""
+
+    @property
+    def args(self) -> tuple[Any, ...]:  # type: ignore[override]
+        """The attributes."""
+        return self._all()[:2]
+
+    def _all(self) -> tuple[Any, ...]:
+        return BaseException.args.__get__(self)  # type: ignore[attr-defined, no-any-return]
+
+    def __repr__(self) -> str:
+        return f"{type(self).__name__}{self.args!r}"
+
+    def __str__(self) -> str:
+        try:
+            # A pickle has the sentence.
+            return vars(self).get("_words") or self._sentence(*self._all()[2:]) or self._short()
+        except (AttributeError, LookupError, OverflowError, TypeError, ValueError):
+            return self._short()
+
+    def __reduce__(self) -> tuple[Any, ...]:
+        return type(self), self.args, {**vars(self), "_words": str(self)}
+
+    def _short(self) -> str:
+        """Returns the sentence without a call."""
+        raise NotImplementedError
+
+    def _sentence(self, owner: Any, call: int, *given: Any) -> str | None:
+        """Returns the sentence for a call, if there is one."""
+        raise NotImplementedError
+
+
+class ComponentRange(_Explained):
     """A component is out of range. `name` is its name, and `is_conditional` says whether its range
     depends on other components.
 
@@ -34,11 +71,14 @@ class ComponentRange(ValueError):
         """True if the range depends on other components."""
         return self.args[1]  # type: ignore[no-any-return]
 
-    def __str__(self) -> str:
+    def _short(self) -> str:
         return f"{self.name} was not in range"
 
+    def _sentence(self, owner: Any, call: int, *given: Any) -> str | None:
+        return explanations.of_component(self.name, owner, *explanations.arguments(call, given))
 
-class ParseError(ValueError):
+
+class ParseError(_Explained):
     """A string has none of the forms that a method parses. `position` is the first wrong
     character, from 0.
 
@@ -58,8 +98,11 @@ class ParseError(ValueError):
         """True if the string ends too early."""
         return self.args[1]  # type: ignore[no-any-return]
 
-    def __str__(self) -> str:
+    def _short(self) -> str:
         return f"unexpected {'end' if self.is_end else 'byte'} at {self.position}"
+
+    def _sentence(self, owner: Any, call: int, *given: Any) -> str | None:
+        return explanations.of_position(self.position, owner, *explanations.arguments(call, given))
 
 
 class ContradictionError(ValueError):
@@ -88,10 +131,13 @@ class FormatError(ValueError):
         """The position at which no item begins, from 0."""
         return self.args[0]  # type: ignore[no-any-return]
 
+    # The item, if it is known.
+    _item: str | None = None
+
     def __str__(self) -> str:
         if self.position is None:
             return "too many items in a format; expected at most 64"
-        return f"unknown item in a format at {self.position}"
+        return f"unknown item {self._item + ' ' if self._item else ''}in a format at {self.position}"
 
 
 class ParseRuleErrorKind(enum.Enum):
@@ -182,9 +228,10 @@ class ZoneError(ValueError):
 # The lines of an event, in the order of C. Their numbers come after those of the parts of a recurrence.
 _LINES = (None, "DTSTART", "RRULE", "RDATE", "EXDATE")
 
-# The names of components, and whether their range is conditional.
-_COMPONENTS = {status: (NAMES[status], 64 <= status < 68) for status in (*range(16, 30), *range(64, 68), *range(75, 81))
-    if status in NAMES}
+# By status: the name of a component, and whether its range is conditional. The statuses of components
+# are from 16 to 29, from 64 to 67, whose ranges are, and from 75 to 80.
+COMPONENTS = tuple((NAMES[status], 64 <= status < 68) if status in (*range(16, 30), *range(64, 68), *range(75, 81)) else None
+    for status in range(81))
 
 
 def check(value: Any, kind: type) -> Any:
@@ -209,8 +256,9 @@ def status_error(status: int, position: int | None = None, part: int = 0) -> Exc
     >>> status_error(0), status_error(64)
     (None, ComponentRange('day', True))
     """
-    if status in _COMPONENTS:
-        return ComponentRange(*_COMPONENTS[status])
+    component = COMPONENTS[status] if 0 <= status < len(COMPONENTS) else None
+    if component:
+        return ComponentRange(*component)
     if status == 0:
         return None
     if position is not None:
@@ -230,3 +278,16 @@ def status_error(status: int, position: int | None = None, part: int = 0) -> Exc
             return ZoneError(position, NAMES[status])
     message = _MESSAGES.get(status, f"unknown status {status}")
     return OverflowError(message) if status in (1, 7) else ValueError(message)
+
+
+def format_error(status: int, position: int, format: str, is_description: bool) -> Exception | None:
+    """Returns the error of a string that isn't a format."""
+    error = status_error(status, position)
+    if status == 38 and isinstance(error, FormatError) and not is_description:
+        error._item = explanations.item_at(format[position:])
+    return error
+
+
+def insufficient_format(format: Any) -> ValueError:
+    """Returns the error of a format that doesn't determine a value."""
+    return ValueError(explanations.remedy(getattr(format, "_text", format)) or _MESSAGES[41])

@@ -162,7 +162,7 @@ def strings_to_dates(strings: Any, format: Format | str | None = None, *, iso: b
     >>> strings_to_dates(["2024-02-29", None])
     [Date(2024, 2, 29), None]
     >>> strings_to_dates(["29.02.2023"], "%d.%m.%Y", errors="column")
-    ([None], ['day was not in range'])
+    ([None], ['day 29 is out of range 1 to 28 (February 2023)'])
     >>> strings_to_dates(["20240229", "2024-W09"], iso=True)
     [Date(2024, 2, 29), Date(2024, 2, 26)]
     """

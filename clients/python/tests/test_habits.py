@@ -14,11 +14,14 @@ import sys
 import unittest
 
 import fotsevindre
+from fotsevindre import errors
 from fotsevindre import (
     CalendarUnit, ComponentRange, Convention, Date, DayCount, Format, Frequency, LocalKind, Month, OffsetDateTime, ParseError, Period, PlainDateTime, Policy, Recurrence, Rule, SignedDuration, Time, UtcOffset, Weekday, Workdays, Zone, ZonedDateTime, _core,
 )
 
 LEAP_DAY = Date(2024, 2, 29)
+# What setup takes between the enums and their members.
+ERRORS = (fotsevindre.YearFraction, fotsevindre.status_error, errors.format_error, errors.insufficient_format, ComponentRange, fotsevindre.ParseError, errors.COMPONENTS)
 
 
 class SilentlyWrong(unittest.TestCase):
@@ -91,7 +94,7 @@ class SilentlyWrong(unittest.TestCase):
         for place, other in itertools.product(range(4), wrong):
             self.assertFalse(_core.has_layouts(*usual[:place], other, *usual[place + 1:]))
         types = (datetime.date, datetime.time, datetime.datetime, datetime.timedelta, datetime.tzinfo, datetime.timezone)
-        setup = (Weekday, CalendarUnit, fotsevindre.RoundingMode, Convention, DayCount, fotsevindre.YearFraction, fotsevindre.status_error, ComponentRange, *Month, *Weekday)
+        setup = (Weekday, CalendarUnit, fotsevindre.RoundingMode, Convention, DayCount, *ERRORS, *Month, *Weekday)
         try:
             _core.setup(*types, False, *setup)
             self.assertEqual((LEAP_DAY + datetime.timedelta(1), PlainDateTime.MIN + datetime.timedelta(0, 1, 2)), (Date(2024, 3, 1), PlainDateTime.MIN + Other(0, 1, 2)))
@@ -529,7 +532,7 @@ class LikeDatetime(unittest.TestCase):
             self.assertEqual((Date.from_date(OtherDate(*other.timetuple()[:3])).to_date(), Time.from_time(OtherTime(*other.timetuple()[3:6])).isoformat()),
                 (other.date(), other.time().replace(microsecond=0).isoformat()))
         types = (datetime.date, datetime.time, datetime.datetime, datetime.timedelta, datetime.tzinfo, datetime.timezone)
-        setup = (Weekday, CalendarUnit, fotsevindre.RoundingMode, Convention, DayCount, fotsevindre.YearFraction, fotsevindre.status_error, ComponentRange, *Month, *Weekday)
+        setup = (Weekday, CalendarUnit, fotsevindre.RoundingMode, Convention, DayCount, *ERRORS, *Month, *Weekday)
         try:
             _core.setup(*types, False, *setup)
             self.test_methods()

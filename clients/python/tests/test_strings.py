@@ -27,11 +27,11 @@ class Lists(unittest.TestCase):
 
     def test_errors(self):
         rows = ["2024-02-29", None, "2023-02-29", "2024-02-3", "", "2024–02–29", float("nan")]
-        with self.assertRaisesRegex(ValueError, r"^row 2: '2023-02-29': day was not in range$"):
+        with self.assertRaisesRegex(ValueError, r"^row 2: '2023-02-29': day 29 is out of range 1 to 28 \(February 2023\)$"):
             strings_to_dates(rows)
         self.assertEqual(strings_to_dates(rows, errors="missing"), [Date(2024, 2, 29)] + [None] * 6)
         dates, errors = strings_to_dates(rows, errors="column")
-        self.assertEqual((dates[0], errors[:3], errors[6]), (Date(2024, 2, 29), [None, None, "day was not in range"], None))
+        self.assertEqual((dates[0], errors[:3], errors[6]), (Date(2024, 2, 29), [None, None, "day 29 is out of range 1 to 28 (February 2023)"], None))
         self.assertTrue(all(errors[3:6]))
         for wrong in ([1], [b"2024-02-29"], "2024-02-29", b"2024-02-29", 5):
             self.assertRaises(TypeError, strings_to_dates, wrong)
@@ -43,20 +43,20 @@ class Lists(unittest.TestCase):
         found = strings_to_instants(rows)
         self.assertEqual((found[0], found[1]), (OffsetDateTime.parse(rows[0]), None))
         self.assertEqual(instants_to_strings(found), rows)
-        with self.assertRaisesRegex(ValueError, "^row 0: '2024-02-29T23:59:60Z': second was not in range$"):
+        with self.assertRaisesRegex(ValueError, "^row 0: '2024-02-29T23:59:60Z': second 60 is out of range 0 to 59$"):
             strings_to_instants(["2024-02-29T23:59:60Z"])
 
     def test_all_formats_of_iso_8601(self):
         days = ["20240229", "2024060", "2024-W09", None, "2024-0229"]
         self.assertEqual(strings_to_dates(days, iso=True, errors="column"),
-            ([Date(2024, 2, 29), Date(2024, 2, 29), Date(2024, 2, 26), None, None], [None] * 4 + ["unexpected byte at 8"]))
-        self.assertRaisesRegex(ValueError, "^row 0: '20240229': unexpected byte at 4$", strings_to_dates, days)
+            ([Date(2024, 2, 29), Date(2024, 2, 29), Date(2024, 2, 26), None, None], [None] * 4 + ['expected the end at position 8, found "9"']))
+        self.assertRaisesRegex(ValueError, "^row 0: '20240229': expected \"-\" at position 4, found \"0\"$", strings_to_dates, days)
         rows = ["20240229T2259", "2024060t225959,5Z", float("nan"), "2024-W09-4 22+0130"]
         found, errors = strings_to_instants(rows, iso=True, errors="column")
         self.assertEqual(found, [None, OffsetDateTime.parse("2024-02-29T22:59:59.5Z"), None, OffsetDateTime.parse("2024-02-29T22:00+01:30")])
-        self.assertEqual((found[3].offset, errors), (UtcOffset(1, 30), ["unexpected end at 13", None, None, None]))
+        self.assertEqual((found[3].offset, errors), (UtcOffset(1, 30), ['expected a digit, "-", "+", " " or "Z" at position 13, found the end', None, None, None]))
         self.assertEqual(strings_to_instants(rows, iso=True, errors="missing"), found)
-        self.assertRaisesRegex(ValueError, "^row 0: '20240229T2259': unexpected end at 13$", strings_to_instants, rows, iso=True)
+        self.assertRaisesRegex(ValueError, "^row 0: '20240229T2259': expected .* at position 13, found the end$", strings_to_instants, rows, iso=True)
         self.assertRaisesRegex(ValueError, "not both", strings_to_dates, days, "%F", iso=True)
 
     def test_lenient_formats(self):
@@ -118,7 +118,7 @@ class Columns(unittest.TestCase):
             dates, errors = strings_to_dates(rows, errors="column")
             wanted = pandas.Series(pandas.to_datetime(["2024-02-29", None, None]), index=["a", "b", "c"], name="due")
             pandas.testing.assert_series_equal(dates, wanted)
-            self.assertEqual(errors.to_dict(), {"a": None, "b": None, "c": "day was not in range"})
+            self.assertEqual(errors.to_dict(), {"a": None, "b": None, "c": "day 29 is out of range 1 to 28 (February 2023)"})
         index = strings_to_dates(pandas.Index(["2024-02-29", "2024-03-01"]))
         self.assertTrue(index.equals(pandas.DatetimeIndex(["2024-02-29", "2024-03-01"])))
         self.assertEqual(list(dates_to_strings(index, "%d.%m.%Y")), ["29.02.2024", "01.03.2024"])

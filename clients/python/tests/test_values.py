@@ -55,7 +55,8 @@ class Cases(unittest.TestCase):
         with self.assertRaises(ComponentRange, msg=arguments) as caught:
             call(*arguments)
         self.assertEqual((caught.exception.name, caught.exception.is_conditional), (name, is_conditional), arguments)
-        self.assertEqual(str(caught.exception), f"{name} was not in range")
+        label = re.escape(name.replace("_", " "))
+        self.assertRegex(str(caught.exception), f"^{name} was not in range$|^{label} -?[0-9]+ is out of range -?[0-9]+ to [0-9]+( [(]([A-Z][a-z]+ )?-?[0-9]+[)])?$")
 
     def past(self, call, *arguments):
         with self.assertRaises(OverflowError, msg=arguments):
@@ -387,8 +388,8 @@ class Texts(Cases):
         with self.assertRaises(ParseError, msg=text) as caught:
             call(text)
         is_end = position == len(text)
-        found = (caught.exception.position, caught.exception.is_end, str(caught.exception))
-        self.assertEqual(found, (position, is_end, f"unexpected {'end' if is_end else 'byte'} at {position}"), text)
+        self.assertEqual((caught.exception.position, caught.exception.is_end), (position, is_end), text)
+        self.assertRegex(str(caught.exception), f" at position {position}, found {'the end' if is_end else '.'}")
         self.assertIsInstance(caught.exception, ValueError)
 
     def test_days(self):
@@ -822,7 +823,7 @@ class Columns(Cases):
             try:
                 answer = call()
             except (ValueError, OverflowError) as raised:
-                self.assertEqual((type(error), str(error)), (type(raised), str(raised)))
+                self.assertEqual(repr(error), repr(raised))
                 self.assertEqual(row, tuple(-2**31 if column.typecode == "i" else 255 if column is weekdays else 0 for column in parts))
             else:
                 self.assertIsNone(error)
@@ -911,7 +912,7 @@ class Columns(Cases):
         self.assertEqual(Time.parse_iso("T232050,5"), Time.parse("23:20:50.5"))
         self.assertEqual(str(PlainDateTime.parse_iso("19850412T1015")), "1985-04-12T10:15:00")
         self.assertEqual(str(OffsetDateTime.parse_iso("2024-02-29 22:59:59.25+00")), "2024-02-29T22:59:59.250000+00:00")
-        with self.assertRaisesRegex(fotsevindre.ParseError, "unexpected byte at 6"):
+        with self.assertRaisesRegex(fotsevindre.ParseError, '^expected a digit at position 6, found "-"$'):
             Date.parse_iso("198504-12")
 
     def test_texts_printed(self):
