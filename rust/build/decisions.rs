@@ -99,6 +99,7 @@ const HIDDEN: &[(&str, &[&str])] = &[
     ("ParseError", &["unexpected"]),
     ("Scanner", &["byte_from"]),
     ("Fields", &["are_within"]),
+    ("Format", &["moment_of_numbers"]),
     ("Layout", &["kind"]),
     ("Table", &["new", "time", "kind", "change"]),
     ("Instants", &["select"]),

@@ -39,6 +39,7 @@ mod lenient_formats;
 mod lenient_parsing;
 mod letters;
 mod moment;
+mod numbers;
 mod offset_parts;
 mod one_pass;
 mod parsing;
