@@ -21,7 +21,13 @@ SELECT count(*) FROM cal_times_zoned('FREQ=DAILY;BYHOUR=1,2,3,4,5,6;COUNT=400000
 INSERT INTO clock VALUES (clock_timestamp());
 SELECT count(*) FROM cal_times_zoned(:'all_times', '0001-01-01', 'Europe/Berlin', tstzrange(NULL, '290000-01-01'));
 INSERT INTO clock VALUES (clock_timestamp());
-SELECT count(*) FROM cal_times_zoned('FREQ=SECONDLY;COUNT=4000000000', '0001-01-01', 'Europe/Berlin', tstzrange('9000-01-01', NULL));
+SELECT count(*) FROM cal_times_local('FREQ=SECONDLY;COUNT=4294967295', '0001-01-01', tsrange('9000-01-01', NULL));
+INSERT INTO clock VALUES (clock_timestamp());
+SELECT count(*) FROM cal_times_local('FREQ=SECONDLY;COUNT=4294967295', '0001-01-01');
+INSERT INTO clock VALUES (clock_timestamp());
+SELECT count(*) FROM cal_times_zoned('FREQ=SECONDLY;COUNT=4294967295', '0001-01-01', 'Europe/Berlin');
+INSERT INTO clock VALUES (clock_timestamp());
+SELECT count(*) FROM cal_times_zoned('FREQ=SECONDLY;COUNT=4294967295', '0001-01-01', 'Europe/Berlin', tstzrange('9000-01-01', NULL));
 INSERT INTO clock VALUES (clock_timestamp());
 SELECT count(*) FROM cal_times_zoned(:'all_times' || ';COUNT=4000000', '0001-01-01', 'Europe/Berlin', tstzrange('290000-01-01', NULL));
 INSERT INTO clock VALUES (clock_timestamp());
