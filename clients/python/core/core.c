@@ -14,11 +14,16 @@
 
 #include "fotsevindre.h"
 
-/* A date, and its year, month and day in one number, or 0 if no one has asked for them. */
+/* A date or a date-time, and its year, month and day in one number, or 0 if no one has asked for
+ * them. */
 typedef struct DateParts {
     fots_date date;
     uint32_t parts;
 } DateParts;
+typedef struct MomentParts {
+    fots_moment moment;
+    uint32_t parts;
+} MomentParts;
 
 /* A value of each type except Workdays. A date-time is a moment, of which the date is the first
  * field, so DATE is right for it, too. A PlainDateTime has the offset 0. */
@@ -26,12 +31,13 @@ typedef struct Value {
     PyObject_HEAD
     union {
         fots_date date;
-        DateParts with_parts;
+        DateParts date_parts;
         fots_time time;
         fots_offset offset;
         fots_duration duration;
         fots_period period;
         fots_moment moment;
+        MomentParts moment_parts;
     };
 } Value;
 
@@ -320,7 +326,16 @@ static PyObject *new_date(const State *state, fots_date date)
 {
     Value *object = PyObject_New(Value, state->date);
     if (object) {
-        object->with_parts = (DateParts){date, 0};
+        object->date_parts = (DateParts){date, 0};
+    }
+    return (PyObject *)object;
+}
+
+static PyObject *new_moment(PyTypeObject *type, fots_moment moment)
+{
+    Value *object = PyObject_New(Value, type);
+    if (object) {
+        object->moment_parts = (MomentParts){moment, 0};
     }
     return (PyObject *)object;
 }
@@ -329,7 +344,6 @@ NEW(time, const State *state, state->time)
 NEW(offset, const State *state, state->offset)
 NEW(duration, const State *state, state->duration)
 NEW(period, const State *state, state->period)
-NEW(moment, PyTypeObject *type, type)
 
 /* Returns the year, the Month and the day, quicker than Py_BuildValue. */
 static PyObject *tuple_of(const State *state, fots_calendar_date_result date)

@@ -13,10 +13,9 @@ enum { PART_OF_DAYS = 4, PART_OF_SECONDS, PART_OF_MICROSECONDS, PART_OF_NANOSECO
 
 static int32_t date_to_julian_day(fots_date date) { return date.julian_day; }
 
-/* Returns the day, 5 bits, the month, 4 bits, and the year from -1000000 on. A date keeps them. */
-static uint32_t parts_of_date(PyObject *self)
+/* Returns the day, 5 bits, the month, 4 bits, and the year from -1000000 on. A value keeps them. */
+static uint32_t parts_of(PyObject *self, uint32_t *parts)
 {
-    uint32_t *parts = &VALUE(self)->with_parts.parts;
     if (!*parts) {
         fots_calendar_date_result date = fots_date_to_calendar_date(DATE(self));
         *parts = (uint32_t)(date.year + 1000000) << 9 | date.month << 5 | date.day;
@@ -24,20 +23,22 @@ static uint32_t parts_of_date(PyObject *self)
     return *parts;
 }
 
-static PyObject *date_year(PyObject *self, void *Py_UNUSED(none))
-{
-    return PyLong_FromLong((long)(parts_of_date(self) >> 9) - 1000000);
-}
-
-static PyObject *date_month(PyObject *self, void *Py_UNUSED(none))
-{
-    return new_reference(state_of(self)->months[(parts_of_date(self) >> 5 & 15) - 1]);
-}
-
-static PyObject *date_day(PyObject *self, void *Py_UNUSED(none))
-{
-    return PyLong_FromLong(parts_of_date(self) & 31);
-}
+/* A component of the date of a value, of which `parts` are the field. */
+#define DATE_PART(name, field, made) \
+    static PyObject *name(PyObject *self, void *Py_UNUSED(none)) \
+    { \
+        uint32_t parts = parts_of(self, &VALUE(self)->field.parts); \
+        return made; \
+    }
+#define YEAR PyLong_FromLong((long)(parts >> 9) - 1000000)
+#define MONTH new_reference(state_of(self)->months[(parts >> 5 & 15) - 1])
+#define DAY PyLong_FromLong(parts & 31)
+DATE_PART(date_year, date_parts, YEAR)
+DATE_PART(date_month, date_parts, MONTH)
+DATE_PART(date_day, date_parts, DAY)
+DATE_PART(moment_year, moment_parts, YEAR)
+DATE_PART(moment_month, moment_parts, MONTH)
+DATE_PART(moment_day, moment_parts, DAY)
 
 /* A component of a time of day, which is its nanoseconds since midnight. A call of the library takes
  * a tenth longer than datetime does. */

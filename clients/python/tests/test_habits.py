@@ -206,8 +206,24 @@ class Construction(unittest.TestCase):
         self.assertTrue(before <= found.to_date() <= after)
 
     def test_sizes(self):
-        sizes = [sys.getsizeof(value) for value in (LEAP_DAY, Time(), UtcOffset(), SignedDuration(), PlainDateTime.MIN, OffsetDateTime.UNIX_EPOCH)]
+        sizes = [sys.getsizeof(value) for value in (LEAP_DAY, Time(), UtcOffset(), SignedDuration())]
         self.assertLessEqual(max(sizes), 32)
+        # A date-time keeps its year, month and day, and is still no larger than one of datetime.
+        sizes = [sys.getsizeof(value) for value in (PlainDateTime.MIN, OffsetDateTime.UNIX_EPOCH)]
+        self.assertLessEqual(max(sizes), min(40, sys.getsizeof(datetime.datetime.min)))
+
+    def test_components_that_a_value_keeps(self):
+        draw = random.Random(5)
+        for _ in range(2000):
+            other = datetime.datetime(1, 1, 1) + datetime.timedelta(draw.randrange(3652059), draw.randrange(86400))
+            plain = PlainDateTime.from_datetime(other)
+            for value in (plain, plain.assume_offset(UtcOffset(draw.randrange(-25, 26))), plain.date()):
+                for _ in range(2):
+                    self.assertEqual((value.month, value.day, value.year), (other.month, other.day, other.year))
+                later = value.replace(day=1)
+                self.assertEqual((later.year, later.month, later.day, value.day), (other.year, other.month, 1, other.day))
+        for value in (PlainDateTime.MIN, PlainDateTime.MAX):
+            self.assertEqual((value.year, value.month, value.day), value.date().to_calendar_date())
 
     def test_months_out_of_range(self):
         for call in (Date.MAX.add_months, Date.MAX.add_years):
