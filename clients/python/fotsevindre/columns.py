@@ -20,7 +20,7 @@ SECONDS = {"s": 1, "ms": 10**3, "us": 10**6, "ns": 10**9}
 _FACTORS = {(name, unit): count * seconds for name, count in SECONDS.items()
     for unit, seconds in (("D", 86400), ("s", 1))}
 # The types of dates to which C adds days in one pass, and how many of their unit are in a day.
-_QUICK = {"<M8[D]": 1, "<M8[ns]": 86_400 * 10**9} if sys.byteorder == "little" else {}
+_QUICK: dict[str | None, int] = {"<M8[D]": 1, "<M8[ns]": 86_400 * 10**9} if sys.byteorder == "little" else {}
 
 
 def _whole(values: Any, unit: str) -> Any:
@@ -162,23 +162,30 @@ class _Like:
         return sys.modules["pandas"].Index(found)
 
 
+def _is_in_one_piece(array: Any) -> bool:
+    """Returns whether an array of numpy is one row of aligned numbers."""
+    flags = array.flags
+    return array.ndim == 1 and flags.c_contiguous and flags.aligned
+
+
 def _days_later(dates: Any, days: Any) -> Any:
     """Returns the days of `datetime64[D]` or of whole days in `datetime64[ns]` some days later, if all
     of both are dates, so that no sum wrapped around, and else `None`."""
     numpy: Any = sys.modules.get("numpy")
-    if numpy is None or getattr(getattr(dates, "dtype", None), "str", None) not in _QUICK:
+    in_a_day = _QUICK.get(getattr(getattr(dates, "dtype", None), "str", None)) if numpy else None
+    if in_a_day is None:
         return None
     times = dates if type(dates) is numpy.ndarray else dates.to_numpy() if hasattr(dates, "to_numpy") else None
-    days = days.to_numpy() if hasattr(days, "to_numpy") else days
-    if type(days) is numpy.ndarray and days.dtype == "timedelta64[D]":
-        days = days.view("int64")
-    columns = [times] if type(days) is int else [times, days]
-    if any(type(one) is not numpy.ndarray or one.ndim != 1 or not (one.flags.c_contiguous and one.flags.aligned) for one in columns):
+    if type(times) is not numpy.ndarray or not _is_in_one_piece(times):
         return None
-    if type(days) is not int and days.dtype != "int64":
-        return None
+    if type(days) is not int:
+        days = days.to_numpy() if hasattr(days, "to_numpy") else days
+        if type(days) is numpy.ndarray and days.dtype == "timedelta64[D]":
+            days = days.view("int64")
+        if type(days) is not numpy.ndarray or days.dtype != "int64" or not _is_in_one_piece(days):
+            return None
     made = numpy.empty(len(times), times.dtype)
-    is_made = _core.days_later(times.view("int64"), _QUICK[times.dtype.str], days, made.view("int64"))
+    is_made = _core.days_later(times.view("int64"), in_a_day, days, made.view("int64"))
     return made if is_made else None
 
 
