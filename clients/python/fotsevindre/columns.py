@@ -165,7 +165,7 @@ class _Like:
 def _is_in_one_piece(array: Any) -> bool:
     """Returns whether an array of numpy is one row of aligned numbers."""
     flags = array.flags
-    return array.ndim == 1 and flags.c_contiguous and flags.aligned
+    return bool(array.ndim == 1 and flags.c_contiguous and flags.aligned)
 
 
 def _days_later(dates: Any, days: Any) -> Any:
