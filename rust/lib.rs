@@ -196,6 +196,7 @@ pub mod iter {
 /// ```
 pub mod names {
     pub use crate::cal_names::{Names, languages, table};
+    pub use crate::languages::NamedDateFormat;
 }
 
 /// Recurrences of RFC 5545: rules of days and of times of day, sets, and their strings.

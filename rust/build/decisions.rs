@@ -114,6 +114,7 @@ const HIDDEN: &[(&str, &[&str])] = &[
     ("", &["scan_positive_number", "push_interval", "push_end", "push_list", "push_week_start"]),
     ("", &["date_from_numbers", "time_from_numbers", "plain_from_numbers", "moment_from_numbers"]),
     ("", &["push_fraction", "scan_more_decimals"]),
+    ("", &["print", "scan", "parse_date"]),
     ("", &["has_room", "values_of", "put", "split", "insert_date"]),
 ];
 

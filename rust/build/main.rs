@@ -19,7 +19,7 @@ use strip::{Edits, Fault, Options, Source};
 use zones::Zones;
 
 /// The libraries, as modules of the crate.
-const CRATES: [&str; 21] = [
+const CRATES: [&str; 22] = [
     "cal_units",
     "cal_span",
     "cal_clock",
@@ -31,6 +31,7 @@ const CRATES: [&str; 21] = [
     "cal_duration",
     "cal_format",
     "cal_names",
+    "cal_named_format",
     "cal_zone",
     "cal_zoned",
     "cal_interval",

@@ -22,6 +22,7 @@ fn main() -> ExitCode {
             "cal_duration",
             "cal_format",
             "cal_names",
+            "cal_named_format",
             "cal_zone",
             "cal_zoned",
             "cal_interval",

@@ -1,7 +1,8 @@
 //! Names of languages. The expected values are from glibc's locales.
 
+use fotsevindre::format::Format;
 use fotsevindre::names::{Names, table};
-use fotsevindre::{Month, Weekday};
+use fotsevindre::{Date, Month, Weekday};
 
 const CODES: [&str; 12] = ["ar", "de", "en", "es", "fr", "it", "ja", "pl", "pt", "ru", "tr", "zh"];
 
@@ -74,4 +75,60 @@ fn only_turkish_names_begin_others() {
         })
         .collect();
     assert_eq!(begun, ["tr"]);
+}
+
+/// The formats in which each name is printed and parsed.
+const FORMATS: [&str; 20] = [
+    "%A, %-d %B %Y",
+    "%-d %B %Y",
+    "%d. %b %Y",
+    "%a %d %b %Y",
+    "%Y %B %d",
+    "%B%d%Y",
+    "%Y年%B%-d日",
+    "%Y-%b-%d",
+    "%d/%b/%Y",
+    "%b %-d, %Y",
+    "%d%B%Y",
+    "%A%F",
+    "%a%F",
+    "%F%A",
+    "%F %A",
+    "%A",
+    "%-d%B %Y",
+    "%Y%m%d%a",
+    "%G-W%V-%u %a",
+    "%B.%-d.%Y",
+];
+
+#[test]
+fn each_name_reads_back_in_formats() {
+    for code in CODES {
+        let names = Names::of_language(code).unwrap();
+        let mut refused = Vec::new();
+        for format in FORMATS {
+            let Some(dates) = Format::new(format).unwrap().for_dates() else {
+                continue;
+            };
+            let Some(named) = dates.with_names(&names) else {
+                refused.push(format);
+                continue;
+            };
+            let mut date = Date::from_ordinal_date(2024, 1).unwrap();
+            for _ in 0..366 {
+                let mut buffer = [0; 200];
+                let length = named.print(date, &mut buffer).unwrap();
+                assert_eq!(named.parse(&buffer[..length]), Ok(date), "{code} {format}");
+                assert!(named.parse(&buffer[..length - 1]).ok() != Some(date), "{code} {format}");
+                date = date.next_day().unwrap();
+            }
+        }
+        // A month that begins with a digit, and a Turkish weekday that begins another one.
+        let expected: &[&str] = match code {
+            "ja" => &["%-d%B %Y"],
+            "tr" => &["%A%F"],
+            _ => &[],
+        };
+        assert_eq!(refused, expected, "{code}");
+    }
 }

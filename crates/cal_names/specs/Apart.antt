@@ -1,5 +1,5 @@
 -- Names that a caller gives, at the front of a text.
-use Rattle.std.specs.Prelude.{◌≡◌, ℕ, ◌<◌, ◌≤◌, true, false, List, [], ◌∷◌, ◌++◌, length, Option, Some, slice_get, MatchOption, map, get_or}
+use Rattle.std.specs.Prelude.{◌+◌, ◌||◌, Bool, take, ◌≡◌, ℕ, ◌<◌, ◌≤◌, true, false, List, [], ◌∷◌, ◌++◌, length, Option, Some, slice_get, MatchOption, map, get_or}
 use Rattle.std.specs.Borrow.{Bor}
 use Rattle.cal_names.specs.Names.{begins_with}
 
@@ -59,3 +59,14 @@ NoneContinued names b = (i j : ℕ) (x y : List ℕ) → slice_get names i ≡ S
 -- None of the first `end` names is the name i, the byte b and more.
 abbrev pub NoneGoesOn : List (List ℕ) → ℕ → ℕ → ℕ → Type 0
 NoneGoesOn names i end b = (j : ℕ) (x y : List ℕ) → j < end → slice_get names i ≡ Some x → slice_get names j ≡ Some y → ¬ (IsContinued x b y)
+
+-- One of the names begins with these bytes.
+abbrev pub any_begins : List ℕ → List (List ℕ) → Bool
+any_begins front [] = false
+any_begins front (x ∷ names) = begins_with front x || any_begins front names
+
+-- A name begins with the first n bytes of the text, and with no further byte of it.
+pub record IsReach (names : List (List ℕ)) (text : List ℕ) (n : ℕ) : Type 0 where
+  pub within : n ≤ length text
+  pub begun : any_begins (take n text) names ≡ true
+  pub stuck : n < length text → any_begins (take (n + 1) text) names ≡ false

@@ -1,9 +1,13 @@
 //! Tables of names.
 //!
 //! Names are compared byte by byte: `Mai` begins `Mai 2024`, and `mai` doesn't.
-ghost use Rattle.std.specs.Prelude.{◌≡◌, ◌∷◌, [], IsFalse, ◌≤◌, ◌<◌, ◌+◌, ◌++◌, ◌↔◌, IsTrue, IfSome, map, slice_get, Some, take, drop, length, MatchOption, ℕ, List};
+ghost use Rattle.std.specs.Prelude.{◌≡◌, IfNone, true, ◌∷◌, [], IsFalse, ◌≤◌, ◌<◌, ◌+◌, ◌++◌, ◌↔◌, IsTrue, IfSome, map, slice_get, Some, take, drop, length, MatchOption, ℕ, List};
+ghost use Rattle.cal_text.specs.Shape.{Scans};
 ghost use Rattle.cal_names.specs.Names.{begins_with};
-ghost use Rattle.cal_names.specs.Apart.{AreApart, AreDistinct, Ends, IsApart, IsDistinct, IsContinued, IsFound, NoneContinued, NoneGoesOn, texts, text_at};
+ghost use Rattle.cal_names.specs.NameShape.{TableShape};
+ghost use Rattle.cal_names.specs.Apart.{AreApart, AreDistinct, Ends, IsApart, IsDistinct, IsContinued, IsFound, IsReach, NoneContinued, NoneGoesOn, any_begins, texts, text_at};
+
+use cal_text::Scanner;
 
 /// Returns `true` if a string begins with `front`.
 #[tactic(auto, unfolding(crate::specs::Names::begins_with))]
@@ -67,6 +71,73 @@ fn longer(names: &[&str], text: &[u8], found: Option<usize>, index: usize) -> Op
         return Some(index);
     }
     Some(other)
+}
+
+/// Parses the longest name at the front of a string, and returns its index, from 0. Returns `None`
+/// if no name begins the string, and leaves the rest at the first byte that no name has there. A
+/// name goes on as far as the bytes do: of the Turkish weekdays `Pazart 1` has none, and leaves
+/// ` 1`, though it begins with `Pazar`.
+pub fn scan(names: &[&str], scanner: &mut Scanner) -> Option<usize>
+    requires { 1 ≤ length names.now }
+    ensures scans { Scans (TableShape (texts names.now)) scanner.old.rest.now scanner.new.rest.now result }
+    ensures value { IfSome result (λ n.
+        scanner.old.rest.now ≡ text_at names.now n ++ scanner.new.rest.now) }
+    ensures range { IfSome result (λ n. n < length names.now) }
+{
+    let text = scanner.rest;
+    let end = reach(names, text);
+    scanner.rest = &text[end..];
+    index_of(names, &text[..end])
+}
+
+/// Returns the number of bytes at the front of a string with which a name begins. This is the
+/// position of the first byte that no name has there, or the length of the string. `Pazarlama` has
+/// the first five bytes in common with `Pazar`, and `Pazartes 1` has eight with `Pazartesi`.
+fn reach(names: &[&str], text: &[u8]) -> usize
+    requires { 1 ≤ length names.now }
+    ensures { IsReach (texts names.now) text.now result }
+{
+    reach_from(names, text, 0)
+}
+
+/// Returns the same for a string whose first `end` bytes begin a name.
+fn reach_from(names: &[&str], text: &[u8], end: usize) -> usize
+    requires within { end ≤ length text.now }
+    requires begun { any_begins (take end text.now) (texts names.now) ≡ true }
+    ensures { IsReach (texts names.now) text.now result }
+{
+    if end == text.len() {
+        return end;
+    }
+    if !any_begins(names, &text[..end + 1]) {
+        return end;
+    }
+    reach_from(names, text, end + 1)
+}
+
+/// Returns `true` if one of the names begins with `front`.
+fn any_begins(names: &[&str], front: &[u8]) -> bool
+    ensures { result ≡ any_begins front.now (texts names.now) }
+{
+    match names {
+        [] => false,
+        [name, others @ ..] => begins_with(name.as_bytes(), front) || any_begins(others, front),
+    }
+}
+
+/// Returns the index, from 0, of the first name that is the same as a string, or `None` if no name
+/// is. `Pazar` is the last of the Turkish weekdays.
+fn index_of(names: &[&str], text: &[u8]) -> Option<usize>
+    ensures none { IfNone result ((n : ℕ) → slice_get (texts names.now) n ≡ Some text.now → ⊥) }
+    ensures value { IfSome result (λ n. slice_get (texts names.now) n ≡ Some text.now) }
+    ensures range { IfSome result (λ n. n < length names.now) }
+{
+    for index in 0..names.len() {
+        if is_same(name_at(names, index).as_bytes(), text) {
+            return Some(index);
+        }
+    }
+    None
 }
 
 /// Returns `true` if no name begins another one, and no two names are the same. `Pazar` begins
