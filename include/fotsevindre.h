@@ -948,6 +948,12 @@ size_t fots_workdays_add_dates(const fots_workdays *workdays, const int32_t *dat
 size_t fots_workdays_between_dates(const fots_workdays *workdays, const int32_t *dates, size_t dates_length, const int32_t *others,
     size_t others_length, int32_t *numbers, size_t numbers_length, uint8_t *statuses, size_t length);
 
+/* The same for a view. */
+size_t fots_workdays_view_add_dates(const fots_workdays_view *workdays, const int32_t *dates, size_t dates_length, const int32_t *days,
+    size_t days_length, int32_t *moved, size_t moved_length, uint8_t *statuses, size_t length);
+size_t fots_workdays_view_between_dates(const fots_workdays_view *workdays, const int32_t *dates, size_t dates_length, const int32_t *others,
+    size_t others_length, int32_t *numbers, size_t numbers_length, uint8_t *statuses, size_t length);
+
 /* ---- recurrences */
 
 /* The unit of the interval of a rule. */

@@ -131,6 +131,32 @@ static void columns(size_t n)
         fots_date_result single = fots_date_add_months(date_at(dates[k]), numbers[k]), DATES_FOUND);
 }
 
+/* Compares columns over working days with single functions: of a struct, and of a view with more
+ * holidays, which is valid in the first turn only. */
+static void workdays_columns(size_t n)
+{
+    enum { MANY = 3 * FOTS_MAX_HOLIDAYS };
+    static fots_date holidays[MANY];
+    static uint32_t marked_before[MANY + 1];
+    for (int k = 0; k < MANY; k++) {
+        holidays[k] = date_at(2400000 + 30 * k);
+    }
+    const fots_workdays_result few = fots_workdays_new(FOTS_MONDAY_TO_FRIDAY, holidays, FOTS_MAX_HOLIDAYS);
+    COLUMN(fots_workdays_add_dates(&few.workdays, dates, n, numbers, n, found, n, statuses, n),
+        fots_date_result single = fots_workdays_add(&few.workdays, date_at(dates[k]), numbers[k]), DATES_FOUND);
+    COLUMN(fots_workdays_between_dates(&few.workdays, dates, n, others, n, found, n, statuses, n),
+        fots_number_result single = fots_workdays_between(&few.workdays, date_at(dates[k]), date_at(others[k])), found[k] == single.number);
+    fots_workdays_view_count(FOTS_MONDAY_TO_FRIDAY, holidays, MANY, marked_before, MANY + 1);
+    for (size_t turn = 0; turn < 3; turn++) {
+        const fots_workdays_view view = {turn == 1 ? 128 : FOTS_MONDAY_TO_FRIDAY, holidays, MANY, marked_before, turn == 2 ? MANY : MANY + 1};
+        COLUMN(fots_workdays_view_add_dates(&view, dates, n, numbers, n, found, n, statuses, n),
+            fots_date_result single = fots_workdays_view_add(&view, date_at(dates[k]), numbers[k]), DATES_FOUND);
+        check(turn == 0 || statuses[0] == (turn == 1 ? FOTS_INVALID_WEEKMASK : FOTS_INVALID_HOLIDAYS), "a wrong view", statuses[0], 0);
+        COLUMN(fots_workdays_view_between_dates(&view, dates, n, others, n, found, n, statuses, n),
+            fots_number_result single = fots_workdays_view_between(&view, date_at(dates[k]), date_at(others[k])), found[k] == single.number);
+    }
+}
+
 /* Checks that a function can write its numbers onto the column that it reads, `column`. */
 #define IN_PLACE(input, call) \
     do { \
@@ -148,7 +174,9 @@ static void columns_in_place(void)
 {
     const size_t n = ROWS;
     const fots_date holiday = date_at(2460370);
+    const uint32_t marked_before[] = {0, 1};
     const fots_workdays_result made = fots_workdays_new(FOTS_MONDAY_TO_FRIDAY, &holiday, 1);
+    const fots_workdays_view view = {FOTS_MONDAY_TO_FRIDAY, &holiday, 1, marked_before, 2};
     IN_PLACE(years, fots_dates_from_calendar_dates(column, n, months, n, month_days, n, found, n, statuses, n));
     IN_PLACE(years, fots_dates_from_ordinal_dates(column, n, ordinals, n, found, n, statuses, n));
     IN_PLACE(years, fots_dates_from_iso_week_dates(column, n, weeks, n, weekdays, n, found, n, statuses, n));
@@ -160,6 +188,8 @@ static void columns_in_place(void)
     IN_PLACE(dates, fots_dates_add_months(column, n, numbers, n, found, n, statuses, n));
     IN_PLACE(dates, fots_workdays_add_dates(&made.workdays, column, n, numbers, n, found, n, statuses, n));
     IN_PLACE(dates, fots_workdays_between_dates(&made.workdays, column, n, others, n, found, n, statuses, n));
+    IN_PLACE(dates, fots_workdays_view_add_dates(&view, column, n, numbers, n, found, n, statuses, n));
+    IN_PLACE(dates, fots_workdays_view_between_dates(&view, column, n, others, n, found, n, statuses, n));
 }
 
 /* Compares the conversion to ISO week dates at once with the one by dates. */
@@ -194,6 +224,9 @@ static void different_lengths(void)
     const fots_workdays_result made = fots_workdays_new(128, NULL, 0);
     check(fots_workdays_add_dates(&made.workdays, dates, 2, numbers, 2, found, 2, statuses, 1) == FOTS_LENGTH_MISMATCH, "a status too few", 0, 0);
     check(fots_workdays_between_dates(&made.workdays, dates, 1, others, 0, found, 1, statuses, 1) == FOTS_LENGTH_MISMATCH, "no other date", 0, 0);
+    const fots_workdays_view none = {128, NULL, 0, NULL, 0};
+    check(fots_workdays_view_add_dates(&none, dates, 1, numbers, 2, found, 1, statuses, 1) == FOTS_LENGTH_MISMATCH, "a number too many", 0, 0);
+    check(fots_workdays_view_between_dates(&none, dates, 1, others, 1, found, 0, statuses, 1) == FOTS_LENGTH_MISMATCH, "no number", 0, 0);
     check(fots_dates_from_julian_days(days, 0, found, 0, statuses, 0) == 0, "no rows", 0, 0);
     check(found[0] == 77 && statuses[0] == 77, "what stood there", found[0], statuses[0]);
 }
@@ -327,6 +360,7 @@ int main(void)
 {
     draw();
     columns(ROWS);
+    workdays_columns(ROWS);
     columns_in_place();
     columns(1);
     chained(ROWS);

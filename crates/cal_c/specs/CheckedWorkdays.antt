@@ -124,3 +124,10 @@ IsDateWorkdaysLater c date days r = IsForWeek c (λ s. r ≡ date_error s) (IsDa
 -- The result of `fots_workdays_between`.
 abbrev pub IsWorkdaysBetween : CheckedWorkdays → ℤ → ℤ → NumberResult → Type 0
 IsWorkdaysBetween c date other r = IsForWeek c (λ s. r ≡ number_error s) (IsNumberOrInvalid date other r) (IsNumberBetween date other r)
+
+-- The results of `fots_workdays_view_add` and `fots_workdays_view_between`.
+abbrev pub IsDateLaterInView : WorkdaysView → ℤ → ℤ → DateResult → Type 0
+IsDateLaterInView v date days r = IsForView v (λ s. r ≡ date_error s) (IsDateOrInvalid date r) (IsDateLater date days r)
+
+abbrev pub IsNumberBetweenInView : WorkdaysView → ℤ → ℤ → NumberResult → Type 0
+IsNumberBetweenInView v date other r = IsForView v (λ s. r ≡ number_error s) (IsNumberOrInvalid date other r) (IsNumberBetween date other r)

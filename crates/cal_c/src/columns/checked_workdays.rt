@@ -1,7 +1,7 @@
 //! Columns of dates plus working days, and of working days between dates.
 ghost use Rattle.std.specs.Prelude.{◌≡◌, IfErr, IfOk, length, pos, ◌∷◌, []};
 ghost use Rattle.cal_schedule.specs.Workdays.{nth_workday};
-ghost use Rattle.cal_c.specs.CheckedWorkdays.{week_of, AreCounted, IsDateWorkdaysLater, IsSomeDate, IsWorkdaysBetween};
+ghost use Rattle.cal_c.specs.CheckedWorkdays.{week_of, AreCounted, IsDateLaterInView, IsDateWorkdaysLater, IsNumberBetweenInView, IsSomeDate, IsWorkdaysBetween};
 ghost use Rattle.cal_c.specs.Columns.{int_at, nat_at, SameLength, AreRows, date_row, number_row, IsByte};
 ghost use Rattle.cal_c.specs.Results.{date_or_out_of_range, date_error, number_ok, number_error};
 ghost use Rattle.cal_c.specs.Values.{need◌else◌then◌, IsJulianDay, day_of};
@@ -12,6 +12,7 @@ use super::{LENGTH_MISMATCH, NO_VALUE, count_errors};
 use crate::day_number::{day_number, julian_day};
 use crate::schedule::workdays::checked_workdays::CheckedWorkdays;
 use crate::schedule::workdays::ranks::RankedWorkdays;
+use crate::schedule::workdays::workdays_view::WorkdaysView;
 use crate::status::{INVALID_DATE, OK, RESULT_OUT_OF_RANGE};
 
 /// Adds working days to dates, like `fots_workdays_add`.
@@ -47,6 +48,42 @@ pub extern "C" fn fots_workdays_between_dates(
         (int_at others.now k) (number_row (int_at numbers.new k) (nat_at statuses.new k))) }
 {
     let ranked = RankedWorkdays::new(workdays);
+    write_rows!(between_row(dates, others; &ranked) => numbers; statuses)
+}
+
+/// Adds working days of a view to dates, like `fots_workdays_view_add`.
+#[unsafe(no_mangle)]
+pub extern "C" fn fots_workdays_view_add_dates(
+    workdays: &WorkdaysView<'_>,
+    dates: &[i32],
+    days: &[i32],
+    moved: &mut [i32],
+    statuses: &mut [u8],
+) -> usize
+    ensures { need SameLength (length dates.now) (length days.now ∷ length moved.old ∷ length statuses.old ∷ [])
+        else (result ≡ usize.MAX) × (moved.new ≡ moved.old) × (statuses.new ≡ statuses.old) then
+        AreRows statuses.new result (λ k. IsDateLaterInView workdays.now (int_at dates.now k)
+        (int_at days.now k) (date_row (int_at moved.new k) (nat_at statuses.new k))) }
+{
+    let ranked = RankedWorkdays::from_view(workdays);
+    write_rows!(add_row(dates, days; &ranked) => moved; statuses)
+}
+
+/// Counts the working days of a view between dates, like `fots_workdays_view_between`.
+#[unsafe(no_mangle)]
+pub extern "C" fn fots_workdays_view_between_dates(
+    workdays: &WorkdaysView<'_>,
+    dates: &[i32],
+    others: &[i32],
+    numbers: &mut [i32],
+    statuses: &mut [u8],
+) -> usize
+    ensures { need SameLength (length dates.now) (length others.now ∷ length numbers.old ∷ length statuses.old ∷ [])
+        else (result ≡ usize.MAX) × (numbers.new ≡ numbers.old) × (statuses.new ≡ statuses.old) then
+        AreRows statuses.new result (λ k. IsNumberBetweenInView workdays.now (int_at dates.now k)
+        (int_at others.now k) (number_row (int_at numbers.new k) (nat_at statuses.new k))) }
+{
+    let ranked = RankedWorkdays::from_view(workdays);
     write_rows!(between_row(dates, others; &ranked) => numbers; statuses)
 }
 

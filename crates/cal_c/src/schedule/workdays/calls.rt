@@ -3,7 +3,7 @@ ghost use Rattle.std.specs.Prelude.{◌≡◌, Bool, MatchOption, pos, if◌then
 ghost use Rattle.cal_schedule.specs.declared.workdays.convention.Convention.{Convention};
 ghost use Rattle.cal_schedule.specs.Workdays.{is_workday};
 ghost use Rattle.cal_schedule.specs.WorkdaysConvention.{adjusted_date};
-ghost use Rattle.cal_c.specs.CheckedWorkdays.{week_of, AreCounted, IsAdjusted, IsAnyAdjusted, IsAnyBit, IsBit, IsDateLater, IsDateOrInvalid, IsDateWorkdaysLater, IsForView, IsForWeek, IsNumberBetween, IsNumberOrInvalid, IsWorkdaysBetween};
+ghost use Rattle.cal_c.specs.CheckedWorkdays.{week_of, AreCounted, IsAdjusted, IsAnyAdjusted, IsAnyBit, IsBit, IsDateLater, IsDateLaterInView, IsDateOrInvalid, IsDateWorkdaysLater, IsForView, IsForWeek, IsNumberBetween, IsNumberBetweenInView, IsNumberOrInvalid, IsWorkdaysBetween};
 ghost use Rattle.cal_c.specs.Results.{date_error, number_error};
 ghost use Rattle.cal_c.specs.Weekmasks.{convention_number, IsConvention};
 
@@ -135,8 +135,7 @@ pub extern "C" fn fots_workdays_view_add(
     date: i32,
     days: i32,
 ) -> DateResult
-    ensures { IsForView view.now (λ s. result ≡ date_error s) (IsDateOrInvalid date result)
-        (IsDateLater date days result) }
+    ensures { IsDateLaterInView view.now date days result }
 {
     let workdays = or_return!(RankedWorkdays::from_view(view), status => DateResult::error(status));
     add(&workdays, date, days)
@@ -149,8 +148,7 @@ pub extern "C" fn fots_workdays_view_between(
     date: i32,
     other: i32,
 ) -> NumberResult
-    ensures { IsForView view.now (λ s. result ≡ number_error s) (IsNumberOrInvalid date other result)
-        (IsNumberBetween date other result) }
+    ensures { IsNumberBetweenInView view.now date other result }
 {
     let workdays =
         or_return!(RankedWorkdays::from_view(view), status => NumberResult::error(status));
