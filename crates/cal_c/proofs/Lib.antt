@@ -21,6 +21,7 @@ pub mod RuleSets
 pub mod Walks
 pub mod PassedDays
 pub mod OneAnswer
+pub mod OnePage
 pub mod ZoneResults
 pub mod ZoneTexts
 pub mod ZonedResults

@@ -18,7 +18,7 @@ decided None v h = inr h
 decided (Some x) v h = inl h.0
 
 -- Writing over an array has one result.
-written-one : (ns : List ℕ) (old a b : List ℤ) (n m : ℕ) → length a ≡ length b → AreDatesWritten ns old a n → AreDatesWritten ns old b m → (n ≡ m) × (a ≡ b)
+pub written-one : (ns : List ℕ) (old a b : List ℤ) (n m : ℕ) → length a ≡ length b → AreDatesWritten ns old a n → AreDatesWritten ns old b m → (n ≡ m) × (a ≡ b)
 written-one ns old a b n m lengths p q =
     let count : n ≡ m = p.count_is ∙ sym q.count_is in (
       count,
