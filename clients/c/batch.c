@@ -224,9 +224,11 @@ static void different_lengths(void)
     const fots_workdays_result made = fots_workdays_new(128, NULL, 0);
     check(fots_workdays_add_dates(&made.workdays, dates, 2, numbers, 2, found, 2, statuses, 1) == FOTS_LENGTH_MISMATCH, "a status too few", 0, 0);
     check(fots_workdays_between_dates(&made.workdays, dates, 1, others, 0, found, 1, statuses, 1) == FOTS_LENGTH_MISMATCH, "no other date", 0, 0);
-    const fots_workdays_view none = {128, NULL, 0, NULL, 0};
-    check(fots_workdays_view_add_dates(&none, dates, 1, numbers, 2, found, 1, statuses, 1) == FOTS_LENGTH_MISMATCH, "a number too many", 0, 0);
-    check(fots_workdays_view_between_dates(&none, dates, 1, others, 1, found, 0, statuses, 1) == FOTS_LENGTH_MISMATCH, "no number", 0, 0);
+    const fots_date holiday = date_at(2460370);
+    const uint32_t marked_before = 0;
+    const fots_workdays_view wrong = {128, &holiday, 0, &marked_before, 0};
+    check(fots_workdays_view_add_dates(&wrong, dates, 1, numbers, 2, found, 1, statuses, 1) == FOTS_LENGTH_MISMATCH, "a number too many", 0, 0);
+    check(fots_workdays_view_between_dates(&wrong, dates, 1, others, 1, found, 0, statuses, 1) == FOTS_LENGTH_MISMATCH, "no number", 0, 0);
     check(fots_dates_from_julian_days(days, 0, found, 0, statuses, 0) == 0, "no rows", 0, 0);
     check(found[0] == 77 && statuses[0] == 77, "what stood there", found[0], statuses[0]);
 }
