@@ -24,6 +24,7 @@ use caldate_args::args::arguments::{BUFFER_BYTES, join};
 use caldate_args::args::asked_by;
 use caldate_args::command::*;
 use caldate_args::data_files::system_files::SystemFiles;
+use caldate_args::files::named_files::{MAX_NAME_BYTES, next_file};
 use caldate_args::holidays::MAX_HOLIDAYS;
 use caldate_args::zones::zone_source::{MAX_FILE_BYTES, MAX_PATH_BYTES, find_folder};
 use caldate_lines::field::Field;
@@ -131,12 +132,26 @@ fn answer(call: &Call<'_>) -> Vec<u8> {
     let asked = asked_by(words, Some(start()), &mut files);
     match asked {
         Ok(command) => {
-            let file = joined.and_then(|joined| joined.first_file);
-            let files = file.map_or(0, |first| call.words.len() + 1 - first);
+            let first = joined.and_then(|joined| joined.first_file);
+            let files = first.map_or(0, |first| file_count(call, first));
             format!("{} files={files}", command_text(&command)).into_bytes()
         }
         Err(error) => message_of(error, words.unwrap_or(b"")),
     }
+}
+
+/// Returns how many files the arguments from an index on name.
+fn file_count(call: &Call<'_>, first: usize) -> usize {
+    let mut word = [0; MAX_NAME_BYTES];
+    let mut next = first;
+    let mut only_files = false;
+    let mut count = 0;
+    while next <= call.words.len() {
+        (next, only_files) = next_file(call, next, only_files, &mut word);
+        count += usize::from(next <= call.words.len());
+        next += 1;
+    }
+    count
 }
 
 fn message_of(error: caldate_args::args::usage_error::UsageError<'_>, words: &[u8]) -> Vec<u8> {
@@ -260,7 +275,12 @@ fn reader_text(reader: &Reader) -> String {
         Reader::Named(Reading::Date(DateOrder::MonthFirst)) => "mdy".into(),
         Reader::Named(Reading::Unix(unit)) => unix_name(*unit).into(),
         Reader::Named(Reading::Local(_)) | Reader::Local => "local".into(),
-        Reader::Spelled(caldate_answers::reading::spelling::Spelling::Iso) => "iso".into(),
+        Reader::Named(Reading::IsoDate) => "iso-date".into(),
+        Reader::Named(Reading::IsoMoment) => "iso-moment".into(),
+        Reader::Named(Reading::IsoLocal(offset)) => {
+            format!("iso-local@{}", offset.whole_seconds()).into()
+        }
+        Reader::Spelled(caldate_answers::reading::spelling::Spelling::Iso) => "spelled".into(),
         Reader::Spelled(caldate_answers::reading::spelling::Spelling::Seconds) => "unix".into(),
         Reader::Format(format) => value_format_text(format),
         Reader::Yearless(format) => format!("yearless {}", value_format_text(format)),

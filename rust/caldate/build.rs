@@ -20,6 +20,7 @@ fn main() -> ExitCode {
             "cal_text",
             "cal_duration",
             "cal_format",
+            "cal_iso",
             "cal_zone",
             "cal_zoned",
             "cal_rounding",

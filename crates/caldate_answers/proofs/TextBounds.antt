@@ -62,12 +62,18 @@ text_form reading.Any bytes found h = any_form bytes found h
 text_form (reading.Date order) bytes found h = (h.0, h.1)
 text_form (reading.Unix unit) bytes found h = (h.0, h.1)
 text_form (reading.Local offset) bytes found (m, text, is) = (text.1.0, (text.0, text.1.1))
+text_form reading.IsoDate bytes found (n, text, is) = (text.0, text.1)
+text_form reading.IsoMoment bytes found (m, text, is) = (text.0, text.1)
+text_form (reading.IsoLocal offset) bytes found (z, text, is) = (text.0, text.1)
 
 out_of_range_form : (r : Reading) (bytes : List ℕ) (any : ComponentRange) → IsErrorIn r bytes any → HasFormIn r bytes
 out_of_range_form reading.Any bytes any h = error_form bytes any h
 out_of_range_form (reading.Date order) bytes any h = (h.0, h.1)
 out_of_range_form (reading.Unix unit) bytes any h = (h.1.0, h.1.1)
 out_of_range_form (reading.Local offset) bytes any h = (h.0, h.1)
+out_of_range_form reading.IsoDate bytes any h = (h.0, h.1)
+out_of_range_form reading.IsoMoment bytes any h = (h.0, h.1)
+out_of_range_form (reading.IsoLocal offset) bytes any h = (h.0, h.1)
 
 pub rejected_form : (r : Reading) (bytes : List ℕ) (any : NoAnswer) → IsUnreadIn r bytes any → has_form any ≡ true → HasFormIn r bytes
 rejected_form r bytes (why.Rejected component) h e = out_of_range_form r bytes component h

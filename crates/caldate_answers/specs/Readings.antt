@@ -9,8 +9,12 @@ use Rattle.cal_time.specs.SignedDuration.{microsecond, millisecond}
 use Rattle.cal_time.specs.declared.error.ComponentRange.{ComponentRange}
 use Rattle.cal_datetime.specs.DateTime.{IsDateTime}
 use Rattle.cal_datetime.specs.OffsetDateTime.{LocalAndOffset, unix_epoch, timestamp_out_of_range}
+use Rattle.cal_iso.specs.DateForm.{HasIsoDate, IsIsoDateText}
+use Rattle.cal_iso.specs.MomentForm.{HasIsoMoment, HasIsoPlain, IsIsoMomentText, IsIsoPlainText}
 use Rattle.cal_text.specs.AnyForm.{IsTextOf, IsDateOrMomentError, HasAnyForm}
-use Rattle.cal_text.specs.Parsing.{HasError, IsMonth}
+use Rattle.cal_text.specs.OffsetDateTimeForm.{IsOffsetDateTimeError}
+use Rattle.cal_text.specs.Parsing.{HasError, IsMonth, IsDateError as IsAnyDateError}
+use Rattle.cal_text.specs.PlainForm.{IsPlainError}
 use Rattle.cal_text.specs.Position.{HasSome}
 use Rattle.cal_text.specs.Rfc3339Form.{HasMomentForm, IsMomentError, IsMomentText}
 use Rattle.cal_text.specs.Shape.{Shape, Branch, Byte, Digits, End, Number}
@@ -105,6 +109,10 @@ IsTextIn reading.Any bytes found = IsTextOf bytes found
 IsTextIn (reading.Date order) bytes found = IsDateOf order bytes found
 IsTextIn (reading.Unix unit) bytes found = IsNumberOf unit bytes found
 IsTextIn (reading.Local offset) bytes found = IsLocalOf offset bytes found
+IsTextIn reading.IsoDate bytes found = (n : ℕ) × IsIsoDateText bytes n × (found ≡ Date Calendar n)
+IsTextIn reading.IsoMoment bytes found = (m : LocalAndOffset) × IsIsoMomentText bytes m × (found ≡ Moment form.Rfc3339 m)
+IsTextIn (reading.IsoLocal offset) bytes found =
+    (z : ℤ) × IsIsoPlainText bytes z × (found ≡ Moment form.Rfc3339 (record { local = z; offset = offset }))
 
 -- The bytes have the form, whatever their numbers are.
 abbrev pub HasFormIn : Reading → List ℕ → Type 0
@@ -112,6 +120,9 @@ HasFormIn reading.Any bytes = HasAnyForm bytes
 HasFormIn (reading.Date order) bytes = HasSome (HasDate order) bytes
 HasFormIn (reading.Unix unit) bytes = HasSome IsNumber bytes
 HasFormIn (reading.Local offset) bytes = HasSome (WithoutOffset HasMomentForm) bytes
+HasFormIn reading.IsoDate bytes = HasSome HasIsoDate bytes
+HasFormIn reading.IsoMoment bytes = HasSome HasIsoMoment bytes
+HasFormIn (reading.IsoLocal offset) bytes = HasSome HasIsoPlain bytes
 
 -- This component of the bytes is out of range.
 abbrev pub IsErrorIn : Reading → List ℕ → ComponentRange → Type 0
@@ -120,6 +131,9 @@ IsErrorIn (reading.Date order) bytes why = HasError (HasDate order) IsDateError 
 IsErrorIn (reading.Unix unit) bytes why =
     (why ≡ timestamp_out_of_range) × ((z : ℤ) × IsNumber bytes z × ¬ IsDateTime (local_of unit z))
 IsErrorIn (reading.Local offset) bytes why = HasError (WithoutOffset HasMomentForm) IsMomentError bytes why
+IsErrorIn reading.IsoDate bytes why = HasError HasIsoDate IsAnyDateError bytes why
+IsErrorIn reading.IsoMoment bytes why = HasError HasIsoMoment IsOffsetDateTimeError bytes why
+IsErrorIn (reading.IsoLocal offset) bytes why = HasError HasIsoPlain IsPlainError bytes why
 
 -- ---- the shapes of dates and of whole numbers
 -- The bytes after a separator.

@@ -9,6 +9,7 @@ ghost use Rattle.caldate_answers.specs.Readings.{HasFormIn, IsErrorIn, IsTextIn}
 mod date;
 mod digits;
 pub(crate) mod full_text;
+mod iso;
 mod local;
 mod number;
 pub mod reader;
@@ -17,6 +18,7 @@ pub mod spelling;
 pub mod value_format;
 
 use crate::reading::date::read_date;
+use crate::reading::iso::{read_iso_date, read_iso_local, read_iso_moment};
 use crate::reading::local::read_local;
 use crate::reading::number::read_number;
 pub use crate::reading::reader::reason_of;
@@ -36,6 +38,12 @@ pub enum Reading {
     Unix(UnixUnit),
     /// A moment at this offset, such as `2024-02-29T10:00:00`.
     Local(UtcOffset),
+    /// A date of ISO 8601, such as `20240229` or `2024-W09-4`.
+    IsoDate,
+    /// A moment of ISO 8601, such as `20240229T1000Z`.
+    IsoMoment,
+    /// A local date-time of ISO 8601 at this offset, such as `20240229T1000`. A date is midnight.
+    IsoLocal(UtcOffset),
 }
 
 /// The order of the parts of a date.
@@ -68,5 +76,8 @@ pub fn read_in(reading: Reading, text: &[u8]) -> Result<DateOrMoment, ParseError
         Reading::Date(order) => read_date(order, text),
         Reading::Unix(unit) => read_number(unit, text),
         Reading::Local(offset) => read_local(offset, text),
+        Reading::IsoDate => read_iso_date(text),
+        Reading::IsoMoment => read_iso_moment(text),
+        Reading::IsoLocal(offset) => read_iso_local(offset, text),
     }
 }

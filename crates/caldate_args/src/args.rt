@@ -230,7 +230,7 @@ fn filter_of<'a>(options: Options<'a>, request: Request<'a>) -> Filter<'a> {
         names: options.names,
         several: several_of(options.fields, options.more),
         column: column_of(options.header, options.append),
-        readers: readers_in(options.readers),
+        readers: readers_in(options.readers, options.offset, options.zone.is_some()),
         clock: clock_of(options.zone, policy_of(options.policy)),
     }
 }

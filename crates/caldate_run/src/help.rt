@@ -83,7 +83,7 @@ Options, before or after a command:
                         unix-ms, unix-us, unix-ns, clf, rfc2822, syslog, iso,
                         local or a format, such as %d.%m.%Y; of up to four, the
                         first that fits wins
-  --assume OFFSET       the offset of local, or of a format without one
+  --assume OFFSET       the offset of local, or of iso or a format without one
   --zone ZONE           the same, by the clocks of a zone, which moves go by too
   --ambiguous POLICY    with --zone or at ZONE MOVE: a time that clocks skip or
                         show twice is compatible (the default), earlier, later,

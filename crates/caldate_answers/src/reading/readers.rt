@@ -1,5 +1,5 @@
 //! The forms that a line is read in.
-ghost use Rattle.std.specs.Prelude.{◌≡◌, ◌↔◌, ◌<◌, ◌≤◌, ◌++◌, ◌∷◌, [], IfErr, IfOk, IsTrue, Err, Ok, length};
+ghost use Rattle.std.specs.Prelude.{◌≡◌, ◌↔◌, ◌<◌, ◌≤◌, ◌++◌, ◌∷◌, [], IfErr, IfOk, IsTrue, Err, Ok, length, set};
 ghost use Rattle.cal_text.specs.declared.any.DateOrMoment.{DateOrMoment};
 ghost use Rattle.caldate_answers.specs.Readers.{IsFoundBy, IsUnread, first_reason, has_form};
 ghost use Rattle.caldate_lines.specs.declared.no_answer.NoAnswer.{NoAnswer};
@@ -10,9 +10,9 @@ use caldate_lines::no_answer::NoAnswer;
 use std::marker::Model;
 
 /// The maximum number of forms.
-const MAX_READERS: usize = 4;
+const MAX_READERS: usize = 12;
 
-/// A list of up to four forms. A string is read in the first that it has.
+/// A list of up to twelve forms. A string is read in the first that it has.
 #[derive(Drop)]
 pub struct Readers {
     items: [Reader; MAX_READERS],
@@ -27,7 +27,7 @@ impl Model for Readers {
 
     ghost view = { λ readers. take readers.count readers.items };
 
-    ghost invariant = { λ readers. readers.count ≤ 4 };
+    ghost invariant = { λ readers. readers.count ≤ 12 };
 }
 
 impl Readers {
@@ -36,14 +36,27 @@ impl Readers {
         ensures { result ≡ [] }
     {
         Readers {
-            items: [Reader::Local, Reader::Local, Reader::Local, Reader::Local],
+            items: [
+                Reader::Local,
+                Reader::Local,
+                Reader::Local,
+                Reader::Local,
+                Reader::Local,
+                Reader::Local,
+                Reader::Local,
+                Reader::Local,
+                Reader::Local,
+                Reader::Local,
+                Reader::Local,
+                Reader::Local,
+            ],
             count: 0,
         }
     }
 
-    /// Appends a form and returns `true`, or returns `false` if there are four.
+    /// Appends a form and returns `true`, or returns `false` if there are twelve.
     pub fn try_push(&mut self, reader: Reader) -> bool
-        ensures room { IsTrue result ↔ (length self.old < 4) }
+        ensures room { IsTrue result ↔ (length self.old < 12) }
         ensures value { IsTrue result → self.new ≡ self.old ++ reader ∷ [] }
         ensures full { ¬ IsTrue result → self.new ≡ self.old }
     {
@@ -53,6 +66,15 @@ impl Readers {
         self.items[self.count] = reader;
         self.count += 1;
         true
+    }
+
+    /// Replaces the form at an index, if there is one.
+    pub fn set(&mut self, index: usize, reader: Reader)
+        ensures { self.new ≡ set self.old index reader }
+    {
+        if index < self.count {
+            self.items[index] = reader;
+        }
     }
 
     /// Returns the forms.

@@ -7,21 +7,26 @@ use std::env::{Env, FillError};
 /// The maximum length of all arguments together, in bytes.
 pub const MAX_BYTES: usize = 4096;
 
-/// The words of the arguments, and the files after them.
+/// The words of the arguments, and where their files begin.
 #[derive(Clone, Copy)]
 pub struct Arguments<'a> {
     /// The words, with zero bytes between them.
     pub words: &'a [u8],
-    /// The index of the first file, if `--` and files come after the words.
+    /// The index of the first file or of the `--` before it, if there are files. Options may come
+    /// between the files.
     pub first_file: Option<usize>,
 }
 
 /// The length of a buffer for the words, each with a zero byte after it.
 pub const BUFFER_BYTES: usize = MAX_BYTES + 1;
 
+/// The maximum index of an argument.
+pub const MAX_INDEX: usize = 1_000_000_000;
+
 /// Writes the words of the arguments to the front of the buffer, with a zero byte between two, and
 /// returns them. The options come before the words of the command. Returns `None` if they don't fit.
-/// Words after a `--` or after the command name files, and aren't written.
+/// The names of files aren't written: all words after a `--`, and those after the command that aren't
+/// options.
 ///
 /// `add 1 day` takes nine bytes. `to week jan feb` takes seven, and the first file has the index 3.
 pub fn join<'a, E: Env>(env: &E, buffer: &'a mut [u8; BUFFER_BYTES]) -> Option<Arguments<'a>>
@@ -29,19 +34,21 @@ pub fn join<'a, E: Env>(env: &E, buffer: &'a mut [u8; BUFFER_BYTES]) -> Option<A
 {
     let mut filled = 0;
     let mut options = 0;
+    let mut first_file = None;
     let mut extent = Extent::new();
     // Argument 0 is the name of the program.
-    for i in 1..=MAX_BYTES {
+    for i in 1..=MAX_INDEX {
         match env.arg(i, &mut buffer[filled..]) {
             Ok(length) => {
                 let end = filled + length;
                 let word = &buffer[filled..end];
                 if word == b"--".as_slice() && extent.reads_input() && has_arg(env, i + 1) {
-                    return Some(words_before(buffer, filled, Some(i + 1)));
+                    return Some(words_before(buffer, filled, first_file.or(Some(i))));
                 }
                 let part = extent.take(word);
                 if let Part::File = part {
-                    return Some(words_before(buffer, filled, Some(i)));
+                    first_file = first_file.or(Some(i));
+                    continue;
                 }
                 if end == BUFFER_BYTES {
                     return None;
@@ -53,7 +60,7 @@ pub fn join<'a, E: Env>(env: &E, buffer: &'a mut [u8; BUFFER_BYTES]) -> Option<A
                     options += length + 1;
                 }
             }
-            Err(FillError::NotPresent) => return Some(words_before(buffer, filled, None)),
+            Err(FillError::NotPresent) => return Some(words_before(buffer, filled, first_file)),
             Err(FillError::TooLong) => return None,
         }
     }

@@ -37,6 +37,8 @@ enum Next {
     PlacedVerb,
     /// A unit or a count, or no further word.
     Optional,
+    /// An option or a further file, after the first file.
+    File,
     /// `from`, `after` or `before`.
     Bound,
     /// A date or moment after `from`.
@@ -54,7 +56,7 @@ pub enum Part {
     Option,
     /// A word of the command.
     Command,
-    /// The first file.
+    /// A file.
     File,
 }
 
@@ -83,8 +85,8 @@ impl Extent {
         self.reads_input
     }
 
-    /// Takes the next word, and returns which part it is. In `to week --skip 1 jan`, `--skip` and `1`
-    /// are an option, and `jan` is a file.
+    /// Takes the next word, and returns which part it is. In `to week jan --skip 1`, `jan` is a file,
+    /// and `--skip` and `1` are an option.
     pub fn take(&mut self, word: &[u8]) -> Part {
         if self.has_option {
             self.has_option = false;
@@ -127,6 +129,7 @@ impl Extent {
             return Part::Option;
         }
         if self.reads_input && is_file_after(self.next, word) {
+            self.next = Next::File;
             return Part::File;
         }
         self.next = next_after(self.next, word);
@@ -134,19 +137,20 @@ impl Extent {
     }
 }
 
-/// Returns whether an option may come: before the verb, and after the words that a command needs.
+/// Returns whether an option may come: before the verb, after the words that a command needs, and
+/// after a file.
 fn may_take_option(next: Next) -> bool {
     match next {
-        Next::Verb | Next::End | Next::In | Next::PlacedVerb | Next::Optional => true,
+        Next::Verb | Next::End | Next::In | Next::PlacedVerb | Next::Optional | Next::File => true,
         _ => false,
     }
 }
 
-/// Returns whether the word is a file: after a whole command any word that doesn't begin with `--`,
-/// and in place of a word that may be left out `-` and words with a dot or a slash.
+/// Returns whether the word is a file: after a whole command or a file any word that doesn't begin
+/// with `--`, and in place of a word that may be left out `-` and words with a dot or a slash.
 fn is_file_after(next: Next, word: &[u8]) -> bool {
     match next {
-        Next::End => !begins_as_option(word),
+        Next::End | Next::File => !begins_as_option(word),
         Next::In | Next::PlacedVerb | Next::Optional => is_file_like(word),
         _ => false,
     }
@@ -181,6 +185,7 @@ fn next_after(next: Next, word: &[u8]) -> Next {
         Next::Bound => after_bound(word),
         Next::From => Next::To,
         Next::To => Next::Last,
+        Next::File => Next::File,
         Next::First | Next::Text | Next::End | Next::Any => Next::Any,
     }
 }

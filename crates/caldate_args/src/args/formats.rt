@@ -7,6 +7,7 @@ use cal_format::{Component, Format, Item, Padding};
 use cal_text::MomentForm;
 use caldate_answers::reading::Reading;
 use caldate_answers::reading::reader::Reader;
+use caldate_answers::reading::spelling::Spelling;
 use caldate_answers::reading::value_format::ValueFormat;
 use caldate_answers::request::{Form, Place, Request};
 use caldate_lines::lines::index_of;
@@ -133,7 +134,8 @@ fn reader_named(word: &[u8]) -> Option<Reader> {
     match value_named(word, &READERS)? {
         NamedReader::Date(order) => Some(Reader::Named(Reading::Date(order))),
         NamedReader::Unix(unit) => Some(Reader::Named(Reading::Unix(unit))),
-        NamedReader::Spelled(spelling) => Some(Reader::Spelled(spelling)),
+        NamedReader::Seconds => Some(Reader::Spelled(Spelling::Seconds)),
         NamedReader::Local => Some(Reader::Local),
+        NamedReader::Iso => Some(Reader::Named(Reading::IsoMoment)),
     }
 }

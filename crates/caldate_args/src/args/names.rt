@@ -4,7 +4,6 @@ use cal_schedule::CalendarUnit;
 use cal_text::{DateForm, MomentForm};
 use cal_zone::Policy;
 use caldate_answers::reading::DateOrder;
-use caldate_answers::reading::spelling::Spelling;
 use caldate_answers::request::{Form, Measure, TimeUnit, UnixUnit};
 use caldate_lines::on_invalid::OnInvalid;
 
@@ -13,7 +12,8 @@ use caldate_lines::on_invalid::OnInvalid;
 pub enum NamedReader {
     Date(DateOrder),
     Unix(UnixUnit),
-    Spelled(Spelling),
+    Seconds,
+    Iso,
     Local,
 }
 
@@ -142,11 +142,11 @@ pub(crate) const READERS: [(&str, NamedReader); 9] = [
     ("basic", NamedReader::Date(DateOrder::Basic)),
     ("dmy", NamedReader::Date(DateOrder::DayFirst)),
     ("mdy", NamedReader::Date(DateOrder::MonthFirst)),
-    ("unix", NamedReader::Spelled(Spelling::Seconds)),
+    ("unix", NamedReader::Seconds),
     ("unix-ms", NamedReader::Unix(UnixUnit::Milliseconds)),
     ("unix-us", NamedReader::Unix(UnixUnit::Microseconds)),
     ("unix-ns", NamedReader::Unix(UnixUnit::Nanoseconds)),
-    ("iso", NamedReader::Spelled(Spelling::Iso)),
+    ("iso", NamedReader::Iso),
     ("local", NamedReader::Local),
 ];
 

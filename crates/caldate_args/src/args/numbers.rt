@@ -1,5 +1,6 @@
 //! Forms of numbers. A scan takes only numbers of a likely length.
 
+use crate::args::options::is_iso_moment;
 use cal_format::{Component, Format, Item};
 use caldate_answers::reading::reader::Reader;
 use caldate_answers::reading::spelling::Spelling;
@@ -8,7 +9,8 @@ use caldate_answers::reading::{DateOrder, Reading};
 use caldate_answers::request::{DigitCounts, UnixUnit};
 
 /// Returns the lengths of numbers that a scan takes for Unix times. `None` if no form is a Unix time in
-/// digits, or another form can be a number.
+/// digits or ISO 8601, or another form can be a number. With ISO 8601, a number such as `1048300`
+/// isn't taken for a date either.
 pub fn counts_of(scans: bool, readers: &[Reader]) -> Option<DigitCounts> {
     if !scans || readers.iter().any(|reader| is_other_number(reader)) {
         return None;
@@ -19,7 +21,8 @@ pub fn counts_of(scans: bool, readers: &[Reader]) -> Option<DigitCounts> {
         microseconds: has_unit(readers, 6),
         nanoseconds: has_unit(readers, 9),
     };
-    if counts.seconds || counts.milliseconds || counts.microseconds || counts.nanoseconds {
+    let any = counts.seconds || counts.milliseconds || counts.microseconds || counts.nanoseconds;
+    if any || readers.iter().any(|reader| is_iso_moment(reader)) {
         Some(counts)
     } else {
         None

@@ -200,7 +200,7 @@ fn has_room_for(options: &Options<'_>, option: OptionName) -> bool {
         OptionName::Scan => !options.scan,
         OptionName::Separator => options.separator.is_none(),
         OptionName::Skip => options.skip.is_none(),
-        OptionName::Read => options.readers.as_slice().len() < 4,
+        OptionName::Read => read_count(options.readers.as_slice()) < 4,
         OptionName::Assume => options.offset.is_none(),
         OptionName::AssumeYear => options.year.is_none(),
         OptionName::Zone => options.zone.is_none(),
@@ -460,26 +460,82 @@ pub fn field_of(options: &Options<'_>) -> Option<Field> {
     })
 }
 
-/// Adds a form of `--read`, or returns `None` if the value is invalid or four are given.
+/// Adds a form of `--read`, or returns `None` if the value is invalid. `iso` is three forms.
 fn with_reader<'a>(options: Options<'a>, value: &[u8]) -> Option<Options<'a>> {
     let reader = reader_of(value)?;
+    let is_iso = is_iso_moment(&reader);
     let mut more = options;
-    if more.readers.try_push(reader) {
-        Some(more)
-    } else {
-        None
+    more.readers.try_push(reader);
+    if is_iso {
+        more.readers.try_push(Reader::Named(Reading::IsoDate));
+        more.readers
+            .try_push(Reader::Named(Reading::IsoLocal(UtcOffset::UTC)));
+    }
+    Some(more)
+}
+
+/// Returns how often `--read` is given.
+fn read_count(readers: &[Reader]) -> usize {
+    readers
+        .iter()
+        .filter(|reader| !continues_iso(reader))
+        .count()
+}
+
+/// Returns whether the form is the first of the three of `iso`.
+pub fn is_iso_moment(reader: &Reader) -> bool {
+    match reader {
+        Reader::Named(Reading::IsoMoment) => true,
+        _ => false,
     }
 }
 
-/// Returns the forms that lines are read in. The default is the six forms, and then ISO 8601.
-pub fn readers_in(readers: Readers) -> Readers {
-    if readers.as_slice().len() > 0 {
-        return readers;
+/// Returns whether the form is the second or the third of the three of `iso`.
+fn continues_iso(reader: &Reader) -> bool {
+    match reader {
+        Reader::Named(Reading::IsoDate | Reading::IsoLocal(_)) => true,
+        _ => false,
     }
-    let mut default = Readers::new();
-    default.try_push(Reader::Named(Reading::Any));
-    default.try_push(Reader::Spelled(Spelling::Iso));
-    default
+}
+
+/// Returns the forms that lines are read in. The default is the six forms, and then moments that are
+/// spelled in another way.
+pub fn readers_in(readers: Readers, offset: Option<UtcOffset>, has_zone: bool) -> Readers {
+    if readers.as_slice().len() == 0 {
+        let mut default = Readers::new();
+        default.try_push(Reader::Named(Reading::Any));
+        default.try_push(Reader::Spelled(Spelling::Iso));
+        return default;
+    }
+    let mut all = readers;
+    for index in 0..all.as_slice().len() {
+        if let Some(reading) = iso_reading_at(&all, index, &offset, has_zone) {
+            all.set(index, Reader::Named(reading));
+        }
+    }
+    all
+}
+
+/// Returns what replaces the form at an index, if it is a form of `iso` that is replaced.
+fn iso_reading_at(
+    readers: &Readers,
+    index: usize,
+    offset: &Option<UtcOffset>,
+    has_zone: bool,
+) -> Option<Reading> {
+    let reader = readers.as_slice().get(index)?;
+    iso_reading(reader, *offset, has_zone)
+}
+
+/// Returns what replaces a form of `iso`: with a zone a moment has no offset of its own, and without
+/// an offset or a zone no local date-time is read. Then dates are read once more.
+fn iso_reading(reader: &Reader, offset: Option<UtcOffset>, has_zone: bool) -> Option<Reading> {
+    match (reader, offset) {
+        (Reader::Named(Reading::IsoMoment), _) if has_zone => Some(Reading::IsoDate),
+        (Reader::Named(Reading::IsoLocal(_)), Some(offset)) => Some(Reading::IsoLocal(offset)),
+        (Reader::Named(Reading::IsoLocal(_)), None) if !has_zone => Some(Reading::IsoDate),
+        _ => None,
+    }
 }
 
 /// Returns the parts that a string may leave out. The default is UTC, and a year that no form
@@ -517,7 +573,12 @@ fn is_local(reader: &Reader) -> bool {
     }
 }
 
-/// Returns whether a form has an offset of its own.
+/// Returns whether texts in a form can lack an offset.
+fn any_assumed(readers: &[Reader]) -> bool {
+    any_local(readers) || readers.iter().any(|reader| is_iso_moment(reader))
+}
+
+/// Returns whether a form always has an offset of its own.
 fn any_own(readers: &[Reader]) -> bool {
     readers.iter().any(|reader| has_own(reader))
 }
@@ -570,7 +631,7 @@ fn unmet_by_readers(options: &Options<'_>, is_day: bool) -> Option<Requirement> 
         unmet_by_zone(options, is_day)
     } else if any_local(options.readers.as_slice()) && options.offset.is_none() {
         Some(Requirement::Assume)
-    } else if options.offset.is_some() && !any_local(options.readers.as_slice()) {
+    } else if options.offset.is_some() && !any_assumed(options.readers.as_slice()) {
         Some(Requirement::Local)
     } else {
         None
@@ -584,7 +645,7 @@ fn unmet_by_zone(options: &Options<'_>, is_day: bool) -> Option<Requirement> {
         Some(Requirement::OffsetOrZone)
     } else if is_day && options.readers.as_slice().len() == 0 {
         None
-    } else if !any_local(options.readers.as_slice()) || any_own(options.readers.as_slice()) {
+    } else if !any_assumed(options.readers.as_slice()) || any_own(options.readers.as_slice()) {
         Some(Requirement::LocalOnly)
     } else {
         None

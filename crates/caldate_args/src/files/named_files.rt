@@ -5,6 +5,8 @@ ghost use Rattle.caldate_lines.specs.Calls.{Writes, write_failure};
 ghost use Rattle.caldate_lines.specs.Outputs.{WritesPage};
 ghost use Rattle.caldate_args.specs.Files.{FailsOrKeeps, ReportsFile};
 
+use crate::args::arguments::MAX_INDEX;
+use crate::args::options::{is_option, is_option_with_value};
 use crate::files::Texts;
 use crate::zones::read_zone_error::{FileError, file_words};
 use crate::zones::zone_source::{file_error, open_any};
@@ -18,7 +20,7 @@ use std::fs::Files;
 use std::io::{self, ErrorKind, Read};
 
 /// The maximum length of a name, in bytes.
-const MAX_NAME_BYTES: usize = 4096;
+pub const MAX_NAME_BYTES: usize = 4096;
 
 /// What is shown for a longer name.
 const LONG_NAME: &[u8] = b"...";
@@ -40,8 +42,10 @@ enum Current<F: Drop> {
 #[derive(Drop)]
 pub struct NamedFiles<'a, S: Env + Files, R: Read + Drop, E: Sink + Drop> {
     system: &'a S,
-    /// The index of the argument that names the next file.
+    /// The index of the argument that names the next file, or of an option before it.
     next: usize,
+    /// `true` if no option comes any more, as after `--`.
+    only_files: bool,
     current: Current<S::File>,
     input: R,
     errors: E,
@@ -49,16 +53,18 @@ pub struct NamedFiles<'a, S: Env + Files, R: Read + Drop, E: Sink + Drop> {
 }
 
 impl<'a, S: Env + Files, R: Read + Drop, E: Sink + Drop> NamedFiles<'a, S, R, E> {
-    /// Creates a reader of the files that the arguments from the index `first` on name. None is open
-    /// yet. Standard input, whose name is `-`, is `input`, and failures are written to `errors`.
+    /// Creates a reader of the files that the arguments from the index `first` on name, with options
+    /// between them up to a `--`. None is open yet. Standard input, whose name is `-`, is `input`, and
+    /// failures are written to `errors`.
     ///
-    /// In `caldate to week -- jan -`, the file `jan` has the index 4.
+    /// In `caldate to week jan --skip 1 -`, the file `jan` has the index 3, and `-` the index 6.
     pub fn new(system: &'a S, first: usize, input: R, errors: E) -> Self
         ensures { result.has_failed ≡ false }
     {
         NamedFiles {
             system,
             next: first,
+            only_files: false,
             current: Current::Nothing,
             input,
             errors,
@@ -170,20 +176,52 @@ impl<S: Env + Files, R: Read + Drop, E: Sink + Drop> Texts for NamedFiles<'_, S,
 
     fn go_on(&mut self) -> bool {
         let mut name = [0u8; MAX_NAME_BYTES];
-        match self.system.arg(self.next, &mut name) {
+        let (index, only_files) = next_file(self.system, self.next, self.only_files, &mut name);
+        self.only_files = only_files;
+        match self.system.arg(index, &mut name) {
             Ok(length) => {
-                self.next = self.next.saturating_add(1);
+                self.next = index.saturating_add(1);
                 self.open(&name[..length]);
                 true
             }
             Err(FillError::TooLong) => {
-                self.next = self.next.saturating_add(1);
+                self.next = index.saturating_add(1);
                 self.fail(LONG_NAME, FileError::TooLong);
                 true
             }
             Err(FillError::NotPresent) => false,
         }
     }
+}
+
+/// Returns the index of the first file among the arguments from an index on, and whether only files
+/// come from there on, as after `--`. Before, options may come, whose words are written to `word`.
+pub fn next_file<S: Env>(
+    system: &S,
+    from: usize,
+    only_files: bool,
+    word: &mut [u8; MAX_NAME_BYTES],
+) -> (usize, bool) {
+    if only_files {
+        return (from, true);
+    }
+    let mut has_option = false;
+    for i in from..=MAX_INDEX {
+        let Ok(length) = system.arg(i, word) else {
+            return (i, false);
+        };
+        let word = &word[..length];
+        if has_option {
+            has_option = false;
+        } else if word == b"--".as_slice() {
+            return (i + 1, true);
+        } else if is_option(word) {
+            has_option = is_option_with_value(word);
+        } else {
+            return (i, false);
+        }
+    }
+    (from, false)
 }
 
 /// Writes why a file can't be read, in one line.

@@ -32,3 +32,15 @@ returns-in-Date-clause-every c found is =
 pub returns-in-Local-clause-every : goal.returns-in-Local-clause-every
 returns-in-Local-clause-every c found is =
     c.read_local.ensures.every found (subst (λ r. IsTextIn r c.args.text.now found) c.in-Local.is is)
+
+pub returns-in-IsoLocal-clause-every : goal.returns-in-IsoLocal-clause-every
+returns-in-IsoLocal-clause-every c found is =
+    c.read_iso_local.ensures.every found (subst (λ r. IsTextIn r c.args.text.now found) c.in-IsoLocal.is is)
+
+pub returns-in-IsoDate-clause-every : goal.returns-in-IsoDate-clause-every
+returns-in-IsoDate-clause-every c found is =
+    c.read_iso_date.ensures.every found (subst (λ r. IsTextIn r c.args.text.now found) c.in-IsoDate.is is)
+
+pub returns-in-IsoMoment-clause-every : goal.returns-in-IsoMoment-clause-every
+returns-in-IsoMoment-clause-every c found is =
+    c.read_iso_moment.ensures.every found (subst (λ r. IsTextIn r c.args.text.now found) c.in-IsoMoment.is is)
