@@ -150,10 +150,15 @@ static inline enum sql_step sql_days_step(sql_days *all, fots_date *day)
  *
  * Rules of hours, minutes or seconds are read in windows of ten years, up to the year 9999: a rule with
  * an interval can have a day in many thousand years, and a rule of seconds can try each second. A window
- * ends with an UNTIL. */
+ * ends with an UNTIL.
+ *
+ * COUNT counts local times, each once, as pages of them are read. In a zone it is counted ahead of the
+ * rows, a span that doubles each time, so that the first rows of a large COUNT come at once. */
 
 #define SQL_WINDOW_YEARS 10
 #define SQL_LAST_YEAR 9999
+#define SQL_FIRST_SPAN 3600
+#define SQL_LAST_SPAN INT64_C(400000000000)
 
 typedef struct sql_times {
     char text[4128]; /* of the recurrence, without COUNT */
@@ -168,7 +173,11 @@ typedef struct sql_times {
     fots_moment after; /* the last instant */
     uint32_t count, left;
     int32_t status;
-    int is_counting; /* for a zone, until the last time of COUNT is known */
+    int is_counting; /* for a zone */
+    int is_counted; /* for a zone: all that can be rows up to `last` */
+    int64_t span; /* how many seconds to count ahead of the rows */
+    fots_moment uncounted; /* the next local time to count */
+    fots_moment returned; /* the last row, or a nanosecond before the first one */
     int is_last, has_until;
     size_t at, length, page_length, zoned_page_length;
     fots_moment page[SQL_PAGE];
@@ -251,13 +260,13 @@ static inline void sql_times_text(sql_times *all, const fots_recurrence_text_res
     all->base_length = strlen(all->text);
 }
 
-/* Starts with the first row, or for a COUNT with the start. */
+/* Goes on with the next row, or for a COUNT with the next local time to count. */
 static inline void sql_times_restart(sql_times *all)
 {
-    const fots_duration nanosecond = {0, 1};
-    const int is_from_start = all->is_counting || (!all->zone && all->count > 0) || fots_moment_compare(all->first, all->set.start).number < 0;
-    all->from = is_from_start ? all->set.start : all->first;
-    all->after = fots_moment_saturating_sub(all->first, nanosecond).moment;
+    const fots_moment next = all->zone ? all->returned : all->first;
+    const int is_from_start = (!all->zone && all->count > 0) || fots_moment_compare(next, all->set.start).number < 0;
+    all->from = all->is_counting ? all->uncounted : is_from_start ? all->set.start : next;
+    all->after = all->returned;
     all->at = all->length = 0;
     all->is_last = 0;
     if (all->has_windows) {
@@ -269,6 +278,7 @@ static inline void sql_times_restart(sql_times *all)
 static inline sql_fault sql_times_begin(sql_times *all, const char *text, size_t length, fots_moment start, const fots_zone *zone,
     fots_moment first, fots_moment last)
 {
+    const fots_duration nanosecond = {0, 1};
     const fots_recurrence_text_result printed = fots_recurrence_text(text, length);
     const sql_fault fault = {printed.status, printed.position};
     memset(all, 0, sizeof *all);
@@ -279,6 +289,10 @@ static inline sql_fault sql_times_begin(sql_times *all, const char *text, size_t
     all->last = last;
     all->left = all->count;
     all->is_counting = zone && all->count > 0;
+    all->is_counted = !all->is_counting;
+    all->span = SQL_FIRST_SPAN;
+    all->uncounted = start;
+    all->returned = fots_moment_saturating_sub(first, nanosecond).moment;
     sql_times_restart(all);
     return fault;
 }
@@ -344,28 +358,47 @@ static inline enum sql_step sql_times_end_with(sql_times *all, fots_moment readi
     return SQL_PAUSE;
 }
 
-/* Counts a page of local times, up to COUNT or until no instant up to `last` can follow. */
+static inline fots_moment sql_seconds_after(fots_moment moment, int64_t seconds)
+{
+    const fots_duration duration = {seconds, 0};
+    return fots_moment_saturating_add(moment, duration).moment;
+}
+
+/* Counts a page of local times, up to COUNT, or until no instant up to `last` can follow, or for now to
+ * the end of the span. */
 static inline enum sql_step sql_times_count(sql_times *all)
 {
-    const fots_duration two_days = {172800, 0};
     enum sql_step step = sql_times_page(all);
-    int is_done = 0;
+    int is_ahead;
     if (step != SQL_PAUSE) {
         return step;
     }
+    all->is_counted = all->is_last || all->left <= all->length || fots_moment_compare(all->from, sql_seconds_after(all->last, 172800)).number > 0;
+    is_ahead = fots_moment_compare(all->from, sql_seconds_after(all->returned, all->span)).number > 0;
     if (all->left <= all->length) {
         step = sql_times_end_with(all, all->page[all->left - 1]);
-        is_done = 1;
-    } else if (all->is_last || fots_moment_compare(all->from, fots_moment_saturating_add(all->last, two_days).moment).number > 0) {
-        is_done = 1;
     }
     all->left -= (uint32_t)all->length;
-    if (is_done) {
+    all->length = 0;
+    if (all->is_counted || is_ahead) {
+        all->uncounted = all->from;
+        all->span = all->span < SQL_LAST_SPAN ? 2 * all->span : all->span;
         all->is_counting = 0;
         sql_times_restart(all);
     }
-    all->length = 0;
     return step;
+}
+
+/* Returns 1 if COUNT has the local times of an instant. One in a gap is earlier than what clocks show. */
+static inline int sql_is_counted(const sql_times *all, fots_moment row)
+{
+    fots_moment local;
+    if (all->is_counted) {
+        return 1;
+    }
+    local = fots_moment_in_zone(row, all->zone).moment;
+    local.offset.seconds = 0;
+    return fots_moment_compare(local, all->uncounted).number < 0;
 }
 
 static inline enum sql_step sql_times_step(sql_times *all, fots_moment *row)
@@ -374,11 +407,18 @@ static inline enum sql_step sql_times_step(sql_times *all, fots_moment *row)
         return sql_times_count(all);
     }
     while (all->at < all->length) {
-        *row = all->page[all->at++];
+        *row = all->page[all->at];
+        if (!sql_is_counted(all, *row)) {
+            all->is_counting = 1;
+            sql_times_restart(all);
+            return SQL_PAUSE;
+        }
+        all->at += 1;
         if ((!all->zone && all->count > 0 && all->left-- == 0) || fots_moment_compare(*row, all->last).number > 0) {
             return SQL_END;
         }
         if (fots_moment_compare(*row, all->first).number >= 0) {
+            all->returned = *row;
             return SQL_ROW;
         }
     }

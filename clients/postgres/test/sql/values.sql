@@ -76,6 +76,7 @@ SELECT * FROM (VALUES
     (24, pg_temp.error_of($$SELECT cal_round_local('2024-01-01', '7 hours')$$), '22023 round: invalid rounding unit'),
     (30, pg_temp.error_of($$SELECT cal_days('FREQ=HOURLY;COUNT=3', '2024-10-27')$$), '22023 invalid recurrence: "FREQ=HOURLY;COUNT=3" / invalid frequency'),
     (31, (SELECT string_agg(t::text, ' ') FROM cal_times_zoned('FREQ=HOURLY;COUNT=3', '2024-10-27 01:30', 'Europe/Berlin') AS t), '2024-10-26 23:30:00+00 2024-10-27 00:30:00+00 2024-10-27 02:30:00+00'),
+    (33, (SELECT count(*) FROM (SELECT cal_times_zoned('FREQ=SECONDLY;COUNT=4294967295', '2024-01-01', 'Europe/Berlin') LIMIT 3) AS rows)::text, '3'),
     (32, pg_temp.error_of($$SELECT cal_easter(1000000)$$), '22008 Easter: year out of range'),
     (27, (SELECT string_agg(d::text, ' ') FROM cal_days('FREQ=DAILY;UNTIL=20240105', '2024-01-01', '[2024-01-02,2024-01-04]') AS d), '2024-01-02 2024-01-03 2024-01-04'),
     (28, (SELECT string_agg(t::text, ' ') FROM cal_times_local('FREQ=DAILY', '2024-01-01 09:00', '(2024-01-02 09:00,2024-01-04 09:00]') AS t), '2024-01-03 09:00:00 2024-01-04 09:00:00'),
