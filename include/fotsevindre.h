@@ -114,6 +114,15 @@ typedef struct fots_recurrence {
     uint16_t unused; /* 0, so that equal recurrences have equal bytes */
 } fots_recurrence;
 
+/* How far a recurrence is counted, for its next page. Any numbers are valid: if the date or the time
+ * isn't, nothing is counted. So a cursor of another recurrence can give other values, but nothing
+ * worse. */
+typedef struct fots_recurrence_cursor {
+    fots_date date; /* the last day that is counted, or the date of the last reading; or {FOTS_NO_VALUE} */
+    uint32_t left; /* the maximum number of days or readings after it */
+    fots_time time; /* the time of the last reading, or 0 */
+} fots_recurrence_cursor;
+
 /* The maximum number of holidays, and of the dates and the exceptions of a rule or a set. */
 #define FOTS_MAX_HOLIDAYS 1024
 #define FOTS_MAX_DATES 1024
@@ -555,6 +564,13 @@ typedef struct fots_recurrence_result {
     size_t length; /* or 0 */
     size_t position;
 } fots_recurrence_result;
+
+typedef struct fots_recurrence_cursor_result {
+    int32_t status;
+    uint32_t part; /* this and position as above */
+    size_t position;
+    fots_recurrence_cursor cursor; /* or {{FOTS_NO_VALUE}, 0, 0} */
+} fots_recurrence_cursor_result;
 
 typedef struct fots_parse_recurrence_result {
     int32_t status;
@@ -1092,6 +1108,19 @@ static inline fots_rule fots_recurrence_rule(const fots_recurrence *recurrence, 
 fots_recurrence_result fots_recurrence_days(const char *text, size_t text_length, fots_date start, fots_date from, fots_date *days,
     size_t days_length);
 
+/* Returns the cursor of a recurrence for its first page. "FREQ=DAILY;COUNT=3" has 3 days or readings
+ * left, and a text without COUNT has UINT32_MAX. */
+fots_recurrence_cursor_result fots_recurrence_cursor_new(const char *text, size_t text_length);
+
+/* Writes the days of a recurrence like fots_recurrence_days, but only those that a cursor leaves.
+ * Then the cursor leaves the days after them, so pass it with the same text, start and date for the
+ * next page: COUNT isn't counted from the start again. Days before `from` are counted too, and a
+ * length of 0 only counts them. After an error the cursor is as before. It must not overlap the
+ * array. "FREQ=MONTHLY;BYDAY=-1FR;COUNT=3" with the start 2024-01-01 has 2024-01-26 and 2024-02-23
+ * on its first page of two days, and 2024-03-29 on its second. */
+fots_recurrence_result fots_recurrence_next_days(const char *text, size_t text_length, fots_date start, fots_date from,
+    fots_recurrence_cursor *cursor, fots_date *days, size_t days_length);
+
 /* A recurrence with times of day: its text, its start, other readings and exceptions. A reading is
  * the date and the time of a moment, whose offset doesn't count. */
 typedef struct fots_recurrence_set {
@@ -1120,6 +1149,14 @@ static inline fots_recurrence_set fots_recurrence_set_new(const char *text, size
  * "FREQ=DAILY;BYHOUR=9,17;COUNT=3" from 1997-09-02 9:00 on has 9:00 and 17:00 on that day, and 9:00
  * on the next one. */
 fots_recurrence_result fots_recurrence_readings(const fots_recurrence_set *set, fots_moment from, fots_moment *readings, size_t readings_length);
+
+/* Writes the readings of a set like fots_recurrence_readings, with a cursor that holds what is
+ * counted of COUNT. For the next page pass the cursor, the same set, and a nanosecond after the last
+ * reading as `from`. After an error the cursor is as before. It must not overlap the array.
+ * "FREQ=DAILY;BYHOUR=9,17;COUNT=3" from 1997-09-02 9:00 on has 9:00 and 17:00 on its first page of
+ * two readings. */
+fots_recurrence_result fots_recurrence_next_readings(const fots_recurrence_set *set, fots_moment from, fots_recurrence_cursor *cursor,
+    fots_moment *readings, size_t readings_length);
 
 /* ---- events of calendar files */
 
@@ -1898,6 +1935,13 @@ fots_moment_result fots_zone_moment(const fots_zone *zone, fots_date date, fots_
  * +02:00 after 2024-03-31 0:00 UTC. */
 fots_recurrence_result fots_recurrence_moments(const fots_recurrence_set *set, const fots_zone *zone, fots_moment after, fots_moment *moments,
     size_t moments_length);
+
+/* Writes the moments of a set like fots_recurrence_moments, with a cursor that holds what is counted
+ * of COUNT. For the next page pass the cursor, the same set and zone, and the last moment as
+ * `after`. After an error the cursor is as before. It must not overlap the array. "FREQ=DAILY" from
+ * 2024-03-30 2:30 has 2024-03-31 3:30 +02:00 on a page of one moment after 2024-03-31 0:00 UTC. */
+fots_recurrence_result fots_recurrence_next_moments(const fots_recurrence_set *set, const fots_zone *zone, fots_moment after,
+    fots_recurrence_cursor *cursor, fots_moment *moments, size_t moments_length);
 
 /* Writes the moments of an event with a local DTSTART in a zone, after a moment, as
  * fots_recurrence_moments does. Values of RDATE and EXDATE with Z are instants. After errors of the

@@ -352,6 +352,35 @@ static fots_recurrence_result of_text(const char *text, fots_date start, fots_da
     return fots_recurrence_days(text, strlen(text), start, from, days, length);
 }
 
+/* Checks the days of a row by pages of 1, 2 and 3 days, and from its second day on. The days end if
+ * the row has all of them, or else after those of COUNT. */
+static void by_pages(const recurrence *its)
+{
+    const fots_date start = of_number(its->start);
+    const char *count = strstr(its->text, "COUNT=");
+    size_t length = 0;
+    while (length < (size_t)COUNT(its->days) && its->days[length] != 0) {
+        length++;
+    }
+    const int ends = its->ends || (count != NULL && (size_t)atoi(count + strlen("COUNT=")) == length);
+    for (size_t size = 1; size <= 3; size++) {
+        for (size_t first = 0; first < 2; first++) {
+            fots_recurrence_cursor cursor = fots_recurrence_cursor_new(its->text, strlen(its->text)).cursor;
+            const fots_date from = first == 0 ? start : of_number(its->days[first]);
+            size_t written = size;
+            for (size_t index = first; index < length && written == size; index += written) {
+                fots_date page[3];
+                written = fots_recurrence_next_days(its->text, strlen(its->text), start, from, &cursor, page, size).length;
+                check(written == size || (ends && index + written == length), its->text, (long long)index, (long long)written);
+                for (size_t k = 0; k < written && index + k < length; k++) {
+                    check(page[k].julian_day == of_number(its->days[index + k]).julian_day, its->text, (long long)index, page[k].julian_day);
+                }
+                check(written == 0 || cursor.date.julian_day == page[written - 1].julian_day, its->text, cursor.date.julian_day, (long long)written);
+            }
+        }
+    }
+}
+
 /* Checks the text of a row: all days to COUNT, and each one from the day after the previous. */
 static void by_its_text(const recurrence *its)
 {
@@ -403,6 +432,7 @@ static void recurrences_of_the_rfc(void)
     for (int row = 0; row < COUNT(recurrences); row++) {
         const recurrence *its = &recurrences[row];
         by_its_text(its);
+        by_pages(its);
         fots_rule rule = fots_rule_new(of_number(its->start), its->frequency);
         rule.interval = its->interval;
         rule.week_start = its->week_start;
@@ -981,6 +1011,102 @@ static void long_counts(void)
     }
 }
 
+/* A million days by pages of a thousand, and the last one by a first page that skips to it. The
+ * millionth day from 2024-01-01 on is 4761-11-27. */
+static void long_pages(void)
+{
+    static const char text[] = "FREQ=DAILY;COUNT=1000000";
+    static fots_date page[1000];
+    const fots_date start = day(2024, 1, 1), last = day(4761, 11, 27);
+    fots_recurrence_cursor cursor = fots_recurrence_cursor_new(text, strlen(text)).cursor;
+    check(cursor.date.julian_day == FOTS_NO_VALUE && cursor.left == 1000000 && cursor.time == 0, text, cursor.left, 0);
+    for (int32_t first = 0; first < 1000000; first += 1000) {
+        is_written(fots_recurrence_next_days(text, strlen(text), start, start, &cursor, page, 1000), 1000, text);
+        check(page[0].julian_day == start.julian_day + first && page[999].julian_day == start.julian_day + first + 999, text, first, page[0].julian_day);
+        check(cursor.left == (uint32_t)(999000 - first) && cursor.date.julian_day == page[999].julian_day, text, first, cursor.left);
+    }
+    check(page[999].julian_day == last.julian_day, text, page[999].julian_day, last.julian_day);
+    is_written(fots_recurrence_next_days(text, strlen(text), start, start, &cursor, page, 1000), 0, text);
+    cursor = fots_recurrence_cursor_new(text, strlen(text)).cursor;
+    is_written(fots_recurrence_next_days(text, strlen(text), start, last, &cursor, page, 0), 0, text);
+    check(cursor.left == 1 && cursor.date.julian_day == last.julian_day - 1, text, cursor.left, cursor.date.julian_day);
+    is_written(fots_recurrence_next_days(text, strlen(text), start, last, &cursor, page, 1000), 1, text);
+    check(page[0].julian_day == last.julian_day && cursor.left == 0, text, page[0].julian_day, cursor.left);
+}
+
+/* The example of RFC 5545 by pages, with another reading and without one, and in a zone. */
+static void pages_of_readings(void)
+{
+    static const char text[] = "FREQ=DAILY;BYHOUR=9,10,11,12,13,14,15,16;BYMINUTE=0,20,40;COUNT=200", utc[] = "UTC0";
+    const fots_zone zone = fots_zone_from_posix(utc, sizeof utc - 1).zone;
+    const fots_moment more = reading(9, 2, 8, 30), less = reading(9, 2, 9, 20);
+    fots_recurrence_set set = set_of(text, reading(9, 2, 9, 0));
+    set.dates = &more;
+    set.exceptions = &less;
+    set.dates_length = set.exceptions_length = 1;
+    for (uint32_t turn = 0; turn < 6; turn++) {
+        const size_t size = turn / 2 + 1;
+        fots_recurrence_cursor cursor = fots_recurrence_cursor_new(text, strlen(text)).cursor;
+        fots_moment page[3], from = reading(1, 1, 0, 0);
+        size_t written = size;
+        /* The readings without the one that is left out. The first one is the other reading. */
+        for (uint32_t index = 0; written == size; index += (uint32_t)written) {
+            const fots_recurrence_result result = turn % 2 == 0 ? fots_recurrence_next_readings(&set, from, &cursor, page, size)
+                                                               : fots_recurrence_next_moments(&set, &zone, from, &cursor, page, size);
+            written = result.length;
+            check(result.status == FOTS_OK && (written == size || index + written == 200), text, index, (long long)written);
+            for (uint32_t k = 0; k < written; k++) {
+                const uint32_t nth = index + k < 2 ? index + k - 1 : index + k;
+                const fots_moment wanted = index + k == 0 ? more : reading(9, 2 + nth / 24, 9 + nth % 24 / 3, nth % 3 * 20);
+                check(is_moment(page[k], wanted, 0), text, index + k, (long long)page[k].time);
+                from = page[k];
+                from.time += turn % 2 == 0;
+            }
+            check(cursor.left < 200 && cursor.time != 0, text, cursor.left, (long long)cursor.time);
+        }
+        check(cursor.left == 0 && cursor.date.julian_day == reading(9, 10, 0, 0).date.julian_day, text, cursor.left, cursor.date.julian_day);
+    }
+}
+
+/* After an error a cursor is as before. Any numbers of a cursor are valid. */
+static void wrong_cursors(void)
+{
+    static const char utc[] = "UTC0", daily[] = "FREQ=DAILY;COUNT=9";
+    const fots_date start = day(2024, 1, 1);
+    fots_zone zone = fots_zone_from_posix(utc, sizeof utc - 1).zone;
+    fots_date days[9] = {{1}};
+    fots_moment moments[9] = {{{1}, {0}, 0}};
+    const fots_recurrence_cursor before = {{5}, 3, 7};
+    fots_recurrence_cursor cursor = before;
+    const fots_recurrence_cursor_result unread = fots_recurrence_cursor_new("FREQ=DAILY;COUNT=x", 18);
+    check(unread.status == FOTS_INVALID_VALUE && unread.part == FOTS_RULE_COUNT && unread.position == 11, "a cursor of no text", unread.status, (long long)unread.position);
+    check(unread.cursor.date.julian_day == FOTS_NO_VALUE && unread.cursor.left == 0 && unread.cursor.time == 0, "a cursor of no text", unread.cursor.left, 0);
+    const fots_recurrence_cursor_result all = fots_recurrence_cursor_new("FREQ=HOURLY", 11);
+    check(all.status == FOTS_OK && all.part == 0 && all.position == SIZE_MAX && all.cursor.left == UINT32_MAX, "a cursor without COUNT", all.status, all.cursor.left);
+    check(fots_recurrence_next_days("FREQ=X", 6, start, start, &cursor, days, 9).status == FOTS_INVALID_VALUE, "days of no text", 0, 0);
+    check(fots_recurrence_next_days(daily, 18, date_at(FOTS_NO_VALUE), start, &cursor, days, 9).status == FOTS_INVALID_DATE, "days from no start", 0, 0);
+    check(fots_recurrence_next_days(daily, 18, start, date_at(FOTS_NO_VALUE), &cursor, days, 9).status == FOTS_INVALID_DATE, "days from no date", 0, 0);
+    for (int turn = 0; turn < 4; turn++) {
+        const int32_t wanted = turn == 0 ? FOTS_INVALID_ZONE : turn == 1 ? FOTS_INVALID_MOMENT : turn == 2 ? FOTS_TOO_MANY_DATES : FOTS_UNKNOWN_PART;
+        fots_recurrence_set set = set_of(daily, reading(1, 1, turn == 0 ? 9 : 24, 0));
+        zone.bytes_length = 0;
+        set.dates_length = turn > 1 ? FOTS_MAX_DATES + 1 : 0;
+        set.text_length = turn == 3 ? 0 : set.text_length;
+        check(turn == 0 || fots_recurrence_next_readings(&set, reading(1, 1, 0, 0), &cursor, moments, 9).status == wanted, "readings of no set", turn, wanted);
+        check(fots_recurrence_next_moments(&set, &zone, reading(1, 1, 0, 0), &cursor, moments, 9).status == wanted, "moments of no set", turn, wanted);
+    }
+    check(memcmp(&cursor, &before, sizeof cursor) == 0 && days[0].julian_day == 1 && moments[0].date.julian_day == 1, "after errors", cursor.left, days[0].julian_day);
+    /* Nothing is counted up to no date. */
+    cursor.date.julian_day = FOTS_MAX_JULIAN_DAY + 1;
+    is_written(fots_recurrence_next_days(daily, 18, start, start, &cursor, days, 9), 3, "no date");
+    check(days[0].julian_day == start.julian_day && cursor.left == 0 && cursor.time == 0, "no date", days[0].julian_day, cursor.left);
+    fots_recurrence_set set = set_of(daily, reading(1, 1, 9, 0));
+    cursor = before;
+    cursor.time = UINT64_MAX;
+    is_written(fots_recurrence_next_readings(&set, reading(1, 1, 0, 0), &cursor, moments, 9), 3, "no time");
+    check(is_moment(moments[2], reading(1, 3, 9, 0), 0) && cursor.left == 0, "no time", moments[2].date.julian_day, cursor.left);
+}
+
 /* Every seventh day from a Saturday is no Monday, so only the other days are left. A search for a
  * Monday takes as long as many thousand steps, and isn't made again for each of them. */
 static void rule_without_days(void)
@@ -1117,6 +1243,9 @@ int main(void)
     hours();
     times_in_zones();
     long_counts();
+    long_pages();
+    pages_of_readings();
+    wrong_cursors();
     rule_without_days();
     time_errors();
     invalid_dates();

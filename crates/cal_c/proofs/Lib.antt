@@ -19,6 +19,7 @@ pub mod IntervalErrors
 pub mod Recurring
 pub mod RuleSets
 pub mod Walks
+pub mod PassedDays
 pub mod OneAnswer
 pub mod ZoneResults
 pub mod ZoneTexts

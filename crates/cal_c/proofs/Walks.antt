@@ -1,28 +1,10 @@
--- The days of a recurrence from a date on: the days of an iterator that are not before it, and the
--- days of a rule after the previous day.
-use Rattle.std.proofs.Common.{◌≡◌, refl, ℕ, zero, suc, ◌+◌, ◌-◌, ◌<◌, ◌≤◌, ap, ◌∙◌, sym, arith, Bool, true, false, List, [], ◌∷◌, filter, nat_le, cond}
+-- The days of a rule from a date on are its days after the previous day.
+use Rattle.std.proofs.Common.{◌≡◌, refl, ℕ, zero, suc, ◌+◌, ◌-◌, ◌<◌, ◌≤◌, ap, ◌∙◌, arith, Bool, true, false, List, [], ◌∷◌, filter, nat_le}
 use Rattle.std.proofs.lemmas.Bool.Decides.{nat_tests}
-use Rattle.std.specs.Ordering.{is_le, nat_cmp}
 use Rattle.cal_time.specs.Date.{last_day}
 use Rattle.cal_time.specs.Occurrences.{days_from}
 use Rattle.cal_schedule.specs.Rule.{occurrences_after, occurrences, is_occurrence}
 use Rattle.cal_schedule.specs.declared.rule.rule.Rule.{Rule}
-
-is_le-nat_le : (a b : ℕ) → is_le (nat_cmp a b) ≡ nat_le a b
-is_le-nat_le a b = grind (arith, nat_tests)
-
--- what the filter makes of the next day
-filtered : (p : ℕ → Bool) (walk rest : List ℕ) (day : ℕ) (b : Bool) → walk ≡ day ∷ rest → p day ≡ b
-    → filter p walk ≡ cond b (day ∷ filter p rest) (filter p rest)
-filtered p walk rest day b e q = ap (filter p) e ∙ ap (λ t. cond t (day ∷ filter p rest) (filter p rest)) q
-
-pub taken : (from : ℕ) (walk rest : List ℕ) (day : ℕ) → walk ≡ day ∷ rest → is_le (nat_cmp from day) ≡ true
-    → filter (nat_le from) walk ≡ day ∷ filter (nat_le from) rest
-taken from walk rest day e late = filtered (nat_le from) walk rest day true e (sym (is_le-nat_le from day) ∙ late)
-
-pub left_out : (from : ℕ) (walk rest : List ℕ) (day : ℕ) → walk ≡ day ∷ rest → is_le (nat_cmp from day) ≡ false
-    → filter (nat_le from) walk ≡ filter (nat_le from) rest
-left_out from walk rest day e early = filtered (nat_le from) walk rest day false e (sym (is_le-nat_le from day) ∙ early)
 
 -- two filters, in either order
 commute-at : (p q : ℕ → Bool) (x : ℕ) (xs : List ℕ) (a b : Bool) → p x ≡ a → q x ≡ b → filter p (filter q xs) ≡ filter q (filter p xs)
@@ -32,12 +14,12 @@ commute-at p q x xs true false e f ih = rw (e, f) ih
 commute-at p q x xs false true e f ih = rw (e, f) (rw e ih)
 commute-at p q x xs false false e f ih = rw (e, f) ih
 
-filters_commute : (p q : ℕ → Bool) (xs : List ℕ) → filter p (filter q xs) ≡ filter q (filter p xs)
+pub filters_commute : (p q : ℕ → Bool) (xs : List ℕ) → filter p (filter q xs) ≡ filter q (filter p xs)
 filters_commute p q [] = refl
 filters_commute p q (x ∷ xs) = commute-at p q x xs (p x) (q x) refl refl (filters_commute p q xs)
 
 -- of days one after the other, those that do not come before day k
-all_late : (k n count : ℕ) → k ≤ n → filter (nat_le k) (days_from n count) ≡ days_from n count
+pub all_late : (k n count : ℕ) → k ≤ n → filter (nat_le k) (days_from n count) ≡ days_from n count
 unfolding days_from
 all_late k n zero h = refl
 all_late k n (suc count) h =
@@ -48,7 +30,7 @@ first_early : (k n count : ℕ) → n < k → filter (nat_le k) (days_from n (su
 unfolding days_from
 first_early k n count h = let early : nat_le k n ≡ false = grind (arith, nat_tests) in rw early refl
 
-late_days : (d k n count : ℕ) → k ≡ n + d → filter (nat_le k) (days_from n (d + count)) ≡ days_from k count
+pub late_days : (d k n count : ℕ) → k ≡ n + d → filter (nat_le k) (days_from n (d + count)) ≡ days_from k count
 late_days zero k n count e =
     let start : n ≡ k = omega arith in
     let all : zero + count ≡ count = omega arith in

@@ -12,6 +12,7 @@ pub mod IsoColumns
 pub mod RecurrenceTexts
 pub mod Recurrences
 pub mod RecurrenceParts
+pub mod RecurrenceCursors
 pub mod CheckedWorkdays
 pub mod SortedDates
 pub mod Zones

@@ -63,14 +63,17 @@ pub record AreReadingsWritten (zs : List ℤ) (old new : List Moment) (count : �
 abbrev pub IsZoneOf : List ℕ → Timeline → Type 0
 IsZoneOf bytes z = IsFile bytes z ⊎ (IsPosix bytes z × ((y : Timeline) → IsFile bytes y → ⊥))
 
--- The set has the readings of the recurrence in this zone, and its rule ends at the instant of an
--- UNTIL at UTC.
-pub record IsZonedSetOf (its : Recurrence) (p : TextSet) (z : Timeline) (set : ZonedSet) : Type 0 where
-  pub readings : IsSetOf its p (last_local its (local_in p.start) its.end) set.readings
+-- The set has the readings of the recurrence up to a last one in this zone, and its rule ends at the
+-- instant of an UNTIL at UTC.
+pub record IsZonedSetTo (its : Recurrence) (p : TextSet) (z : Timeline) (last : Option ℤ) (set : ZonedSet) : Type 0 where
+  pub readings : IsSetOf its p last set.readings
   pub zone : set.zone.now ≡ z
   pub until : set.until ≡ last_instant its.end
   pub instants : set.instants.now ≡ []
   pub exceptions : set.exceptions.now ≡ []
+
+abbrev pub IsZonedSetOf : Recurrence → TextSet → Timeline → ZonedSet → Type 0
+IsZonedSetOf its p z set = IsZonedSetTo its p z (last_local its (local_in p.start) its.end) set
 
 -- The instant before the moment with an index: that of the moment written before it, or x.
 abbrev pub before : ℤ → List Moment → ℕ → ℤ

@@ -8,12 +8,14 @@ ghost use Rattle.cal_c.specs.Recurrences.{days_ok, days_error, AreDatesWritten, 
 ghost use Rattle.cal_c.specs.Results.{date_or_out_of_range, date_error, number_ok, number_error};
 ghost use Rattle.cal_c.specs.Values.{IsJulianDay, day_of};
 
+mod cursor;
 mod days;
 mod formatting;
 mod laws;
 mod lists;
 pub(super) mod moments;
 mod months;
+mod pages;
 mod parsing;
 pub(super) mod readings;
 mod recurrence_parts;

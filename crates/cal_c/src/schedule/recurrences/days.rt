@@ -1,6 +1,7 @@
 //! The days of recurrences in text.
-ghost use Rattle.std.specs.Prelude.{◌≡◌, Err, List, Ok, false, filter, nat_le, ℕ};
-ghost use Rattle.cal_recurrence.specs.Days.{days_of, up_to_end};
+ghost use Rattle.std.specs.Prelude.{◌≡◌, Err, Ok, drop, filter, nat_le};
+ghost use Rattle.cal_recurrence.specs.Cursors.{days_left};
+ghost use Rattle.cal_recurrence.specs.Days.{days_of};
 ghost use Rattle.cal_recurrence.specs.Text.{day_recurrence_of};
 ghost use Rattle.cal_recurrence.specs.declared.fault.ParseRuleError.{ParseRuleError};
 ghost use Rattle.cal_recurrence.specs.declared.recurrence.Recurrence.{Recurrence};
@@ -9,11 +10,10 @@ ghost use Rattle.cal_c.specs.Recurrences.{AreDatesWritten};
 ghost use Rattle.cal_c.specs.Values.{IsJulianDay, day_of};
 
 use super::results::RecurrenceResult;
-use super::write_days;
 use crate::status::INVALID_DATE;
 use crate::values::valid_date;
-use cal_recurrence::{Recurrence, RecurrenceSet, RuleEnd, parse_days};
-use cal_schedule::RuleDays;
+use cal_recurrence::{DayCursor, Recurrence, parse_days};
+use cal_schedule::Rule;
 use cal_time::Date;
 
 /// Writes the days of a recurrence in text with this start, from the date `from` on, in ascending
@@ -46,47 +46,60 @@ pub extern "C" fn fots_recurrence_days(
     RecurrenceResult::ok(write_days_from(&recurrence, start, from, days))
 }
 
-/// Returns `true` if the recurrence ends after a number of days.
-fn is_counted(recurrence: &Recurrence) -> bool
-    ensures { result ≡ false → (days : List ℕ) → up_to_end recurrence.now.end days ≡ days }
-{
-    matches!(recurrence.end, RuleEnd::Count(_))
-}
-
 /// Writes the days of a recurrence from a date on, as many as fit, and returns their number.
 fn write_days_from(recurrence: &Recurrence, start: Date, from: Date, days: &mut [i32]) -> usize
     ensures { AreDatesWritten (filter (nat_le from) (days_of recurrence.now start))
         days.old days.new result }
 {
-    if is_counted(recurrence) {
-        return write_late(recurrence.days(start), from, days);
+    let mut cursor = recurrence.day_cursor();
+    write_page(&mut cursor, &recurrence.rule(start), from, days)
+}
+
+/// More days than the range has. So a cursor with so many days left leaves all the days of the rule
+/// after the last one that is counted.
+const ALL_DAYS: u32 = 1 << 30;
+
+/// Counts the days of a rule before a date, or passes over them if a cursor leaves them all.
+fn skip_to(cursor: &mut DayCursor, rule: &Rule, from: Date)
+    ensures { days_left rule.now cursor.new ≡ filter (nat_le from) (days_left rule.now cursor.old) }
+{
+    if cursor.left < ALL_DAYS {
+        cursor.skip_to(rule, from);
+        return;
     }
-    match from.previous_day() {
-        Some(before) => {
-            let set = RecurrenceSet {
-                rule: recurrence.rule(start),
-                dates: &[],
-                exceptions: &[],
-            };
-            write_days(&set, before, days)
-        }
-        None => write_late(recurrence.days(start), from, days),
+    let Some(before) = from.previous_day() else {
+        return;
+    };
+    let is_past = match cursor.last {
+        Some(last) => last < before,
+        None => true,
+    };
+    if is_past {
+        cursor.last = Some(before);
     }
 }
 
-/// Writes the days of an iterator from a date on, as many as fit, and returns their number.
-fn write_late(mut walk: RuleDays, from: Date, days: &mut [i32]) -> usize
-    ensures { AreDatesWritten (filter (nat_le from) walk) days.old days.new result }
+/// Writes the days that a cursor leaves, as many as fit, and returns their number.
+fn write_left(cursor: &mut DayCursor, rule: &Rule, days: &mut [i32]) -> usize
+    ensures written { AreDatesWritten (days_left rule.now cursor.old) days.old days.new result }
+    ensures others { days_left rule.now cursor.new ≡ drop result (days_left rule.now cursor.old) }
 {
-    let mut index = 0;
-    while index < days.len() {
-        let Some(day) = walk.next() else {
+    for index in 0..days.len() {
+        let Some(day) = cursor.next_day(rule) else {
             return index;
         };
-        if from <= day {
-            days[index] = day.to_julian_day();
-            index += 1;
-        }
+        days[index] = day.to_julian_day();
     }
-    index
+    days.len()
+}
+
+/// Writes the days that a cursor leaves from a date on, as many as fit, and returns their number.
+pub(super) fn write_page(cursor: &mut DayCursor, rule: &Rule, from: Date, days: &mut [i32]) -> usize
+    ensures written { AreDatesWritten (filter (nat_le from) (days_left rule.now cursor.old))
+        days.old days.new result }
+    ensures others { days_left rule.now cursor.new
+        ≡ drop result (filter (nat_le from) (days_left rule.now cursor.old)) }
+{
+    skip_to(cursor, rule, from);
+    write_left(cursor, rule, days)
 }

@@ -109,7 +109,8 @@ pub(crate) fn write_moments(
     after: OffsetDateTime,
     moments: &mut [Moment],
 ) -> usize
-    ensures { AreMomentsWritten set.old (instant after) moments.old moments.new result }
+    ensures written { AreMomentsWritten set.old (instant after) moments.old moments.new result }
+    ensures same { set.new ≡ set.old }
 {
     let mut last = after;
     for index in 0..moments.len() {

@@ -18,7 +18,7 @@ use crate::results::Moment;
 use crate::status::INVALID_MOMENT;
 use crate::values::nanoseconds_since_midnight;
 use cal_datetime::PlainDateTime;
-use cal_recurrence::{DateTimeSetReadings, parse};
+use cal_recurrence::{CountedSet, DateTimeSetReadings, parse};
 
 /// Writes the readings of a recurrence in text with times of day, from a reading on, in ascending
 /// order, as many as fit in the array, as moments at the offset 0. Returns their number. The rest
@@ -55,7 +55,7 @@ pub extern "C" fn fots_recurrence_readings(
 }
 
 /// Returns a reading as a moment at the offset 0.
-fn utc_moment(reading: PlainDateTime) -> Moment
+pub(super) fn utc_moment(reading: PlainDateTime) -> Moment
     ensures { result ≡ utc_moment reading }
 {
     Moment {
@@ -74,6 +74,26 @@ pub(crate) fn write_readings(mut walk: DateTimeSetReadings<'_>, readings: &mut [
             return index;
         };
         readings[index] = utc_moment(reading);
+    }
+    readings.len()
+}
+
+/// Writes the readings of a set from a reading on, as many as fit, and returns their number.
+pub(super) fn write_from(
+    set: &mut CountedSet<'_>,
+    from: PlainDateTime,
+    readings: &mut [Moment],
+) -> usize
+    ensures written { AreReadingsWritten (set_readings_from set.old from) readings.old readings.new result }
+    ensures same { set.new ≡ set.old }
+{
+    let mut next = set.first_from(from);
+    for index in 0..readings.len() {
+        let Some(reading) = next else {
+            return index;
+        };
+        readings[index] = utc_moment(reading);
+        next = set.next_after(reading);
     }
     readings.len()
 }

@@ -42,6 +42,6 @@ returns c =
             c.args.moments.now c.write_moments.new.moments c.write_moments.result c.ok.result c.in-Some.ensures.0 c.in-Some.ensures.1 c.in-Some-zone_of.ensures.some one
             c.in-Ok-instants.ensures
             (record { zone = made.zone; rule = made.rule; dates = made.dates; without = made.readings; until = made.until; instants = made.instants; exceptions = made.exceptions })
-            c.write_moments.ensures c.ok.ensures,
+            c.write_moments.ensures.written c.ok.ensures,
       ),
     )

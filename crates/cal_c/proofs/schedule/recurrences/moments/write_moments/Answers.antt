@@ -8,8 +8,8 @@ use Rattle.cal_c.proofs.Recurring.{kept_more, written_more}
 use Rattle.cal_c.proofs.WrittenMoments.{before-next, moments_more}
 use Rattle.cal_c.proofs.schedule.recurrences.moments.write_moments.Goals as goal
 
-pub returns-in_default : goal.returns-in_default
-returns-in_default c =
+pub returns-in_default-clause-written : goal.returns-in_default-clause-written
+returns-in_default-clause-written c =
     let kept = c.loop-index.invariant in
     let x = instant c.args.after in
     record {
