@@ -1100,6 +1100,9 @@ private:
     }
 };
 
+// How far a recurrence is counted, for its next page: plain numbers, which you can keep.
+using RecurrenceCursor = fots_recurrence_cursor;
+
 // The text of a rule in RFC 5545, such as "FREQ=MONTHLY;BYDAY=-1FR;COUNT=12".
 class Recurrence {
 public:
@@ -1161,10 +1164,19 @@ public:
     // Returns the first of these days that are not before `from`.
     std::vector<Date> days_from(Date start, Date from, std::size_t count) const
     {
+        RecurrenceCursor first = cursor();
+        return next_days(start, from, count, first);
+    }
+
+    // Returns the cursor for a first page.
+    RecurrenceCursor cursor() const { return detail::recurrence_or_throw(fots_recurrence_cursor_new(text_.data(), text_.size())).cursor; }
+    // Returns the first days that a cursor leaves, in the same way, and counts them. Pass the cursor with the same dates for the next page.
+    std::vector<Date> next_days(Date start, Date from, std::size_t count, RecurrenceCursor &cursor) const
+    {
         // At least one, so that data() is not null.
         std::vector<fots_date> room(std::max(count, std::size_t{1}));
         const fots_recurrence_result written = detail::recurrence_or_throw(
-            fots_recurrence_days(text_.data(), text_.size(), start.c(), from.c(), room.data(), count));
+            fots_recurrence_next_days(text_.data(), text_.size(), start.c(), from.c(), &cursor, room.data(), count));
         return detail::first_dates(room, written.length);
     }
 
@@ -1879,21 +1891,34 @@ public:
     // Returns the first readings that are not before one: `count` of them, or fewer if no more follow. Allocates room for `count`.
     std::vector<PlainDateTime> readings_from(PlainDateTime from, std::size_t count) const
     {
+        RecurrenceCursor first = recurrence.cursor();
+        return next_readings(from, count, first);
+    }
+    // Returns the first moments of these readings in a zone that are after one, in the same way. In a gap or a fold a reading means Policy::Compatible.
+    std::vector<OffsetDateTime> moments_after(const Zone &zone, OffsetDateTime after, std::size_t count) const
+    {
+        RecurrenceCursor first = recurrence.cursor();
+        return next_moments(zone, after, count, first);
+    }
+
+    // Return the same, with a cursor that holds what is counted of COUNT. For the next page pass the cursor, and a nanosecond after the last
+    // reading, or the last moment.
+    std::vector<PlainDateTime> next_readings(PlainDateTime from, std::size_t count, RecurrenceCursor &cursor) const
+    {
         std::vector<PlainDateTime> readings;
         for (const fots_moment found : written(count, [&](const fots_recurrence_set *set, fots_moment *room) {
-                 return fots_recurrence_readings(set, from.assume_utc().c(), room, count);
+                 return fots_recurrence_next_readings(set, from.assume_utc().c(), &cursor, room, count);
              })) {
             readings.emplace_back(Date(found.date, {}), Time(found.time, {}));
         }
         return readings;
     }
-    // Returns the first moments of these readings in a zone that are after one, in the same way. In a gap or a fold a reading means Policy::Compatible.
-    std::vector<OffsetDateTime> moments_after(const Zone &zone, OffsetDateTime after, std::size_t count) const
+    std::vector<OffsetDateTime> next_moments(const Zone &zone, OffsetDateTime after, std::size_t count, RecurrenceCursor &cursor) const
     {
         const fots_zone held = zone.c();
         std::vector<OffsetDateTime> moments;
         for (const fots_moment found : written(count, [&](const fots_recurrence_set *set, fots_moment *room) {
-                 return fots_recurrence_moments(set, &held, after.c(), room, count);
+                 return fots_recurrence_next_moments(set, &held, after.c(), &cursor, room, count);
              })) {
             moments.push_back(OffsetDateTime(found, {}));
         }

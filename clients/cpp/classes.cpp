@@ -312,6 +312,12 @@ void recurrences()
     check(by_text.days(start, 9) == mondays.first_days(6) && by_text.days(start, 2) == mondays.first_days(2), "by its text");
     check(by_text.days_from(start, Date::parse("1998-01-01"), 9) == dates({"1998-01-19", "1998-02-16"}), "from a day on");
     check(by_text.days(start, 0).empty() && by_text.days_from(start, Date::max(), 9).empty(), "none of them");
+    RecurrenceCursor cursor = by_text.cursor();
+    check(by_text.next_days(start, start, 4, cursor) == dates({"1997-09-22", "1997-10-20", "1997-11-17", "1997-12-22"}), "a first page");
+    const RecurrenceCursor kept = cursor;
+    check(by_text.next_days(start, start, 4, cursor) == dates({"1998-01-19", "1998-02-16"}) && by_text.next_days(start, start, 4, cursor).empty(), "a last page");
+    cursor = {kept.date, kept.left, kept.time};
+    check(by_text.next_days(start, Date::parse("1998-02-01"), 4, cursor) == dates({"1998-02-16"}), "a page from a day on");
     has_no_room([&] { by_text.days(start, SIZE_MAX); }, "room for too many days of a recurrence");
     check(by_text.rule(start).next_after(Date::parse("1998-02-16")) == Date::parse("1998-03-23") && by_text.rule(start).contains(start), "its rule");
     check(by_text.count() == 6 && !by_text.until() && by_text.interval() == 1 && by_text.frequency() == Frequency::Monthly, "its parts");
@@ -645,6 +651,13 @@ void times_of_day()
     check(moments.size() == 3 && moments[0].local() == nights.start && moments[1].local() == at("2024-03-31", 3, 30)
         && moments[1].offset() == UtcOffset::from_hms(2, 0, 0) && moments[2].local() == at("2024-04-01", 2, 30), "in Berlin");
     check(nights.moments_after(berlin, moments[1], 9) == std::vector<OffsetDateTime>{moments[2]} && nights.moments_after(berlin, moments[2], 9).empty(), "after one");
+    nights.recurrence = Recurrence::parse("FREQ=DAILY;BYHOUR=2,3;COUNT=5");
+    RecurrenceCursor cursor = nights.recurrence.cursor();
+    check(nights.next_readings(nights.start, 2, cursor) == std::vector<PlainDateTime>{nights.start, at("2024-03-31", 2, 30)}, "a first page");
+    check(nights.next_readings(at("2024-03-31", 2, 31), 2, cursor) == std::vector<PlainDateTime>{at("2024-04-01", 2, 30)}, "a last page");
+    cursor = nights.recurrence.cursor();
+    check(nights.next_moments(berlin, at("2024-01-01", 0, 0).assume_utc(), 2, cursor) == std::vector<OffsetDateTime>{moments[0], moments[1]}
+        && nights.next_moments(berlin, moments[1], 2, cursor) == std::vector<OffsetDateTime>{moments[2]}, "pages in Berlin");
     nights.dates.assign(FOTS_MAX_DATES + 1, nights.start);
     throws([&] { nights.readings_from(nights.start, 1); }, FOTS_TOO_MANY_DATES, "too many dates", "too many readings");
 }
