@@ -361,6 +361,12 @@ static PyObject *parts_of_recurrence(const State *state, const fots_recurrence *
         LIST(weekdays), LIST(set_positions));
 }
 
+static PyObject *tuple_of_cursor(fots_recurrence_cursor cursor)
+{
+    return Py_BuildValue("iIK", cursor.date.julian_day, (unsigned)cursor.left,
+        (unsigned long long)cursor.time);
+}
+
 /* A function that makes a value of what was parsed, or raises its error. */
 #define OF_PARSED(name, type, part, value) \
     static PyObject *of_##name(const State *state, fots_##type##_result result) \
@@ -389,6 +395,7 @@ OF_PARSED(parse_repeated_pairs, parse_repeated_pairs, 0, Py_BuildValue("NNI",
     NEW_PLAIN(start), new_period(state, result.period), (unsigned)result.count))
 OF_PARSED(parse_recurrence, parse_recurrence, result.part,
     parts_of_recurrence(state, &result.recurrence))
+OF_PARSED(recurrence_cursor, recurrence_cursor, result.part, tuple_of_cursor(result.cursor))
 OF_PARSED(recurrence_text, recurrence_text, result.part,
     PyUnicode_FromStringAndSize(result.bytes, (Py_ssize_t)result.length))
 

@@ -70,28 +70,52 @@ static PyObject *core_calendar_holidays(PyObject *self, PyObject *const *given, 
         list_of_date(state, holidays, (size_t)result.number);
 }
 
-/* Returns the first days of a recurrence with a start from a day on. */
+/* Converts a cursor, which is a tuple of its numbers. */
+static int to_cursor(PyObject *tuple, fots_recurrence_cursor *cursor)
+{
+    unsigned long long time;
+    if (!PyTuple_Check(tuple)) {
+        PyErr_SetString(PyExc_TypeError, "expected a RecurrenceCursor");
+        return 0;
+    }
+    if (!PyArg_ParseTuple(tuple, "iIK", &cursor->date.julian_day, &cursor->left, &time)) {
+        return 0;
+    }
+    cursor->time = time;
+    return 1;
+}
+
+/* Returns a page and its cursor, or NULL without the page. */
+static PyObject *page_of(PyObject *values, const fots_recurrence_cursor *cursor)
+{
+    return values == NULL ? NULL : Py_BuildValue("NN", values, tuple_of_cursor(*cursor));
+}
+
+/* Returns the first days that a cursor leaves of a recurrence with a start from a day on, and the
+ * cursor after them. */
 static PyObject *core_recurrence_days(PyObject *self, PyObject *const *given, Py_ssize_t count)
 {
     const State *state = state_of_module(self);
     Text text = {NULL, NULL, 0};
     fots_date start, from, days[AT_MOST];
+    fots_recurrence_cursor cursor;
     size_t length;
-    if (!is_count("recurrence_days", count, 4) || !to_date(state, given[1], &start) ||
+    if (!is_count("recurrence_days", count, 5) || !to_date(state, given[1], &start) ||
         !to_date(state, given[2], &from) || !to_length(given[3], &length) ||
-        !to_text(state, given[0], &text)) {
+        !to_cursor(given[4], &cursor) || !to_text(state, given[0], &text)) {
         return NULL;
     }
     fots_recurrence_result result =
-        fots_recurrence_days(text.start, text.length, start, from, days, length);
+        fots_recurrence_next_days(text.start, text.length, start, from, &cursor, days, length);
     Py_XDECREF(text.bytes);
     return result.status ?
         raise_position(state, result.status, result.position, result.part) :
-        list_of_date(state, days, result.length);
+        page_of(list_of_date(state, days, result.length), &cursor);
 }
 
 /* Takes a set, which is a tuple of a text, a start, and two lists as bytes, a zone or None, and a
- * reading. Returns the readings from that one on, or with a zone the moments after a moment. */
+ * reading. Returns the readings from that one on, or with a zone the moments after a moment, and the
+ * cursor after them. */
 static PyObject *core_recurrence_times(PyObject *self, PyObject *const *given, Py_ssize_t count)
 {
     const State *state = state_of_module(self);
@@ -99,8 +123,10 @@ static PyObject *core_recurrence_times(PyObject *self, PyObject *const *given, P
     fots_recurrence_set set;
     fots_zone zone;
     fots_moment first, times[AT_MOST];
+    fots_recurrence_cursor cursor;
     size_t length;
-    if (!is_count("recurrence_times", count, 4) || !to_length(given[3], &length) ||
+    if (!is_count("recurrence_times", count, 5) || !to_length(given[3], &length) ||
+        !to_cursor(given[4], &cursor) ||
         !PyArg_ParseTuple(given[0], "s#Oy#y#", &set.text, &set.text_length, &start, &set.dates,
             &set.dates_length, &set.exceptions, &set.exceptions_length)) {
         return NULL;
@@ -113,8 +139,9 @@ static PyObject *core_recurrence_times(PyObject *self, PyObject *const *given, P
     set.dates_length /= sizeof *set.dates;
     set.exceptions_length /= sizeof *set.exceptions;
     fots_recurrence_result result = is_plain ?
-        fots_recurrence_readings(&set, first, times, length) :
-        fots_recurrence_moments(&set, &zone, first, times, length);
+        fots_recurrence_next_readings(&set, first, &cursor, times, length) :
+        fots_recurrence_next_moments(&set, &zone, first, &cursor, times, length);
     return result.status ? raise_status(state, result.status) :
-        list_of_moment(is_plain ? state->plain : state->moment, times, result.length);
+        page_of(list_of_moment(is_plain ? state->plain : state->moment, times, result.length),
+            &cursor);
 }

@@ -36,7 +36,7 @@ from .arrow import ArrowColumn
 from .calls import *
 from .events import Event, Recurrences
 from .formats import Format
-from .schedules import DateRange, Days, Recurrence, Rule, Steps, Workdays
+from .schedules import DateRange, Days, Recurrence, RecurrenceCursor, Rule, Steps, Workdays
 from .strings import dates_to_strings, instants_to_strings, strings_to_dates, strings_to_instants
 from .zones import Local, Zone, ZonedDateTime
 
@@ -44,7 +44,7 @@ __version__ = "0.2.0"
 
 __all__ = [
     "ArrowColumn", "ComponentRange", "ContradictionError", "DateRange", "Days", "Event", "EventError", "Format", "FormatError",
-    "IsoCalendarDate", "Local", "Month", "ParseError", "ParseRuleError", "ParseRuleErrorKind", "Recurrence", "Recurrences", "Rule", "Steps", "Weekday",
+    "IsoCalendarDate", "Local", "Month", "ParseError", "ParseRuleError", "ParseRuleErrorKind", "Recurrence", "RecurrenceCursor", "Recurrences", "Rule", "Steps", "Weekday",
     "Workdays", "YearFraction", "Zone", "ZonedDateTime", "ZoneError", "dates_to_strings",
     "instants_to_strings", "status_error", "strings_to_dates", "strings_to_instants",
 ]

@@ -5,13 +5,20 @@ from __future__ import annotations
 import dataclasses
 import functools
 import re
-from collections.abc import Iterator
+from collections.abc import Callable, Iterator
+from typing import Any
 
 from . import _core
 from ._core import Date, OffsetDateTime, PlainDateTime, UtcOffset
 from .errors import check
 from .schedules import _NANOSECOND, _pages
 from .zones import Zone
+
+
+def _event_pages(page: Callable[..., list[Any]], follow: Callable[[Any], Any], first: Any
+                 ) -> Iterator[Any]:
+    """Iterates over pages like `_pages`, without a cursor."""
+    return _pages(lambda low, length, cursor: (page(low, length), cursor), follow, first)
 
 
 @dataclasses.dataclass(frozen=True, slots=True)
@@ -62,14 +69,14 @@ class Event:
     def days(self, since: Date | None = None) -> Iterator[Date]:
         """Iterates over the days of an event of dates, in order, without those before `since`."""
         days = functools.partial(_core.event_days, self.lines)
-        return _pages(days, Date.next_day, Date.MIN if since is None else check(since, Date))
+        return _event_pages(days, Date.next_day, Date.MIN if since is None else check(since, Date))
 
     def readings(self, since: PlainDateTime | None = None) -> Iterator[PlainDateTime]:
         """Iterates over the local times of an event of times, in order, without those before
         `since`. If `DTSTART` has a `Z`, they are times in UTC."""
         times = functools.partial(_core.event_times, self.lines, None)
         first = PlainDateTime.MIN if since is None else check(since, PlainDateTime)
-        return _pages(times, lambda last: last.checked_add(_NANOSECOND), first)
+        return _event_pages(times, lambda last: last.checked_add(_NANOSECOND), first)
 
     def moments(self, zone: Zone | None = None, since: OffsetDateTime | None = None
                 ) -> Iterator[OffsetDateTime]:
@@ -89,7 +96,7 @@ class Event:
         times = functools.partial(_core.event_times, self.lines, check(zone, Zone)._zone)
         first = PlainDateTime.MIN.assume_offset(UtcOffset(25, 59, 59))
         low = first if since is None else check(since, OffsetDateTime)
-        pages = _pages(times, lambda last: last, low.checked_sub(_NANOSECOND) or first)
+        pages = _event_pages(times, lambda last: last, low.checked_sub(_NANOSECOND) or first)
         return (one for one in pages if one >= low)
 
 

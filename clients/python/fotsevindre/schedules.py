@@ -11,7 +11,7 @@ import operator
 import re
 import struct
 from collections.abc import Callable, Collection, Iterable, Iterator, Sequence
-from typing import Any, SupportsIndex, TypeGuard, TypeVar, overload
+from typing import Any, NamedTuple, SupportsIndex, TypeGuard, TypeVar, overload
 
 from . import _core
 from ._core import Date, OffsetDateTime, Period, PlainDateTime, Time, UtcOffset
@@ -32,16 +32,21 @@ _Readings = Iterable[PlainDateTime]
 _S = TypeVar("_S", Date, PlainDateTime, ZonedDateTime)
 
 
-def _pages(page: Callable[[Any, int], list[Any]], follow: Callable[[Any], Any], first: Any
-           ) -> Iterator[Any]:
+def _pages(page: Callable[..., tuple[list[Any], Any]], follow: Callable[[Any], Any], first: Any,
+           cursor: Any = None) -> Iterator[Any]:
     """Iterates over what a function returns, from the first or what follows, on longer and longer
-    pages: the function counts a `COUNT` from the start each time."""
+    pages, with a cursor that each page has for the next one."""
     length = 64
     while first is not None:
-        values = page(first, length)
+        values, cursor = page(first, length, cursor)
         yield from values
         first = follow(values[-1]) if len(values) == length else None
         length = min(2 * length, 4096)
+
+
+def _earliest() -> OffsetDateTime:
+    """Returns the first instant of the range."""
+    return PlainDateTime.MIN.assume_offset(UtcOffset(25, 59, 59))
 
 
 def _packed(readings: _Readings) -> bytes:
@@ -338,8 +343,10 @@ class Rule:
 
     def days_after(self, date: Date) -> Iterator[Date]:
         """Iterates over the days of the rule after the day, in order."""
-        days = functools.partial(_core.rule_days_after, self._parts)
-        return _pages(days, lambda last: last, check(date, Date))
+        def page(last: Date, length: int, cursor: None) -> tuple[list[Date], None]:
+            return _core.rule_days_after(self._parts, last, length), cursor
+
+        return _pages(page, lambda last: last, check(date, Date))
 
     def first_days(self, count: SupportsIndex) -> list[Date]:
         """Returns the first `count` days of the rule."""
@@ -356,6 +363,16 @@ class Rule:
         while day is not None:
             yield day
             day = self.previous_before(day)
+
+
+class RecurrenceCursor(NamedTuple):
+    """How far a recurrence is counted, for its next page: plain numbers, which you can keep. They
+    are the Julian day and the nanoseconds since midnight of the last day or local time that is
+    counted, and the maximum number of those after it."""
+
+    date: int
+    left: int
+    time: int
 
 
 @dataclasses.dataclass(frozen=True)
@@ -463,7 +480,50 @@ class Recurrence:
     def days_from(self, start: Date, date: Date) -> Iterator[Date]:
         """Iterates over the days from a start, without the days before the date."""
         days = functools.partial(_core.recurrence_days, self.text, check(start, Date))
-        return _pages(days, Date.next_day, check(date, Date))
+        return _pages(days, Date.next_day, check(date, Date), self.cursor())
+
+    def cursor(self) -> RecurrenceCursor:
+        """Returns the cursor for a first page."""
+        return RecurrenceCursor(*_core.recurrence_cursor_new(self.text))
+
+    def next_days(self, cursor: RecurrenceCursor, length: int, start: Date,
+                  since: Date | None = None) -> tuple[list[Date], RecurrenceCursor]:
+        """Returns the first days that a cursor leaves, without those before `since`, and the cursor
+        for the next page. A page has at most 4096 days, and fewer than `length` if no more follow.
+
+        >>> daily, start = Recurrence.parse("FREQ=DAILY;COUNT=3"), Date(2024, 2, 28)
+        >>> page, cursor = daily.next_days(daily.cursor(), 2, start)
+        >>> page, cursor
+        ([Date(2024, 2, 28), Date(2024, 2, 29)], RecurrenceCursor(date=2460370, left=1, time=0))
+        >>> daily.next_days(cursor, 2, start)[0]
+        [Date(2024, 3, 1)]
+        """
+        low = start if since is None else since
+        page, left = _core.recurrence_days(
+            self.text, check(start, Date), check(low, Date), length, cursor)
+        return page, RecurrenceCursor(*left)
+
+    def next_readings(self, cursor: RecurrenceCursor, length: int, start: PlainDateTime,
+                      since: PlainDateTime | None = None, *, dates: _Readings = (),
+                      exceptions: _Readings = ()
+                      ) -> tuple[list[PlainDateTime], RecurrenceCursor]:
+        """Returns the first local times like `readings`, and a cursor that holds what is counted of
+        `COUNT`. For the next page pass it, and a nanosecond after the last local time as `since`."""
+        first = PlainDateTime.MIN if since is None else check(since, PlainDateTime)
+        page, left = self._times(start, dates, exceptions, None)(first, length, cursor)
+        return page, RecurrenceCursor(*left)
+
+    def next_moments(self, cursor: RecurrenceCursor, length: int, start: PlainDateTime, zone: Zone,
+                     after: OffsetDateTime | None = None, *, dates: _Readings = (),
+                     exceptions: _Readings = ()
+                     ) -> tuple[list[OffsetDateTime], RecurrenceCursor]:
+        """Returns the first date-times like `moments`, but only those after an instant, and a cursor
+        that holds what is counted of `COUNT`. For the next page pass it, and the last date-time as
+        `after`. The exceptions are local times."""
+        times = self._times(start, dates, exceptions, check(zone, Zone)._zone)
+        low = _earliest() if after is None else check(after, OffsetDateTime)
+        page, left = times(low, length, cursor)
+        return page, RecurrenceCursor(*left)
 
     def readings(self, start: PlainDateTime, since: PlainDateTime | None = None, *,
                  dates: _Readings = (), exceptions: _Readings = ()) -> Iterator[PlainDateTime]:
@@ -477,7 +537,7 @@ class Recurrence:
         """
         first = PlainDateTime.MIN if since is None else check(since, PlainDateTime)
         times = self._times(start, dates, exceptions, None)
-        return _pages(times, lambda last: last.checked_add(_NANOSECOND), first)
+        return _pages(times, lambda last: last.checked_add(_NANOSECOND), first, self.cursor())
 
     def moments(self, start: PlainDateTime, zone: Zone, since: OffsetDateTime | None = None, *,
                 dates: _Readings = (), exceptions: Iterable[PlainDateTime | OffsetDateTime] = ()
@@ -489,12 +549,12 @@ class Recurrence:
         instants = [one for one in less if isinstance(one, OffsetDateTime)]
         readings = [one for one in less if not isinstance(one, OffsetDateTime)]
         times = self._times(start, dates, readings, check(zone, Zone)._zone)
-        first = PlainDateTime.MIN.assume_offset(UtcOffset(25, 59, 59))
-        low = first if since is None else check(since, OffsetDateTime)
-        pages = _pages(times, lambda last: last, low.checked_sub(_NANOSECOND) or first)
+        low = _earliest() if since is None else check(since, OffsetDateTime)
+        pages = _pages(
+            times, lambda last: last, low.checked_sub(_NANOSECOND) or _earliest(), self.cursor())
         return (one for one in pages if one >= low and one not in instants)
 
     def _times(self, start: PlainDateTime, dates: _Readings, exceptions: _Readings, zone: Any
-               ) -> Callable[[Any, int], list[Any]]:
+               ) -> Callable[..., tuple[list[Any], Any]]:
         given = self.text, check(start, PlainDateTime), _packed(dates), _packed(exceptions)
         return functools.partial(_core.recurrence_times, given, zone)

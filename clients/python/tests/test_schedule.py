@@ -19,7 +19,7 @@ except ImportError:
 
 import fotsevindre
 from fotsevindre import (
-    CalendarUnit, ComponentRange, Convention, Date, DateRange, DayCount, Frequency, Month, OffsetDateTime, ParseError, ParseRuleError, ParseRuleErrorKind, Period, PlainDateTime, Recurrence,
+    CalendarUnit, ComponentRange, Convention, Date, DateRange, DayCount, Frequency, Month, OffsetDateTime, ParseError, ParseRuleError, ParseRuleErrorKind, Period, PlainDateTime, Recurrence, RecurrenceCursor,
     Rule, SignedDuration, Steps, Time, Weekday, Workdays, Zone, easter, julian_easter)
 
 
@@ -482,6 +482,32 @@ class Recurrences(unittest.TestCase):
             self.assertEqual(list(counted.days_from(days[0], days[128])), days[128:count])
             self.assertEqual([one.date() for one in counted.readings(PlainDateTime.parse("2000-01-01T09:00"))], days[:count])
         self.assertEqual(list(itertools.islice(Recurrence.parse("FREQ=DAILY;INTERVAL=3").days_from(days[0], days[70]), 200)), days[70:270])
+
+    def test_pages(self):
+        """Days and times by pages, with cursors that were pickled or kept as numbers. The days follow each other."""
+        counted, start = Recurrence.parse("FREQ=DAILY;COUNT=10000"), day(2000, 1, 1)
+        days, cursor = [], counted.cursor()
+        self.assertEqual(cursor, (-2147483648, 10000, 0))
+        while page := counted.next_days(cursor, 999, start):
+            days += page[0]
+            cursor = pickle.loads(pickle.dumps(page[1]))
+            if len(page[0]) < 999:
+                break
+        self.assertEqual(days, [Date.from_julian_day(2451545 + index) for index in range(10_000)])
+        self.assertEqual((cursor, cursor.left, counted.next_days(cursor, 5, start)[0]), ((2451545 + 9999, 0, 0), 0, []))
+        cursor = counted.next_days(counted.cursor(), 0, start, days[9990])[1]
+        self.assertEqual((cursor, counted.next_days(RecurrenceCursor(*cursor), 4, start)[0]), ((2451545 + 9989, 10, 0), days[9990:9994]))
+        timed, first, zone = Recurrence.parse("FREQ=DAILY;BYHOUR=9,17;COUNT=3"), PlainDateTime.parse("1997-09-02T09:00"), Zone.from_posix("UTC0")
+        page, cursor = timed.next_readings(timed.cursor(), 2, first)
+        self.assertEqual(list(map(str, page)), ["1997-09-02T09:00:00", "1997-09-02T17:00:00"])
+        rest = timed.next_readings(pickle.loads(pickle.dumps(cursor)), 2, first, PlainDateTime.parse("1997-09-02T17:00:01"))
+        self.assertEqual((list(map(str, rest[0])), rest[1].left), (["1997-09-03T09:00:00"], 0))
+        page, cursor = timed.next_moments(timed.cursor(), 2, first, zone)
+        page += timed.next_moments(cursor, 2, first, zone, page[-1])[0]
+        self.assertEqual(list(map(str, page)), [f"1997-09-{one}:00:00+00:00" for one in ("02T09", "02T17", "03T09")])
+        for wrong in ((1, 2), (1, 2, "3"), None, (1 << 31, 0, 0)):
+            self.assertRaises((TypeError, OverflowError), counted.next_days, wrong, 1, start)
+        self.assertRaises(ValueError, counted.next_days, counted.cursor(), 4097, start)
 
     @unittest.skipUnless(rrule, "dateutil is not installed")
     def test_sets(self):
