@@ -148,28 +148,33 @@ static inline enum sql_step sql_days_step(sql_days *all, fots_date *day)
 
 /* ---- the local times of a recurrence, or its instants in a zone
  *
+ * A cursor holds how far COUNT is counted, so that no page counts it again. Days before the rows are
+ * counted page by page, as a caller can stop only between two of them.
+ *
  * Rules of hours, minutes or seconds are read in windows of ten years, up to the year 9999: a rule with
  * an interval can have a day in many thousand years, and a rule of seconds can try each second. A window
- * ends with an UNTIL. */
+ * ends with an UNTIL, beside which a text has no COUNT, so `left` counts these rules. In a zone they are
+ * counted up to the last row before the first one. */
 
 #define SQL_WINDOW_YEARS 10
 #define SQL_LAST_YEAR 9999
 
 typedef struct sql_times {
-    char text[4128]; /* of the recurrence, without COUNT */
+    char text[4128]; /* of the recurrence, without COUNT if it has windows */
     char until[24]; /* of a rule with windows, or empty */
     size_t base_length; /* of the text without UNTIL */
-    int has_windows;
+    int has_windows, has_count, has_until;
     int32_t window; /* the year at whose end the window ends, or 0 for the end of the recurrence */
     fots_recurrence_set set; /* has a pointer to the text */
+    fots_recurrence_cursor cursor;
     const fots_zone *zone; /* or NULL for local times */
     fots_moment first, last; /* in the rows, at offset 0: local times without a zone, else at UTC */
     fots_moment from; /* the next local time */
     fots_moment after; /* the last instant */
-    uint32_t count, left;
+    uint32_t left; /* of the COUNT of a rule with windows */
     int32_t status;
-    int is_counting; /* for a zone, until the last time of COUNT is known */
-    int is_last, has_until;
+    int is_counting; /* for a zone, up to the rows, or with windows up to the last time of COUNT */
+    int is_last;
     size_t at, length, page_length, zoned_page_length;
     fots_moment page[SQL_PAGE];
 } sql_times;
@@ -233,20 +238,20 @@ static inline int sql_has_seconds(const char *text)
     return list && list[1 + strcspn(list + 1, ",;")] == ',';
 }
 
-/* Copies the text of a recurrence. Cuts COUNT out of it, and UNTIL if it needs windows. */
+/* Copies the text of a recurrence. Cuts COUNT and UNTIL out of it if it needs windows. */
 static inline void sql_times_text(sql_times *all, const fots_recurrence_text_result *text)
 {
-    char count[24] = "";
+    char count[24] = "0";
     memcpy(all->text, text->bytes, sizeof text->bytes);
-    if (sql_times_cut(all, ";COUNT=", count, sizeof count)) {
-        all->count = (uint32_t)strtoul(count, NULL, 10);
-    }
+    all->has_count = strstr(all->text, ";COUNT=") != NULL;
     all->has_until = strstr(all->text, ";UNTIL=") != NULL;
     all->page_length = strstr(all->text, ";BYSETPOS=") ? SQL_SMALL_PAGE : SQL_PAGE;
     all->zoned_page_length = strstr(all->text, "FREQ=SECONDLY") || sql_has_seconds(all->text) ? SQL_SMALL_PAGE : all->page_length;
     all->has_windows = strstr(all->text, "FREQ=HOURLY") || strstr(all->text, "FREQ=MINUTELY") || strstr(all->text, "FREQ=SECONDLY");
     if (all->has_windows) {
         sql_times_cut(all, ";UNTIL=", all->until, sizeof all->until);
+        sql_times_cut(all, ";COUNT=", count, sizeof count);
+        all->left = (uint32_t)strtoul(count, NULL, 10);
     }
     all->base_length = strlen(all->text);
 }
@@ -255,7 +260,7 @@ static inline void sql_times_text(sql_times *all, const fots_recurrence_text_res
 static inline void sql_times_restart(sql_times *all)
 {
     const fots_duration nanosecond = {0, 1};
-    const int is_from_start = all->is_counting || (!all->zone && all->count > 0) || fots_moment_compare(all->first, all->set.start).number < 0;
+    const int is_from_start = all->is_counting || (!all->zone && all->has_count) || fots_moment_compare(all->first, all->set.start).number < 0;
     all->from = is_from_start ? all->set.start : all->first;
     all->after = fots_moment_saturating_sub(all->first, nanosecond).moment;
     all->at = all->length = 0;
@@ -277,8 +282,8 @@ static inline sql_fault sql_times_begin(sql_times *all, const char *text, size_t
     all->zone = zone;
     all->first = first;
     all->last = last;
-    all->left = all->count;
-    all->is_counting = zone && all->count > 0;
+    all->cursor = fots_recurrence_cursor_new(all->text, strlen(all->text)).cursor;
+    all->is_counting = zone && all->has_count;
     sql_times_restart(all);
     return fault;
 }
@@ -311,8 +316,9 @@ static inline enum sql_step sql_times_page(sql_times *all)
     const fots_duration nanosecond = {0, 1};
     const int is_local = !all->zone || all->is_counting;
     const size_t page_length = is_local ? all->page_length : all->zoned_page_length;
-    const fots_recurrence_result found = is_local ? fots_recurrence_readings(&all->set, all->from, all->page, page_length)
-                                                  : fots_recurrence_moments(&all->set, all->zone, all->after, all->page, page_length);
+    const fots_recurrence_result found = is_local
+        ? fots_recurrence_next_readings(&all->set, all->from, &all->cursor, all->page, page_length)
+        : fots_recurrence_next_moments(&all->set, all->zone, all->after, &all->cursor, all->page, page_length);
     all->at = 0;
     all->length = found.length;
     all->is_last = found.length < page_length;
@@ -344,19 +350,20 @@ static inline enum sql_step sql_times_end_with(sql_times *all, fots_moment readi
     return SQL_PAUSE;
 }
 
-/* Counts a page of local times, up to COUNT or until no instant up to `last` can follow. */
+/* Counts a page of local times: up to the rows, or with windows up to COUNT, or until no instant up to
+ * `last` can follow. */
 static inline enum sql_step sql_times_count(sql_times *all)
 {
     const fots_duration two_days = {172800, 0};
+    const fots_moment end
+        = (all->has_windows ? fots_moment_saturating_add(all->last, two_days) : fots_moment_saturating_sub(all->first, two_days)).moment;
     enum sql_step step = sql_times_page(all);
-    int is_done = 0;
+    int is_done = all->is_last || fots_moment_compare(all->from, end).number > 0;
     if (step != SQL_PAUSE) {
         return step;
     }
-    if (all->left <= all->length) {
+    if (all->has_windows && all->left <= all->length) {
         step = sql_times_end_with(all, all->page[all->left - 1]);
-        is_done = 1;
-    } else if (all->is_last || fots_moment_compare(all->from, fots_moment_saturating_add(all->last, two_days).moment).number > 0) {
         is_done = 1;
     }
     all->left -= (uint32_t)all->length;
@@ -375,7 +382,7 @@ static inline enum sql_step sql_times_step(sql_times *all, fots_moment *row)
     }
     while (all->at < all->length) {
         *row = all->page[all->at++];
-        if ((!all->zone && all->count > 0 && all->left-- == 0) || fots_moment_compare(*row, all->last).number > 0) {
+        if ((!all->zone && all->has_windows && all->has_count && all->left-- == 0) || fots_moment_compare(*row, all->last).number > 0) {
             return SQL_END;
         }
         if (fots_moment_compare(*row, all->first).number >= 0) {
@@ -430,7 +437,7 @@ static inline sql_fault sql_recurrence_begin_times(sql_recurrence *all, const ch
 /* Returns 1 if the rule has COUNT or UNTIL. */
 static inline int sql_recurrence_has_end(const sql_recurrence *all)
 {
-    return all->has_times ? all->rule.times.count > 0 || all->rule.times.has_until
+    return all->has_times ? all->rule.times.has_count || all->rule.times.has_until
                           : all->rule.days.recurrence.count > 0 || all->rule.days.recurrence.until.julian_day != FOTS_NO_VALUE;
 }
 
@@ -518,6 +525,7 @@ static inline int32_t sql_recurrence_add(sql_recurrence *all, fots_moment *dates
 static inline int sql_is_row(const sql_recurrence *all, fots_moment row)
 {
     const fots_duration nanosecond = {0, 1};
+    fots_recurrence_cursor cursor;
     fots_recurrence_set set;
     fots_moment moment = row;
     size_t from = 0, to;
@@ -532,7 +540,8 @@ static inline int sql_is_row(const sql_recurrence *all, fots_moment row)
     set = all->rule.times.set;
     set.exceptions = &all->exceptions[from];
     set.exceptions_length = to - from;
-    return fots_recurrence_moments(&set, all->rule.times.zone, fots_moment_saturating_sub(row, nanosecond).moment, &moment, 1).length == 1
+    cursor = all->rule.times.cursor;
+    return fots_recurrence_next_moments(&set, all->rule.times.zone, fots_moment_saturating_sub(row, nanosecond).moment, &cursor, &moment, 1).length == 1
         && sql_compare(&moment, &row) == 0;
 }
 
