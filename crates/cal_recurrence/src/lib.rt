@@ -24,6 +24,7 @@ mod lists;
 mod nearest;
 mod occurrences;
 mod parsing;
+mod period_words;
 mod positions;
 mod reach;
 mod reading_cursor;

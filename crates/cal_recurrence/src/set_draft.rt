@@ -13,7 +13,8 @@ use crate::parsing::parse_parts;
 use crate::recurrence::{Recurrence, RuleEnd};
 use crate::rule_count::RuleCount;
 use crate::set_fault::{ParseSetErrorKind, SetLine};
-use crate::set_parameters::{all_allow, all_ignored, all_name, first_zone};
+use crate::period_words::period_start;
+use crate::set_parameters::{all_allow, all_ignored, all_name, first_zone, has_periods};
 use crate::set_parts::SetParts;
 use crate::times_of_day::TimesOfDay;
 use crate::words::{cut, cut_outside, is_alike};
@@ -31,11 +32,15 @@ pub struct SetDraft<'a> {
     pub zone: Option<ZoneName<'a>>,
 }
 
-/// Parses a value that each parameter allows, or returns `None`.
+/// Parses a value that each parameter allows, or returns `None`. The value of a period is its start.
 fn value_of(head: &[u8], word: &[u8]) -> Option<DateOrTime>
     ensures { result ≡ value_of (parameters_of head.now) word.now }
 {
-    let value = date_or_time_of(word)?;
+    let value = if has_periods(head) {
+        period_start(word)?
+    } else {
+        date_or_time_of(word)?
+    };
     if all_allow(head, &value) {
         Some(value)
     } else {
@@ -81,7 +86,11 @@ fn tail(line: &[u8]) -> &[u8]
 fn value_on(line: &[u8]) -> Option<DateOrTime>
     ensures { result ≡ value_on line.now }
 {
-    value_of(cut_outside(line, b':').0, tail(line))
+    let head = cut_outside(line, b':').0;
+    if has_periods(head) {
+        return None;
+    }
+    value_of(head, tail(line))
 }
 
 /// Returns the values with the values of one more line. Returns `TooMany` for more than 62 in all,
@@ -94,6 +103,9 @@ fn more_of(
     ensures { result ≡ unless_error (list_error (length dates) line.now kind)
         (dates ++ unwrap_or (values_on line.now) []) }
 {
+    if !matches!(kind, SetLine::Dates) && has_periods(cut_outside(line, b':').0) {
+        return Err(ParseSetErrorKind::Value(kind));
+    }
     if !has_room(dates.as_slice().len(), tail(line)) {
         return Err(ParseSetErrorKind::TooMany(kind));
     }

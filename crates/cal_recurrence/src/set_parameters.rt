@@ -93,13 +93,22 @@ pub(crate) fn all_ignored(head: &[u8]) -> bool
     }
 }
 
+/// Returns `true` if a parameter says that the values are periods (`VALUE=PERIOD`). The parameters
+/// come after the name of a line, or after another parameter.
+pub(crate) fn has_periods(head: &[u8]) -> bool {
+    match cut_outside(head, b';').1 {
+        Some(rest) => is_alike(cut_outside(rest, b';').0, b"VALUE=PERIOD") || has_periods(rest),
+        None => false,
+    }
+}
+
 /// Returns `true` if the parameter allows the value.
 fn allows(parameter: &[u8], value: &DateOrTime) -> bool
     ensures { result ≡ allows parameter.now value.now }
 {
     if is_alike(parameter, b"VALUE=DATE") {
         is_date(value)
-    } else if is_alike(parameter, b"VALUE=DATE-TIME") {
+    } else if is_alike(parameter, b"VALUE=DATE-TIME") || is_alike(parameter, b"VALUE=PERIOD") {
         !is_date(value)
     } else {
         match zone_in(parameter) {
