@@ -6,7 +6,7 @@ use crate::words::{cut, is_alike, split};
 
 /// Returns the word after a first byte, or `None` if the word doesn't begin with it. Letters match in
 /// any case.
-fn after_byte(byte: &[u8], word: &[u8]) -> Option<&[u8]> {
+fn after_byte<'a>(byte: &[u8], word: &'a [u8]) -> Option<&'a [u8]> {
     if word.is_empty() {
         return None;
     }
