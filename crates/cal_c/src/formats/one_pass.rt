@@ -202,27 +202,19 @@ pub(super) fn parse_pair_at_once(text: &[u8], format: &FormatParts) -> Option<Pl
 
 /// Parses the whole string by the items with these numbers. Returns `false` if one of them is not
 /// an item, or at a byte or a number that doesn't fit.
-#[inline(always)]
 fn scan_whole(parts: &[FormatItem], text: &[u8], fields: &mut Fields) -> bool
     ensures { IsTrue result → AreItemsOf parts.now (λ items.
         ScansItems fields.old fields.new text.now [] items) }
 {
     let mut scanner = Scanner { rest: text };
-    scan_parts(parts, &mut scanner, fields) && scanner.rest.is_empty()
-}
-
-/// Parses the items with these numbers at the front of a string. Returns `false` if one of them is
-/// not an item, or at a byte or a number that doesn't fit.
-fn scan_parts(parts: &[FormatItem], scanner: &mut Scanner, fields: &mut Fields) -> bool
-    ensures { IsTrue result → AreItemsOf parts.now (λ items.
-        ScansItems fields.old fields.new scanner.old.rest.now scanner.new.rest.now items) }
-{
-    match parts {
-        [] => true,
-        [part, others @ ..] => {
-            scan_part(*part, others, scanner, fields) && scan_parts(others, scanner, fields)
+    let mut left = parts;
+    while let [part, others @ ..] = left {
+        if !scan_part(*part, others, &mut scanner, fields) {
+            return false;
         }
+        left = others;
     }
+    scanner.rest.is_empty()
 }
 
 /// Parses an item before these others.
