@@ -1,14 +1,17 @@
 -- The format `%Y-%m-%d` as numbers, and the text of a date by it.
-use Rattle.std.proofs.Common.{◌≡◌, ℕ, ◌<◌, ◌≤◌, ◌/◌, ◌%◌, List, [], ◌∷◌, ◌++◌, length, take, drop, map, get_or, refl, sym, ap, subst, ◌∙◌, arith}
+use Rattle.std.proofs.Common.{◌≡◌, ℕ, ◌+◌, ◌<◌, ◌≤◌, ◌/◌, ◌%◌, List, [], ◌∷◌, ◌++◌, length, take, drop, map, get_or, refl, sym, ap, subst, ◌∙◌, arith, append_assoc, append-nil}
 use Rattle.std.proofs.lemmas.Bool.Decides.{nat_tests}
 use Rattle.std.proofs.Math.Seq.{take-append_seam}
 use Rattle.std.specs.Prelude.{pos, unsigned_abs, codes, Bool, true, false, not, ◌&&◌, ◌==◌, IsTrue, IfSome, Option, Some, None, Result, Ok, Err}
 use Rattle.std.proofs.lemmas.Bool.{and_parts}
 use borrow.Author.Tests.{eqb-true}
-use Rattle.cal_time.specs.Date.{year_at, month_at, day_of_month_at}
+use Rattle.cal_time.specs.Date.{year_at, month_at, day_of_month_at, weekday_at}
+use Rattle.cal_time.specs.IsoWeekDate.{iso_year_at, iso_week_at}
 use Rattle.cal_time.specs.DateText.{digits_at_least, sign_text, text}
 use Rattle.cal_time.specs.Digits.{two_digits}
 use Rattle.cal_time.specs.Laws.{digits_at_least-two, digits_at_least-four}
+use Rattle.cal_units.proofs.Digits.{digits_at_least-one}
+use Rattle.cal_text.specs.DateForms.{year_text, week_and_weekday_text, week_text}
 use Rattle.cal_format.specs.declared.item.Component.{Component}
 use Rattle.cal_format.specs.declared.item.Item.{Item}
 use Rattle.cal_format.specs.declared.item.Item.TheVariants as item
@@ -19,7 +22,8 @@ use Rattle.cal_format.specs.Reading.{index}
 use Rattle.cal_format.specs.Scanning.{IsOneDate}
 use Rattle.cal_format.proofs.Apart.{index-one}
 use Rattle.cal_c.specs.Formats.{item_parts, parts}
-use Rattle.cal_c.specs.OnePass.{IsItemOf, AreItemsOf, IsFormatOf, PrintsItems}
+use Rattle.cal_format.specs.Text.{text_of}
+use Rattle.cal_c.specs.OnePass.{IsItemOf, AreItemsOf, IsFormatOf, PrintsItems, week_items}
 use Rattle.cal_c.specs.declared.formats.format_parts.FormatItem.{FormatItem}
 use Rattle.cal_c.specs.declared.formats.format_parts.FormatParts.{FormatParts}
 
@@ -98,6 +102,11 @@ five-only a b c d e (p ∷ q ∷ []) n f g h i j = absurd (omega arith)
 five-only a b c d e (p ∷ []) n f g h i j = absurd (omega arith)
 five-only a b c d e [] n f g h i j = absurd (omega arith)
 
+pub six-only : (a b c d e f : Item) (ps : List FormatItem) → length ps ≡ 6 → IsOnly a (at ps 0) → IsOnly b (at ps 1) → IsOnly c (at ps 2) → IsOnly d (at ps 3) → IsOnly e (at ps 4) → IsOnly f (at ps 5)
+    → AreItemsOf ps (λ l. l ≡ a ∷ b ∷ c ∷ d ∷ e ∷ f ∷ [])
+six-only a b c d e f [] n g h i j k l = absurd (omega arith)
+six-only a b c d e f (p ∷ ps) n g h i j k l = more-only a _ p _ g (five-only b c d e f ps (omega arith) h i j k l)
+
 -- ---- the text of a date of the years 0 to 9999
 plain : (y : ℕ) → y ≤ 9_999 → sign_text (pos y) ≡ []
 plain y few = grind (arith, nat_tests)
@@ -114,6 +123,21 @@ usual-text n y m d a b e f year few month low day less ea eb ee ef =
     (λ i. get_or (ea i) 0 0 ∷ get_or (ea i) 1 0 ∷ get_or (eb i) 0 0 ∷ get_or (eb i) 1 0 ∷ 45 ∷ get_or (ee i) 0 0 ∷ get_or (ee i) 1 0 ∷ 45 ∷ get_or (ef i) 0 0 ∷ get_or (ef i) 1 0 ∷ [])
     ∙ sym ((λ i. sign_text (year i) ++ (digits_at_least 4 (unsigned_abs (year i)) ++ codes "-" ++ digits_at_least 2 (month i) ++ codes "-" ++ digits_at_least 2 (day i)))
     ∙ (λ i. plain y few i ++ (four y few i ++ codes "-" ++ digits_at_least-two m low i ++ codes "-" ++ digits_at_least-two d less i)))
+
+-- The same of the text of a week date.
+pub week_items-text : (n : ℕ) → text_of week_items (moment_of_date n) ≡ week_text n
+week_items-text n = simp (append_assoc, append-nil)
+
+one : (d : ℕ) → d < 10 → digits_at_least 1 d ≡ 48 + d ∷ []
+one d less = digits_at_least-one 1 d (omega arith) less
+
+pub usual-week-text : (n y w d : ℕ) (a b e : List ℕ) → iso_year_at n ≡ pos y → y ≤ 9_999 → iso_week_at n ≡ w → w < 100 → weekday_at n + 1 ≡ d → d < 10
+    → a ≡ two_digits (y / 100) → b ≡ two_digits (y % 100) → e ≡ two_digits w
+    → get_or a 0 0 ∷ get_or a 1 0 ∷ get_or b 0 0 ∷ get_or b 1 0 ∷ 45 ∷ 87 ∷ get_or e 0 0 ∷ get_or e 1 0 ∷ 45 ∷ 48 + d ∷ [] ≡ week_text n
+usual-week-text n y w d a b e year few week low day less ea eb ee =
+    (λ i. get_or (ea i) 0 0 ∷ get_or (ea i) 1 0 ∷ get_or (eb i) 0 0 ∷ get_or (eb i) 1 0 ∷ 45 ∷ 87 ∷ get_or (ee i) 0 0 ∷ get_or (ee i) 1 0 ∷ 45 ∷ 48 + d ∷ [])
+    ∙ sym ((λ i. year_text (year i) ++ codes "-" ++ week_and_weekday_text (week i) (day i))
+    ∙ (λ i. (plain y few i ++ four y few i) ++ codes "-" ++ codes "W" ++ digits_at_least-two w low i ++ codes "-" ++ one d less i))
 
 -- The items print it to the front of a buffer.
 pub usual-printed : (n : ℕ) (old rest bytes : List ℕ) → length bytes ≡ 10 → bytes ≡ text n → PrintsItems 0 14 (moment_of_date n) old (bytes ++ rest) 0 10 iso_items

@@ -1,7 +1,10 @@
 -- What holds of the items with some numbers.
-use Rattle.std.specs.Prelude.{◌≡◌, ℕ, ◌+◌, List, [], ◌++◌, length, take, map, IsTrue}
+use Rattle.std.specs.Prelude.{◌≡◌, ℕ, ◌+◌, List, [], ◌∷◌, ◌++◌, length, take, map, IsTrue}
 use Rattle.cal_format.specs.declared.fields.Fields.{Fields}
+use Rattle.cal_format.specs.declared.item.Component.TheVariants.{IsoYear, IsoWeek, Weekday}
 use Rattle.cal_format.specs.declared.item.Item.{Item}
+use Rattle.cal_format.specs.declared.item.Item.TheVariants.{Literal, Number}
+use Rattle.cal_format.specs.declared.item.Padding.TheVariants.{Zero}
 use Rattle.cal_format.specs.declared.moment.Moment.{Moment}
 use Rattle.cal_format.specs.Reading.{ends_before, are_apart, shows_within, show_within}
 use Rattle.cal_format.specs.Scanning.{HasField, HasFields}
@@ -49,3 +52,7 @@ pub record PrintsItems (low high : ℕ) (v : Moment) (old new : List ℕ) (at en
   pub within : IsTrue (show_within low high items)
   pub text : take end new ≡ take at old ++ text_of items v
   pub end_is : end ≡ at + length (text_of items v)
+
+-- The items of an ISO 8601 week date, `%G-W%V-%u`.
+abbrev pub week_items : List Item
+week_items = Number IsoYear Zero ∷ Literal 45 ∷ Literal 87 ∷ Number IsoWeek Zero ∷ Literal 45 ∷ Number Weekday Zero ∷ []

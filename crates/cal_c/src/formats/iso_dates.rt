@@ -1,13 +1,14 @@
-//! Dates by the format `%Y-%m-%d`, which takes less time than other formats.
+//! Dates by the formats `%Y-%m-%d` and `%G-W%V-%u`, which take less time than other formats.
 ghost use Rattle.std.specs.Prelude.{◌≡◌, ◌<◌, ◌≤◌, ◌*◌, IfSome, IsTrue, length, pos};
 ghost use Rattle.cal_time.specs.Digits.{two_digits};
 ghost use Rattle.cal_time.specs.DateText.{text};
+ghost use Rattle.cal_text.specs.DateForms.{week_text};
 ghost use Rattle.cal_format.specs.Laws.{iso_items};
 ghost use Rattle.cal_format.specs.Moment.{moment_of_date};
 ghost use Rattle.cal_format.specs.Scanning.{AreHeld, IsOneDate};
 ghost use Rattle.cal_format.specs.declared.item.Item.TheVariants.{Literal, Number};
 ghost use Rattle.cal_format.specs.declared.item.Padding.TheVariants.{Zero};
-ghost use Rattle.cal_c.specs.OnePass.{IsFormatOf, IsItemOf, PrintsItems};
+ghost use Rattle.cal_c.specs.OnePass.{IsFormatOf, IsItemOf, PrintsItems, week_items};
 
 use super::format_parts::{FormatItem, FormatParts};
 use super::items::item_parts;
@@ -19,7 +20,10 @@ use cal_time::Date;
 /// The number of items of `%Y-%m-%d`.
 const ITEMS: usize = 5;
 
-/// The length of the string of a date of the years 0 to 9999.
+/// The number of items of `%G-W%V-%u`.
+const WEEK_ITEMS: usize = 6;
+
+/// The length of the string of a date of the years 0 to 9999 by either format.
 const LENGTH: usize = 10;
 
 /// Returns `true` if the numbers are the format `%Y-%m-%d`.
@@ -33,13 +37,36 @@ pub(crate) fn is_iso(format: &FormatParts) -> bool
     if parts.len() != ITEMS {
         return false;
     }
-    if !is_hyphen(parts[1]) || !is_hyphen(parts[3]) {
+    if !is_byte(parts[1], b'-') || !is_byte(parts[3], b'-') {
         return false;
     }
     if !is_number(parts[0], Component::Year) || !is_number(parts[2], Component::Month) {
         return false;
     }
     is_number(parts[4], Component::Day)
+}
+
+/// Returns `true` if the numbers are the format `%G-W%V-%u`.
+#[inline(always)]
+pub(crate) fn is_iso_week(format: &FormatParts) -> bool
+    ensures { IsTrue result → IsFormatOf format.now (λ items. items ≡ week_items) }
+{
+    let Some(parts) = format.parts() else {
+        return false;
+    };
+    if parts.len() != WEEK_ITEMS {
+        return false;
+    }
+    if !is_byte(parts[1], b'-') || !is_byte(parts[4], b'-') {
+        return false;
+    }
+    if !is_byte(parts[2], b'W') || !is_number(parts[0], Component::IsoYear) {
+        return false;
+    }
+    if !is_number(parts[3], Component::IsoWeek) {
+        return false;
+    }
+    is_number(parts[5], Component::Weekday)
 }
 
 /// Returns `true` if the numbers are this component, padded with zeros.
@@ -51,10 +78,10 @@ fn is_number(part: FormatItem, component: Component) -> bool
 }
 
 #[inline(always)]
-fn is_hyphen(part: FormatItem) -> bool
-    ensures { IsTrue result → IsItemOf part (λ item. item ≡ Literal 45) }
+fn is_byte(part: FormatItem, byte: u8) -> bool
+    ensures { IsTrue result → IsItemOf part (λ item. item ≡ Literal byte) }
 {
-    part == item_parts(Item::Literal(b'-'))
+    part == item_parts(Item::Literal(byte))
 }
 
 /// Writes a date to the front of a buffer like `print_at_once`.
@@ -98,6 +125,23 @@ pub(crate) fn parse_iso(text: &[u8]) -> Option<Date>
     Some(date)
 }
 
+/// Parses a date by `%G-W%V-%u`. Returns `None` for a string that isn't the string of a date of the
+/// ISO years 0 to 9999.
+#[inline(never)]
+pub(crate) fn parse_iso_week(text: &[u8]) -> Option<Date>
+    ensures { IfSome result (λ n. IsOneDate week_items n text.now) }
+{
+    let Ok(date) = date::parse(text) else {
+        return None;
+    };
+    // The string may be a calendar date or an ordinal date.
+    let own = usual_week_text(date)?;
+    if own.as_slice() != text {
+        return None;
+    }
+    Some(date)
+}
+
 /// Returns the string of a date of the years 0 to 9999, and `None` for another date.
 #[inline(always)]
 fn usual_text(date: Date) -> Option<[u8; LENGTH]>
@@ -111,6 +155,22 @@ fn usual_text(date: Date) -> Option<[u8; LENGTH]>
     let [m, n] = two_digits(u32::from(index) + 1);
     let [e, f] = two_digits(u32::from(day));
     Some([y, z, c, d, b'-', m, n, b'-', e, f])
+}
+
+/// Returns the string of the week date of a date of the ISO years 0 to 9999, and `None` for another
+/// date.
+#[inline(always)]
+fn usual_week_text(date: Date) -> Option<[u8; LENGTH]>
+    ensures value { IfSome result (λ bytes. bytes ≡ week_text date) }
+    ensures held { IfSome result (λ _. AreHeld (moment_of_date date) week_items) }
+{
+    let (iso_year, week, weekday) = date.to_iso_week_date();
+    let year = usual_year(iso_year)?;
+    let [y, z] = two_digits(year / 100);
+    let [c, d] = two_digits(year % 100);
+    let [v, w] = two_digits(u32::from(week));
+    let number = weekday.number_from_monday();
+    Some([y, z, c, d, b'-', b'W', v, w, b'-', b'0' + number])
 }
 
 /// Returns a year from 0 to 9999, and `None` for another year.

@@ -11,7 +11,7 @@ ghost use Rattle.cal_c.specs.OnePass.{IsItemOf, AreItemsOf, IsFormatOf, ScansIte
 
 use super::components::component_with;
 use super::format_parts::{FormatItem, FormatParts};
-use super::iso_dates::{is_iso, parse_iso};
+use super::iso_dates::{is_iso, is_iso_week, parse_iso, parse_iso_week};
 use super::items::item_with;
 use super::printing::{MAX_LENGTH, write};
 use super::results::LengthResult;
@@ -154,6 +154,9 @@ pub(super) fn parse_date_at_once(text: &[u8], format: &FormatParts) -> Option<Da
 {
     if is_iso(format) {
         return parse_iso(text);
+    }
+    if is_iso_week(format) {
+        return parse_iso_week(text);
     }
     let parts = format.parts()?;
     let mut fields = Fields::new();
