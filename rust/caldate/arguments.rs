@@ -277,7 +277,7 @@ fn reader_text(reader: &Reader) -> String {
         Reader::Named(Reading::Local(_)) | Reader::Local => "local".into(),
         Reader::Named(Reading::IsoDate) => "iso-date".into(),
         Reader::Named(Reading::IsoMoment) => "iso-moment".into(),
-        Reader::Named(Reading::IsoLocal(offset)) => format!("iso-local@{}", offset.whole_seconds()).into(),
+        Reader::Named(Reading::IsoLocal(offset)) => format!("iso-local@{}", offset.whole_seconds()),
         Reader::Spelled(caldate_answers::reading::spelling::Spelling::Iso) => "spelled".into(),
         Reader::Spelled(caldate_answers::reading::spelling::Spelling::Seconds) => "unix".into(),
         Reader::Format(format) => value_format_text(format),
