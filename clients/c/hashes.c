@@ -303,13 +303,13 @@ static fots_rule any_fots_rule(void)
     return rule;
 }
 
-/* Draws a cursor with few left, as a call counts all of them where it begins after the last one. */
+/* Draws a cursor. It has few left if the text has a COUNT, as a call counts all of them where it begins after the last one. */
 static fots_recurrence_cursor any_fots_recurrence_cursor(void)
 {
     fots_recurrence_cursor cursor;
     cursor.date = any_fots_date();
     cursor.date.julian_day = one_of(4) ? FOTS_NO_VALUE : cursor.date.julian_day;
-    cursor.left = (uint32_t)draw() % 100;
+    cursor.left = strstr(drawn_text, "COUNT") == NULL && one_of(2) ? UINT32_MAX >> draw() % 2 : (uint32_t)draw() % 100;
     cursor.time = any_fots_time();
     return cursor;
 }

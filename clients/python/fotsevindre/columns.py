@@ -117,7 +117,7 @@ class _Like:
         arrays = {name: one for name, one in columns.items() if hasattr(one, "dtype")}
         arrays.pop("texts", None)
         self.numpy: Any = sys.modules.get("numpy") if arrays else None
-        # The units of results that are times because what was given is.
+        # The units of results that are times because the arguments are.
         pairs = (("dates", "dates"), ("readings", "seconds"), ("seconds", "seconds"))
         self.times = {made: _UNITS[given] for given, made in pairs
             if given in arrays and arrays[given].dtype.kind == "M"}

@@ -19,8 +19,8 @@ _MESSAGES = {**MESSAGES, 6: "invalid weekday; expected 0 (Monday) to 6 (Sunday)"
 class _Explained(ValueError):
     """An error with two attributes that makes its sentence when it is printed: most errors aren't.
 
-    What C raises has three kinds of arguments after them: what has the method that failed, the
-    number of the call, and its arguments."""
+    An error raised in C has more arguments after them: the owner of the method that failed, the
+    number of the method, and its arguments."""
 
     @property
     def args(self) -> tuple[Any, ...]:  # type: ignore[override]
@@ -44,11 +44,11 @@ class _Explained(ValueError):
         return type(self), self.args, {**vars(self), "_words": str(self)}
 
     def _short(self) -> str:
-        """Returns the sentence without a call."""
+        """Returns the sentence of an error without arguments."""
         raise NotImplementedError
 
     def _sentence(self, owner: Any, call: int, *given: Any) -> str | None:
-        """Returns the sentence for a call, if there is one."""
+        """Returns the sentence for a method and its arguments, if there is one."""
         raise NotImplementedError
 
 

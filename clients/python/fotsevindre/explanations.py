@@ -17,7 +17,7 @@ _RANGES = {
     "offset minute": (-59, 59), "offset second": (-59, 59), "julian_day": (-363521074, 366963559),
 }
 _HALF_DAY = (1, 12)
-# The names of arguments that aren't those of the components.
+# The names of arguments that differ from the names of the components.
 _ARGUMENTS = {"offset hour": "hours", "offset minute": "minutes", "offset second": "seconds"}
 # The components of strings of ISO 8601.
 _ISO = re.compile(
@@ -36,7 +36,7 @@ _ITEM = re.compile(r"%[-_0^#]*(.)|(\s+)|(.)", re.DOTALL)
 _MONTHS = ("jan", "feb", "mar", "apr", "may", "jun", "jul", "aug", "sep", "oct", "nov", "dec")
 # The items of a format that show names.
 _NAMES = re.compile(r"%[-_0^#]*[aAbBhpPcrv]|\[(?:month|weekday|period)")
-# What a string can go on with, besides a digit: without names, and with them.
+# The characters that can follow, besides a digit: without names, and with them.
 _NEXT = "-+:./, @DHJMPRSTWYZ"
 _NEXT_IN_NAMES = f"{_NEXT[:8]}{string.ascii_letters}"
 # An item of a format that needs another one, those, and the remedy.

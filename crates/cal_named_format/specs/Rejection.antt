@@ -35,7 +35,7 @@ pub record IsPrintedIn (t : Names) (items : List Item) (v : Moment) (text : List
   pub offset_parts : IsTrue (holds_offset items v.offset)
   pub text_is : text ≡ text_in t items v
 
--- The result is the moment that the items hold and print as the text, or says why there is none.
+-- The result is the moment that the items hold and print as the text, or an error.
 pub record IsParsedIn (t : Names) (items : List Item) (text : List ℕ) (r : Result Moment ParseError) : Type 0 where
   pub every : (v : Moment) → Holds items v → text ≡ text_in t items v → r ≡ Ok v
   pub value : IfOk r (λ v. IsPrintedIn t items v text)
