@@ -16,14 +16,14 @@ CREATE TEMP TABLE local AS
 INSERT INTO local SELECT zone, cal_local(cal_next_change(t AT TIME ZONE 'UTC', zone), zone) + ((random() * 240)::int - 120) * interval '1 minute', n
     FROM local WHERE cal_next_change(t AT TIME ZONE 'UTC', zone) < '2050-01-01';
 SELECT count(*) > :rows AS enough FROM local;
-SELECT count(*) FROM local WHERE cal_instant(t, zone, 'later') <> t AT TIME ZONE zone;
-SELECT count(*) FROM local WHERE cal_local(t AT TIME ZONE 'UTC', zone) <> (t AT TIME ZONE 'UTC') AT TIME ZONE zone;
+SELECT count(*) FROM local WHERE cal_instant(t, zone, 'later') IS DISTINCT FROM t AT TIME ZONE zone;
+SELECT count(*) FROM local WHERE cal_local(t AT TIME ZONE 'UTC', zone) IS DISTINCT FROM (t AT TIME ZONE 'UTC') AT TIME ZONE zone;
 -- The instants are those at which the built-in clocks show the time.
 SELECT count(*) FROM local,
     LATERAL (SELECT cal_instants(t, zone) AS instants) AS found,
     LATERAL (SELECT coalesce(array_agg(DISTINCT i ORDER BY i), '{}') AS instants FROM unnest(ARRAY[cal_instant(t, zone, 'earlier'), cal_instant(t, zone, 'later')]) AS i
              WHERE i AT TIME ZONE zone = t) AS shown
-    WHERE found.instants <> shown.instants OR cal_local_kind(t, zone) <> (ARRAY['gap', 'single', 'fold'])[1 + cardinality(shown.instants)];
+    WHERE found.instants IS DISTINCT FROM shown.instants OR cal_local_kind(t, zone) IS DISTINCT FROM (ARRAY['gap', 'single', 'fold'])[1 + cardinality(shown.instants)];
 SELECT count(*) FROM local, LATERAL (SELECT cal_instant(t, zone) AS i) AS start
     WHERE (i + cal_period_zoned(i, cal_instant(t + n * interval '1 day', zone), zone, 'day')) IS NULL
-       OR cal_add_period_zoned(i, cal_period_zoned(i, cal_instant(t + n * interval '1 day 1 hour', zone), zone), zone) <> cal_instant(t + n * interval '1 day 1 hour', zone);
+       OR cal_add_period_zoned(i, cal_period_zoned(i, cal_instant(t + n * interval '1 day 1 hour', zone), zone), zone) IS DISTINCT FROM cal_instant(t + n * interval '1 day 1 hour', zone);

@@ -56,5 +56,5 @@ SELECT count(*) FROM (SELECT a, n FROM start LIMIT :rows / 600 + 1) AS starts, u
     LATERAL (SELECT array_agg(t) AS times FROM cal_times_zoned('FREQ=DAILY;BYHOUR=9,17;COUNT=200', a + time '09:00', zone,
         tstzrange((a - 3)::timestamp AT TIME ZONE zone, (a + 104)::timestamp AT TIME ZONE zone), more, less) AS t) AS zoned,
     LATERAL (SELECT array_agg(t ORDER BY t) AS locals, array_agg(t AT TIME ZONE zone ORDER BY t) AS instants FROM generate_series(-3, 103) AS d, generate_series(9, 17, 4) AS h,
-        LATERAL (SELECT a + d + h * interval '1 hour' AS t) AS times WHERE ((d BETWEEN 0 AND 99 AND h <> 13) OR t = ANY (more)) AND t <> ALL (less)) AS other
+        LATERAL (SELECT a + d + h * interval '1 hour' AS t) AS times WHERE ((d BETWEEN 0 AND 99 AND h IS DISTINCT FROM 13) OR t = ANY (more)) AND t <> ALL (less)) AS other
     WHERE local.times IS DISTINCT FROM other.locals OR zoned.times IS DISTINCT FROM other.instants;
