@@ -14,6 +14,7 @@
 #include "recurrence.c"
 #include "events.c"
 #include "columns.c"
+#include "numpy.c"
 #include "arrow.c"
 
 /* Takes what is in Python, in the order of State. */

@@ -1,6 +1,7 @@
 """Calls over whole columns: buffers of integers, arrays of numpy, series of pandas, and lists."""
 
 import array
+import functools
 import operator
 import sys
 from typing import Any, Callable, SupportsIndex, TypeVar
@@ -19,8 +20,10 @@ SECONDS = {"s": 1, "ms": 10**3, "us": 10**6, "ns": 10**9}
 # How many of a unit of datetime64 are in a day or a second.
 _FACTORS = {(name, unit): count * seconds for name, count in SECONDS.items()
     for unit, seconds in (("D", 86400), ("s", 1))}
-# The types of dates to which C adds days in one pass, and how many of their unit are in a day.
-_QUICK: dict[str | None, int] = {"<M8[D]": 1, "<M8[ns]": 86_400 * 10**9} if sys.byteorder == "little" else {}
+# The types of dates to which C adds days in one pass, and whether they are times in nanoseconds, and
+# the types of these days.
+_QUICK: dict[Any, bool] = {"<M8[D]": False, "<M8[ns]": True} if sys.byteorder == "little" else {}
+_MOVES = {"<i8", "<m8[D]"}
 
 
 def _whole(values: Any, unit: str) -> Any:
@@ -162,44 +165,41 @@ class _Like:
         return sys.modules["pandas"].Index(found)
 
 
-def _is_in_one_piece(array: Any) -> bool:
-    """Returns whether an array of numpy is one row of aligned numbers."""
-    flags = array.flags
-    return bool(array.ndim == 1 and flags.c_contiguous and flags.aligned)
+@functools.lru_cache
+def _text(dtype: Any) -> Any:
+    """Returns the name of a type, which numpy writes anew each time."""
+    return getattr(dtype, "str", None)
 
 
-def _days_later(dates: Any, days: Any) -> Any:
-    """Returns the days of `datetime64[D]` or of whole days in `datetime64[ns]` some days later, if all
-    of both are dates, so that no sum wrapped around, and else `None`."""
+def days_later(kind: Callable[..., _R], dates: Any, days: Any) -> _R | None:
+    """Returns the result of `dates_add_days` if C takes such columns in one pass, and else `None`."""
     numpy: Any = sys.modules.get("numpy")
-    in_a_day = _QUICK.get(getattr(getattr(dates, "dtype", None), "str", None)) if numpy else None
-    if in_a_day is None:
+    are_times = _QUICK.get(_text(getattr(dates, "dtype", None)))
+    if not numpy or are_times is None:
         return None
-    times = dates if type(dates) is numpy.ndarray else dates.to_numpy() if hasattr(dates, "to_numpy") else None
-    if type(times) is not numpy.ndarray or not _is_in_one_piece(times):
-        return None
-    if type(days) is not int:
-        days = days.to_numpy() if hasattr(days, "to_numpy") else days
-        if type(days) is numpy.ndarray and days.dtype == "timedelta64[D]":
-            days = days.view("int64")
-        if type(days) is not numpy.ndarray or days.dtype != "int64" or not _is_in_one_piece(days):
+    is_array, times = type(dates) is numpy.ndarray, dates
+    if not is_array:
+        if not hasattr(dates, "to_numpy"):
             return None
-    made = numpy.empty(len(times), times.dtype)
-    is_made = _core.days_later(times.view("int64"), in_a_day, days, made.view("int64"))
-    return made if is_made else None
+        times, days = dates.to_numpy(), days.to_numpy() if hasattr(days, "to_numpy") else days
+    is_numpy = type(days) is numpy.ndarray or isinstance(days, numpy.generic)
+    if type(days) is not int and not (is_numpy and _text(days.dtype) in _MOVES):
+        return None
+    made = numpy.empty(times.size, "M8[D]" if is_array and are_times else times.dtype)
+    statuses = numpy.zeros(times.size, "B")
+    error_count = _core.days_later(times, made, statuses, days, are_times, are_times and not is_array)
+    if error_count is None:
+        return None
+    if not is_array:
+        like = _Like({"dates": dates})
+        made, statuses = like.wrapped(made), like.wrapped(statuses)
+    return kind(made, statuses, error_count)
 
 
 def call(kind: Callable[..., _R], name: str, reads: str, writes: str,
          extra: Workdays | Format | tuple[Any, ...] | None, **columns: Any) -> _R:
     """Calls C for columns by their names, with numbers in these letters and working days, a format,
     a zone or a unit, and makes the result."""
-    later = _days_later(**columns) if name == "dates_add_days" else None
-    if later is not None:
-        statuses = sys.modules["numpy"].zeros(len(later), "uint8")
-        if type(columns["dates"]) is type(later):
-            return kind(later, statuses, 0)
-        like = _Like(columns)
-        return kind(like.wrapped(later), like.wrapped(statuses), 0)
     for one, given in columns.items():
         if one != "texts" and isinstance(given, (bytes, bytearray)):
             raise TypeError(f"expected numbers in {one}, not {type(given).__name__}")

@@ -143,6 +143,11 @@ class Zone:
         vars(made).update(key=key, _data=data, _is_posix=is_posix, _zone=zone)
         return made
 
+    def __eq__(self, other: object) -> bool:
+        if isinstance(other, datetime.tzinfo):
+            raise TypeError(f"can't compare Zone with {type(other).__name__}; compare with Zone(key)")
+        return isinstance(other, Zone) and (self.key, self._data, self._is_posix) == (other.key, other._data, other._is_posix)
+
     @classmethod
     def from_file(cls, data: bytes, key: str = "") -> Zone:
         """Creates the zone of the bytes of a TZif file, or raises `ZoneError`."""
@@ -261,10 +266,10 @@ class ZonedDateTime:
     """ZonedDateTime(moment, zone): the instant of an `OffsetDateTime` in a time zone, with the date
     and the time of day that the clocks show then.
 
-    Values compare and hash by instant, regardless of zone. + and - with a `SignedDuration` or a
-    `timedelta` move the instant, and + with a `Period` like `add_period`. If what the clocks show
-    is out of range, methods raise `OverflowError`, and by `Policy.Reject` they raise `ValueError` in
-    a gap and in a fold.
+    Values compare and hash by instant, regardless of zone, and equal an `OffsetDateTime` of the same
+    instant. + and - with a `SignedDuration` or a `timedelta` move the instant, and + with a `Period`
+    like `add_period`. If what the clocks show is out of range, methods raise `OverflowError`, and by
+    `Policy.Reject` they raise `ValueError` in a gap and in a fold.
 
     >>> berlin = Zone.from_posix("CET-1CEST,M3.5.0,M10.5.0/3")
     >>> noon = ZonedDateTime.from_local(PlainDateTime.parse("2024-03-30T12:00"), berlin)
@@ -548,9 +553,7 @@ class ZonedDateTime:
 
     def __eq__(self, other: object) -> bool:
         # A value of datetime raises TypeError, as it does for an OffsetDateTime.
-        if isinstance(other, ZonedDateTime):
-            return self._moment == other._moment
-        return self._moment == other and False
+        return self._moment == (other._moment if isinstance(other, ZonedDateTime) else other)
 
     def __lt__(self, other: ZonedDateTime) -> bool:
         return self._moment < other._moment if isinstance(other, ZonedDateTime) else NotImplemented

@@ -257,6 +257,12 @@ ROWS = [
     ("zoned.replace(day=31, hour=2, minute=30).timestamp()", "1711848600.0", SAME),
     ("(zoned.replace(day=31) - zoned).total_seconds()", "86400.0", "82800.0"),
     ("zoned == same_zoned", "True", SAME),
+    ("zoned == in_utc", "True", SAME),
+    ("in_utc in [later_zoned, zoned]", "True", SAME),
+    ("zoned in {in_utc}", "True", SAME),
+    ("in_utc != zoned", "False", SAME),
+    ("later_zoned == in_utc", "False", SAME),
+    ("zoned == noon", "False", SAME),
     ("zoned.astimezone(utc).isoformat()", "'2024-03-30T11:00:00+00:00'", "AttributeError"),
     ("zoned.timestamp()", "1711796400.0", SAME),
     ("calendar.monthrange(day.year, day.month)", "(3, 29)", SAME),
@@ -275,7 +281,9 @@ def names_of_datetime():
         "delta": datetime.timedelta(days=1, hours=2), "half": datetime.timedelta(hours=12), "negative": datetime.timedelta(hours=-1),
         "tick": datetime.timedelta(microseconds=3), "range_of_days": [datetime.date(2024, 2, 28), datetime.date(2024, 2, 29)],
         "zoned": datetime.datetime(2024, 3, 30, 12, tzinfo=zoneinfo.ZoneInfo(BERLIN)),
-        "same_zoned": datetime.datetime(2024, 3, 30, 7, tzinfo=zoneinfo.ZoneInfo(NEW_YORK)), **MODULES}
+        "same_zoned": datetime.datetime(2024, 3, 30, 7, tzinfo=zoneinfo.ZoneInfo(NEW_YORK)),
+        "later_zoned": datetime.datetime(2024, 3, 30, 12, 0, 1, tzinfo=zoneinfo.ZoneInfo(BERLIN)),
+        "in_utc": datetime.datetime(2024, 3, 30, 11, tzinfo=datetime.timezone.utc), **MODULES}
 
 
 def own_names():
@@ -288,7 +296,9 @@ def own_names():
         "delta": SignedDuration(days=1, hours=2), "half": SignedDuration(hours=12), "negative": SignedDuration(hours=-1),
         "tick": SignedDuration(microseconds=3), "range_of_days": Date(2024, 2, 28).iter_to(Date(2024, 2, 29)),
         "zoned": ZonedDateTime.from_local(PlainDateTime(2024, 3, 30, 12), Zone(BERLIN)),
-        "same_zoned": ZonedDateTime.from_local(PlainDateTime(2024, 3, 30, 7), Zone(NEW_YORK)), **MODULES}
+        "same_zoned": ZonedDateTime.from_local(PlainDateTime(2024, 3, 30, 7), Zone(NEW_YORK)),
+        "later_zoned": ZonedDateTime.from_local(PlainDateTime(2024, 3, 30, 12, 0, 1), Zone(BERLIN)),
+        "in_utc": OffsetDateTime(2024, 3, 30, 11, offset=UtcOffset.UTC), **MODULES}
 
 
 def converted(value):

@@ -196,19 +196,46 @@ class Numpy(unittest.TestCase):
                     found = fotsevindre.dates_add_days(numpy.array([0, day]).view("datetime64[D]"), given)
                     self.assertEqual((int(found.dates.view("int64")[1]), bool(found.statuses[1])), (wanted, wanted == -2**63))
 
+    def test_days_later_in_long_columns(self):
+        """Where some of many rows are no dates, all others are those of NumPy's sum."""
+        rows, first, last = 1500, -365_961_662, 364_522_971
+        days = numpy.arange(rows) - 700
+        for row in (0, 1, 511, 512, 513, 1023, 1024, rows - 1):
+            for wrong in (-2**63, first - 1, last + 1, first, last, 2**28 - 1, 2**28, -2**28, -2**28 - 1, 2**62):
+                for move in (1, -1, numpy.arange(rows), numpy.where(numpy.arange(rows) == row, 2**63 - 1, 3)):
+                    given = days.copy()
+                    given[row] = wrong
+                    found = fotsevindre.dates_add_days(given.view("datetime64[D]"), move)
+                    moved = int(given[row]) + int(move if isinstance(move, int) else move[row])
+                    is_date = first <= wrong <= last and first <= moved <= last
+                    wanted = days + move
+                    wanted[row] = moved if is_date else -2**63
+                    self.assertTrue((found.dates.view("int64") == wanted).all())
+                    self.assertEqual((found.statuses.nonzero()[0].tolist(), found.error_count), ([] if is_date else [row], int(not is_date)))
+
+    def test_days_of_one_number(self):
+        days = numpy.array(["2024-02-29", "NaT"], dtype="datetime64[D]")
+        for one in (1, True, numpy.int64(1), numpy.uint8(1), numpy.array(1), numpy.timedelta64(1, "D"), numpy.array(1, "timedelta64[D]")):
+            found = fotsevindre.dates_add_days(days, one)
+            self.assertEqual((found.dates.astype(str).tolist(), found.statuses.astype(bool).tolist(), found.error_count), (["2024-03-01", "NaT"], [False, True], 1))
+        days.flags.writeable = False
+        self.assertEqual(fotsevindre.dates_add_days(days, 366).dates.astype(str).tolist(), ["2025-03-01", "NaT"])
+        for wrong in (2**63, -2**63 - 1):
+            self.assertRaises(OverflowError, fotsevindre.dates_add_days, days, wrong)
+        for wrong, column in [(1.5, days), (1, numpy.array("2024-02-29", "datetime64[D]")), (1, days.reshape(2, 1))]:
+            self.assertRaises(TypeError, fotsevindre.dates_add_days, column, wrong)
+
     def test_days_later_in_nanoseconds(self):
         day, limit = 86_400 * 10**9, 106_751
         for start, move in [(0, limit), (0, -limit), (-limit, 2 * limit), (limit, -2 * limit), (5, -7), (limit, 0)]:
             for given in (move, numpy.array([move]), numpy.array([move], "timedelta64[D]")):
                 found = fotsevindre.dates_add_days(numpy.array([start * day]).view("datetime64[ns]"), given)
-                # NumPy's own floor to days wraps around in the first day of the range.
-                number = found.dates.view("int64")[0] // {"datetime64[D]": 1, "datetime64[ns]": day}[str(found.dates.dtype)]
-                self.assertEqual((number, found.error_count), (start + move, 0))
+                self.assertEqual((str(found.dates.dtype), found.dates.view("int64").tolist(), found.error_count), ("datetime64[D]", [start + move], 0))
         for start, move in [(0, limit + 1), (limit, 1), (-limit, -1), (limit, 2 * limit), (0, 300_000)]:
             found = fotsevindre.dates_add_days(numpy.array([start * day]).view("datetime64[ns]"), move)
             self.assertEqual((str(found.dates.dtype), found.dates.view("int64").tolist()), ("datetime64[D]", [start + move]))
         found = fotsevindre.dates_add_days(numpy.array([0, -2**63, day]).view("datetime64[ns]"), 1)
-        self.assertEqual((found.dates.astype("datetime64[D]").view("int64").tolist(), found.error_count), ([1, -2**63, 2], 1))
+        self.assertEqual((str(found.dates.dtype), found.dates.view("int64").tolist(), found.error_count), ("datetime64[D]", [1, -2**63, 2], 1))
         for wrong in (1, day - 1, -1):
             self.assertRaisesRegex(ValueError, "whole days", fotsevindre.dates_add_days, numpy.array([0, wrong]).view("datetime64[ns]"), 1)
         many = numpy.arange(20)[::2]

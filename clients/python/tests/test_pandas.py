@@ -35,6 +35,10 @@ class Pandas(unittest.TestCase):
         self.assertEqual((list(made.dates), list(made.statuses), list(made.dates.index)), ([2460370, -2**31], [0, 64], [5, 6]))
         deltas = pandas.Series(pandas.to_timedelta([1, 2, 3], unit="D"), index=self.DAYS.index)
         self.assertEqual([str(day)[:10] for day in fotsevindre.dates_add_days(self.DAYS, deltas).dates], ["2024-03-01", "NaT", "2025-01-03"])
+        moved = fotsevindre.dates_add_days(numpy.array(["2024-02-29", "NaT", "2024-12-31"], "datetime64[D]"), pandas.Series([1, 2, 3], index=[4, 5, 6]))
+        self.assertEqual(([str(day)[:10] for day in moved.dates], list(moved.dates.index), list(moved.statuses.index)), (["2024-03-01", "NaT", "2025-01-03"], [4, 5, 6], [4, 5, 6]))
+        with self.assertRaises(pandas.errors.OutOfBoundsDatetime):
+            fotsevindre.dates_add_days(self.DAYS, 300 * 366)
         between = fotsevindre.dates_workdays_between(self.DAYS, Date(2025, 1, 1), Workdays())
         wanted = numpy.busday_count(self.DAYS.dropna().to_numpy().astype("datetime64[D]"), numpy.datetime64("2025-01-01"))
         self.assertEqual((list(between.numbers[["a", "c"]]), between.numbers["b"]), (list(wanted), -2**31))

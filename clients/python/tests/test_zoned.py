@@ -203,7 +203,10 @@ class Values(unittest.TestCase):
         self.assertEqual((berlin, hash(berlin), later - tokyo), (tokyo, hash(tokyo), SignedDuration.NANOSECOND))
         self.assertTrue(berlin <= tokyo < later and later > tokyo >= berlin and berlin != later and not berlin < tokyo and not berlin > tokyo)
         self.assertEqual(sorted([later, tokyo]), [tokyo, later])
-        self.assertFalse(berlin == berlin.to_offset_date_time() or berlin == 1 or berlin == "2024")
+        for moment in (berlin.to_offset_date_time(), berlin.to_utc()):
+            self.assertTrue(berlin == moment and moment == tokyo and later != moment and moment != later)
+            self.assertEqual(({moment: 1}[tokyo], moment in {tokyo}, later in [moment]), (1, True, False))
+        self.assertFalse(berlin == 1 or berlin == "2024" or berlin == berlin.local() or berlin.local() == berlin or berlin == None)
         for compare in (operator.eq, operator.ne, operator.lt):
             self.assertRaises(TypeError, compare, berlin, berlin.to_datetime())
             self.assertRaises(TypeError, compare, berlin.to_datetime(), berlin)

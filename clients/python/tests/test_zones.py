@@ -6,6 +6,7 @@ import datetime
 import doctest
 import importlib
 import itertools
+import operator
 import os
 import pathlib
 import pickle
@@ -105,6 +106,11 @@ class WorkedRows(unittest.TestCase):
         for same in (Zone("Europe/Berlin"), copy.copy(berlin), pickle.loads(pickle.dumps(berlin))):
             self.assertEqual((same, hash(same), str(same), repr(same)), (berlin, hash(berlin), "Europe/Berlin", "Zone('Europe/Berlin')"))
         self.assertNotEqual(berlin, Zone("Europe/Vienna"))
+        self.assertFalse(berlin == "Europe/Berlin" or berlin == None or Zone.from_posix("CET-1") == Zone.from_posix("CET-2"))
+        for other in (zoneinfo.ZoneInfo("Europe/Berlin"), datetime.timezone.utc):
+            for compare in (operator.eq, operator.ne, lambda one, two: one in [two]):
+                for pair in ((berlin, other), (other, berlin)):
+                    self.assertRaisesRegex(TypeError, "^can't compare Zone with", compare, *pair)
         for key in ("", "No/Where", "../zoneinfo/Europe/Berlin", "/usr/share/zoneinfo/Europe/Berlin", "Europe", "a\0b", "\ud800"):
             self.assertRaises(LookupError, Zone, key)
         for call in (
