@@ -182,9 +182,10 @@ def days_later(kind: Callable[..., _R], dates: Any, days: Any) -> _R | None:
         if not hasattr(dates, "to_numpy"):
             return None
         times, days = dates.to_numpy(), days.to_numpy() if hasattr(days, "to_numpy") else days
-    is_numpy = type(days) is numpy.ndarray or isinstance(days, numpy.generic)
-    if type(days) is not int and not (is_numpy and _text(days.dtype) in _MOVES):
-        return None
+    if type(days) is not int:
+        is_numpy = type(days) is numpy.ndarray or isinstance(days, numpy.generic)
+        if not is_numpy or _text(days.dtype) not in _MOVES:
+            return None
     made = numpy.empty(times.size, "M8[D]" if is_array and are_times else times.dtype)
     statuses = numpy.zeros(times.size, "B")
     error_count = _core.days_later(times, made, statuses, days, are_times, are_times and not is_array)

@@ -23,8 +23,9 @@ from fotsevindre import Date, Format, OffsetDateTime, PlainDateTime, SignedDurat
 
 VALUES = 4096
 ROUNDS = 9
-# Of the columns of strings, which pandas needs seconds for.
+# Of the columns of strings, which pandas needs seconds for, and of short ones.
 ROWS = 1_000_000
+SHORT_ROWS = 1000
 
 julian_days = array.array("i", (1721426 + 891 * number for number in range(VALUES)))
 moves = array.array("q", (number % 20001 - 10000 for number in range(VALUES)))
@@ -72,6 +73,7 @@ LOOPS = [
     ("an error", lambda: failed(Date), lambda: failed(datetime.date)),
     ("year", lambda: [date.year for date in dates], lambda: [date.year for date in others]),
     ("month", lambda: [date.month for date in dates], lambda: [date.month for date in others]),
+    ("year of a date-time", lambda: [one.year for one in plain], lambda: [one.year for one in others_plain]),
     ("hour of a date-time", lambda: [one.hour for one in plain], lambda: [one.hour for one in others_plain]),
     ("the days between two dates", lambda: [(date - dates[7]).days for date in dates], lambda: [(date - others[7]).days for date in others]),
     ("total_seconds", lambda: [one.total_seconds() for one in durations], lambda: [one.total_seconds() for one in deltas]),
@@ -126,6 +128,11 @@ if numpy:
         ("dates_add_days, a series, and Timedelta", lambda: fotsevindre.dates_add_days(series, 1), lambda: series + pandas.Timedelta(days=1)),
         ("dates_add_months, a series, and DateOffset", lambda: fotsevindre.dates_add_months(series, 1), lambda: series + pandas.DateOffset(months=1)),
     ]
+    short, whole_short = days[:SHORT_ROWS].copy(), whole[:SHORT_ROWS].copy()
+    SHORT = [
+        (f"dates_add_days, {SHORT_ROWS} rows, and +", lambda: fotsevindre.dates_add_days(short, 1), lambda: short + 1),
+        ("the same, a column of days", lambda: fotsevindre.dates_add_days(short, whole_short), lambda: short + whole_short),
+    ]
     spread = (numpy.arange(ROWS) % 30000 - 5000).view("datetime64[D]")
     many_days, iso = pandas.Series(spread.astype("datetime64[ns]")), pandas.Series(numpy.datetime_as_string(spread).astype(object))
     basic = iso.str.replace("-", "", regex=False)
@@ -154,5 +161,7 @@ def show(name, here, *other):
 print(f"nanoseconds a value, minimum of {ROUNDS} rounds, here and by datetime")
 for name, loop, other in LOOPS:
     show(name, *least(loop, *filter(None, [other])))
+for name, loop, other in SHORT if numpy else []:
+    show(name, *least(loop, other, rounds=200, number=50, values=SHORT_ROWS))
 for name, loop, other in LARGE if numpy else []:
     show(name, *least(loop, other, rounds=3, number=1, values=ROWS))

@@ -224,6 +224,8 @@ class Numpy(unittest.TestCase):
             self.assertRaises(OverflowError, fotsevindre.dates_add_days, days, wrong)
         for wrong, column in [(1.5, days), (1, numpy.array("2024-02-29", "datetime64[D]")), (1, days.reshape(2, 1))]:
             self.assertRaises(TypeError, fotsevindre.dates_add_days, column, wrong)
+        for rows in (0, 1, 3):
+            self.assertRaisesRegex(ValueError, "same length", fotsevindre.dates_add_days, days, numpy.arange(rows))
 
     def test_days_later_in_nanoseconds(self):
         day, limit = 86_400 * 10**9, 106_751
