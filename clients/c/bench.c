@@ -1,15 +1,7 @@
-/* Times the cheapest calls, their inline functions and the rows of columns beside a loop without a
- * call. Prints the median in nanoseconds of processor time for each value. Nothing tests it. */
-#include <stdio.h>
-#include <stdlib.h>
-#include <string.h>
-#include <time.h>
-
+/* Times functions, their inline functions and the rows of columns, each over 4096 values. */
 #include "fotsevindre_inline.h"
 
-#define VALUES 4096
-#define PASSES 50
-#define ROUNDS 21
+#include "bench.h"
 
 static fots_date dates[VALUES];
 static fots_offset offsets[VALUES];
@@ -22,21 +14,6 @@ static fots_iso_week_date_result week_dates[VALUES];
 /* Columns. */
 static int32_t julian_days[VALUES], years[VALUES], found[VALUES];
 static uint8_t months[VALUES], month_days[VALUES], weeks[VALUES], weekdays[VALUES], statuses[VALUES];
-
-/* Hides the number and the memory from the optimizer. */
-static void keep(int32_t number)
-{
-    __asm__ volatile("" : : "r"(number) : "memory");
-}
-
-static uint32_t drawn(void)
-{
-    static uint64_t state = 88172645463325252ULL;
-    state ^= state << 13;
-    state ^= state >> 7;
-    state ^= state << 17;
-    return (uint32_t)(state >> 32);
-}
 
 /* Fills in dates of the years 1 to 9999, offsets, and moves of up to 10000 days. */
 static void draw(void)
@@ -67,65 +44,34 @@ static void one_offset_negated(void)
     }
 }
 
-static void one_next_day(void)
-{
-    for (int k = 0; k < VALUES; k++) {
-        keep(fots_date_next_day(dates[k]).date.julian_day);
-    }
-}
-
-static void one_weekday(void)
-{
-    for (int k = 0; k < VALUES; k++) {
-        numbers[k] = fots_date_weekday(dates[k]);
-    }
-    keep((int32_t)numbers[0].number);
-}
-
 static void column_of_weekdays(void)
 {
-    keep((int32_t)fots_dates_weekdays(julian_days, VALUES, weekdays, VALUES, statuses, VALUES));
-}
-
-static void one_add_days(void)
-{
-    for (int k = 0; k < VALUES; k++) {
-        made[k] = fots_date_add_days(dates[k], days[k]);
-    }
-    keep(made[0].date.julian_day);
+    keep((int64_t)fots_dates_weekdays(julian_days, VALUES, weekdays, VALUES, statuses, VALUES));
 }
 
 static void column_of_added_days(void)
 {
-    keep((int32_t)fots_dates_add_days(julian_days, VALUES, days, VALUES, found, VALUES, statuses, VALUES));
-}
-
-static void one_calendar_date(void)
-{
-    for (int k = 0; k < VALUES; k++) {
-        shown[k] = fots_date_to_calendar_date(dates[k]);
-    }
-    keep(shown[0].year);
+    keep((int64_t)fots_dates_add_days(julian_days, VALUES, days, VALUES, found, VALUES, statuses, VALUES));
 }
 
 static void column_of_calendar_dates(void)
 {
-    keep((int32_t)fots_dates_to_calendar_dates(julian_days, VALUES, found, VALUES, weeks, VALUES, weekdays, VALUES, statuses, VALUES));
+    keep((int64_t)fots_dates_to_calendar_dates(julian_days, VALUES, found, VALUES, weeks, VALUES, weekdays, VALUES, statuses, VALUES));
 }
 
 static void column_from_calendar_dates(void)
 {
-    keep((int32_t)fots_dates_from_calendar_dates(years, VALUES, months, VALUES, month_days, VALUES, found, VALUES, statuses, VALUES));
+    keep((int64_t)fots_dates_from_calendar_dates(years, VALUES, months, VALUES, month_days, VALUES, found, VALUES, statuses, VALUES));
 }
 
 static void column_of_week_dates(void)
 {
-    keep((int32_t)fots_dates_to_iso_week_dates(julian_days, VALUES, found, VALUES, weeks, VALUES, weekdays, VALUES, statuses, VALUES));
+    keep((int64_t)fots_dates_to_iso_week_dates(julian_days, VALUES, found, VALUES, weeks, VALUES, weekdays, VALUES, statuses, VALUES));
 }
 
 static void column_of_calendar_to_week_dates(void)
 {
-    keep((int32_t)fots_calendar_dates_to_iso_week_dates(years, VALUES, months, VALUES, month_days, VALUES, found, VALUES, weeks, VALUES,
+    keep((int64_t)fots_calendar_dates_to_iso_week_dates(years, VALUES, months, VALUES, month_days, VALUES, found, VALUES, weeks, VALUES,
         weekdays, VALUES, statuses, VALUES));
 }
 
@@ -203,100 +149,62 @@ LOOP(one_rule_next_after, made, fots_rule_next_after(&rule, dates[k]))
 
 static void column_of_added_months(void)
 {
-    keep((int32_t)fots_dates_add_months(julian_days, VALUES, moves, VALUES, found, VALUES, statuses, VALUES));
+    keep((int64_t)fots_dates_add_months(julian_days, VALUES, moves, VALUES, found, VALUES, statuses, VALUES));
 }
 
 static void column_of_texts(void)
 {
-    keep((int32_t)fots_dates_parse(texts, 10 * VALUES, bounds, VALUES + 1, found, VALUES, statuses, VALUES));
+    keep((int64_t)fots_dates_parse(texts, 10 * VALUES, bounds, VALUES + 1, found, VALUES, statuses, VALUES));
 }
 
 static void column_of_zone_offsets(void)
 {
-    keep((int32_t)fots_zone_offsets(&zone, instants, VALUES, found, VALUES, statuses, VALUES));
+    keep((int64_t)fots_zone_offsets(&zone, instants, VALUES, found, VALUES, statuses, VALUES));
 }
 
 static void column_of_zone_instants(void)
 {
     static int64_t resolved[VALUES];
-    keep((int32_t)fots_zone_instants(&zone, instants, VALUES, FOTS_COMPATIBLE, resolved, VALUES, statuses, VALUES));
+    keep((int64_t)fots_zone_instants(&zone, instants, VALUES, FOTS_COMPATIBLE, resolved, VALUES, statuses, VALUES));
 }
 
+/* A function, its inline function and its rows. */
 static const struct {
     const char *name;
-    void (*run)(void);
-} loops[] = {
-    {"no call", no_call},
-    {"fots_offset_neg", one_offset_negated},
-    {"fots_date_next_day", one_next_day},
-    {"fots_date_weekday", one_weekday},
-    {"fots_dates_weekdays, a row", column_of_weekdays},
-    {"fots_date_add_days", one_add_days},
-    {"fots_dates_add_days, a row", column_of_added_days},
-    {"fots_date_to_calendar_date", one_calendar_date},
-    {"fots_dates_to_calendar_dates, a row", column_of_calendar_dates},
-    {"fots_dates_from_calendar_dates, a row", column_from_calendar_dates},
-    {"fots_dates_to_iso_week_dates, a row", column_of_week_dates},
-    {"fots_calendar_dates_to_iso_week_dates, a row", column_of_calendar_to_week_dates},
-    {"fots_date_next_day, stored", next_day_called},
-    {"the same inlined", next_day_inlined},
-    {"fots_date_add_days, stored", add_days_called},
-    {"the same inlined", add_days_inlined},
-    {"fots_date_weekday, stored", weekday_called},
-    {"the same inlined", weekday_inlined},
-    {"fots_date_month, stored", month_called},
-    {"the same inlined", month_inlined},
-    {"fots_date_to_calendar_date, stored", calendar_called},
-    {"the same inlined", calendar_inlined},
-    {"fots_date_to_iso_week_date, stored", week_called},
-    {"the same inlined", week_inlined},
-    {"fots_date_from_calendar_date, stored", date_called},
-    {"the same inlined", date_inlined},
-    {"fots_date_from_julian_day", one_from_julian_day},
-    {"fots_date_from_ordinal_date", one_from_ordinal_date},
-    {"fots_date_add_months", one_add_months},
-    {"fots_date_months_until", one_months_until},
-    {"fots_date_quarter", one_quarter},
-    {"fots_date_parse", one_parse},
-    {"fots_moment_text", one_moment_text},
-    {"fots_moment_parse", one_moment_parse},
-    {"fots_date_format", one_date_format},
-    {"fots_zone_offset", one_zone_offset},
-    {"fots_zone_resolve", one_zone_resolve},
-    {"fots_workdays_add", one_workdays_add},
-    {"fots_rule_next_after", one_rule_next_after},
-    {"fots_dates_add_months, a row", column_of_added_months},
-    {"fots_dates_parse, a row", column_of_texts},
-    {"fots_zone_offsets, a row", column_of_zone_offsets},
-    {"fots_zone_instants, a row", column_of_zone_instants},
+    void (*called)(void), (*inlined)(void), (*column)(void);
+} tasks[] = {
+    {"no function", no_call, NULL, NULL},
+    {"fots_offset_neg", one_offset_negated, NULL, NULL},
+    {"fots_date_next_day", next_day_called, next_day_inlined, NULL},
+    {"fots_date_add_days", add_days_called, add_days_inlined, column_of_added_days},
+    {"fots_date_weekday", weekday_called, weekday_inlined, column_of_weekdays},
+    {"fots_date_month", month_called, month_inlined, NULL},
+    {"fots_date_to_calendar_date", calendar_called, calendar_inlined, column_of_calendar_dates},
+    {"fots_date_to_iso_week_date", week_called, week_inlined, column_of_week_dates},
+    {"fots_date_from_calendar_date", date_called, date_inlined, column_from_calendar_dates},
+    {"fots_calendar_dates_to_iso_week_dates", NULL, NULL, column_of_calendar_to_week_dates},
+    {"fots_date_from_julian_day", one_from_julian_day, NULL, NULL},
+    {"fots_date_from_ordinal_date", one_from_ordinal_date, NULL, NULL},
+    {"fots_date_add_months", one_add_months, NULL, column_of_added_months},
+    {"fots_date_months_until", one_months_until, NULL, NULL},
+    {"fots_date_quarter", one_quarter, NULL, NULL},
+    {"fots_date_parse", one_parse, NULL, column_of_texts},
+    {"fots_moment_text", one_moment_text, NULL, NULL},
+    {"fots_moment_parse", one_moment_parse, NULL, NULL},
+    {"fots_date_format", one_date_format, NULL, NULL},
+    {"fots_zone_offset", one_zone_offset, NULL, column_of_zone_offsets},
+    {"fots_zone_resolve", one_zone_resolve, NULL, column_of_zone_instants},
+    {"fots_workdays_add", one_workdays_add, NULL, NULL},
+    {"fots_rule_next_after", one_rule_next_after, NULL, NULL},
 };
 
-#define LOOPS ((int)(sizeof(loops) / sizeof(loops)[0]))
-
-static int in_order(const void *one, const void *other)
+int main(int argc, char **argv)
 {
-    double a = *(const double *)one, b = *(const double *)other;
-    return (a > b) - (a < b);
-}
-
-int main(void)
-{
-    static double times[LOOPS][ROUNDS];
     draw();
     prepare();
-    for (int round = 0; round < ROUNDS; round++) {
-        for (int loop = 0; loop < LOOPS; loop++) {
-            clock_t start = clock();
-            for (int pass = 0; pass < PASSES; pass++) {
-                loops[loop].run();
-            }
-            times[loop][round] = (double)(clock() - start) / CLOCKS_PER_SEC * 1e9 / VALUES / PASSES;
-        }
-    }
-    printf("nanoseconds a value, median of %d rounds\n", ROUNDS);
-    for (int loop = 0; loop < LOOPS; loop++) {
-        qsort(times[loop], ROUNDS, sizeof(times)[0][0], in_order);
-        printf("%-38s%6.2f\n", loops[loop].name, times[loop][ROUNDS / 2]);
+    for (size_t k = 0; k < sizeof tasks / sizeof *tasks; k++) {
+        const struct timed loops[MAX_LOOPS] = {{"here", tasks[k].called}, {"inlined", tasks[k].inlined}, {"a row", tasks[k].column}};
+        compare("calls", "", tasks[k].name, loops, rounds_of(argc, argv));
     }
     return 0;
 }

@@ -1,15 +1,8 @@
-/* Times formats and zones beside glibc, in turn: nanoseconds of processor time for each value, the least
- * of some rounds, and how many times as long glibc takes. Nothing tests it. */
-#define _XOPEN_SOURCE 700
-#include <stdio.h>
-#include <stdlib.h>
-#include <string.h>
-#include <time.h>
-
+/* Times formats and zones beside glibc. */
 #include "fotsevindre_zones.h"
 
-#define VALUES 4096
-#define ROUNDS 401
+#include "bench.h"
+
 #define ROOM 64
 
 static fots_date dates[VALUES];
@@ -23,21 +16,6 @@ static size_t lengths[VALUES];
 static fots_format_result format;
 static const char *format_text;
 static const fots_zone *zone;
-
-/* Hides the number and the memory from the optimizer. */
-static void keep(int64_t number)
-{
-    __asm__ volatile("" : : "r"(number) : "memory");
-}
-
-static uint32_t drawn(void)
-{
-    static uint64_t state = 88172645463325252ULL;
-    state ^= state << 13;
-    state ^= state >> 7;
-    state ^= state << 17;
-    return (uint32_t)(state >> 32);
-}
 
 /* Fills in dates of the years 1000 to 9999 and times of day in whole seconds, also as a struct tm. */
 static void draw_dates(void)
@@ -175,31 +153,14 @@ static void local_times_by_glibc(void)
     }
 }
 
-/* Returns the nanoseconds of processor time that a loop takes for each value. */
-static double time_of(void (*loop)(void))
+static void beside(const char *group, const char *task, void (*ours)(void), void (*theirs)(void), int rounds)
 {
-    struct timespec start, end;
-    clock_gettime(CLOCK_PROCESS_CPUTIME_ID, &start);
-    loop();
-    clock_gettime(CLOCK_PROCESS_CPUTIME_ID, &end);
-    return ((double)(end.tv_sec - start.tv_sec) * 1e9 + (double)(end.tv_nsec - start.tv_nsec)) / VALUES;
-}
-
-/* Runs two loops in turn, and prints the least times of both and their quotient. */
-static void compare(const char *name, void (*ours)(void), void (*theirs)(void))
-{
-    double least[2] = {1e9, 1e9};
-    for (int round = 0; round < ROUNDS; round++) {
-        const double times_of_both[2] = {time_of(ours), time_of(theirs)};
-        for (int k = 0; k < 2; k++) {
-            least[k] = times_of_both[k] < least[k] ? times_of_both[k] : least[k];
-        }
-    }
-    printf("%-44s%8.1f%8.1f%8.2f\n", name, least[0], least[1], least[1] / least[0]);
+    const struct timed loops[MAX_LOOPS] = {{"here", ours}, {"glibc", theirs}, {NULL, NULL}};
+    compare("c", group, task, loops, rounds);
 }
 
 /* Compares a format: printed, and parsed from the texts that glibc prints. */
-static void compare_format(const char *text, void (*print)(void), void (*parse)(void))
+static void compare_format(const char *text, void (*print)(void), void (*parse)(void), int rounds)
 {
     char name[ROOM];
     format_text = text;
@@ -208,45 +169,52 @@ static void compare_format(const char *text, void (*print)(void), void (*parse)(
         lengths[k] = strftime(texts[k], ROOM, text, &peers[k]);
     }
     snprintf(name, sizeof name, "%s printed", text);
-    compare(name, print, print_by_glibc);
+    beside("a format printed, C", name, print, print_by_glibc, rounds);
     snprintf(name, sizeof name, "%s parsed", text);
-    compare(name, parse, parse_by_glibc);
+    beside("a format parsed, C", name, parse, parse_by_glibc, rounds);
 }
 
 /* Compares functions of a zone with localtime_r. */
-static void compare_zones(const char *years)
+static void compare_zones(const char *years, int rounds)
 {
-    printf("%s:\n", years);
-    compare("an offset; localtime_r", offsets, local_times_by_glibc);
-    compare("a local time; localtime_r", local_times, local_times_by_glibc);
-    compare("a row of offsets; localtime_r", column_of_offsets, local_times_by_glibc);
-    compare("a row of local times; localtime_r", column_of_local_times, local_times_by_glibc);
+    static const struct timed ours[] = {
+        {"fots_zone_offset", offsets},
+        {"fots_zone_resolve", local_times},
+        {"fots_zone_offsets", column_of_offsets},
+        {"fots_zone_instants", column_of_local_times},
+    };
+    char task[ROOM];
+    for (size_t k = 0; k < sizeof ours / sizeof *ours; k++) {
+        snprintf(task, sizeof task, "%s, %s", ours[k].name, years);
+        beside("zones, C", task, ours[k].run, local_times_by_glibc, rounds);
+    }
 }
 
-int main(void)
+int main(int argc, char **argv)
 {
     static const char *const of_dates[] = {"%Y-%m-%d", "%Y-%j", "%G-W%V-%u", "%d %b %Y", "%d/%m/%Y", "%a, %d %b %Y"};
     static const char *const of_times[] = {"%H:%M:%S", "%-I:%M %p"};
+    const int rounds = rounds_of(argc, argv);
     draw_dates();
     for (size_t k = 0; k < sizeof of_dates / sizeof *of_dates; k++) {
-        compare_format(of_dates[k], print_dates, parse_dates);
+        compare_format(of_dates[k], print_dates, parse_dates, rounds);
     }
-    compare_format("%Y-%m-%d %H:%M:%S", print_pairs, parse_pairs);
+    compare_format("%Y-%m-%d %H:%M:%S", print_pairs, parse_pairs, rounds);
     for (size_t k = 0; k < sizeof of_times / sizeof *of_times; k++) {
-        compare_format(of_times[k], print_times, parse_times);
+        compare_format(of_times[k], print_times, parse_times, rounds);
     }
     setenv("TZ", "Europe/Berlin", 1);
     tzset();
     zone = fots_zone_named("Europe/Berlin").zone;
     if (zone == NULL) {
-        puts("no zone files");
-        return 1;
+        fputs("no zone files\n", stderr);
+        return 0;
     }
     draw_instants(3652, 24107, 0);
-    compare_zones("1980 to 2035");
+    compare_zones("1980 to 2035", rounds);
     draw_instants(-25567, 24837, 1);
-    compare_zones("1900 to 2037, in order");
+    compare_zones("1900 to 2037 in order", rounds);
     draw_instants(25567, 157054, 0);
-    compare_zones("2040 to 2399");
+    compare_zones("2040 to 2399", rounds);
     return 0;
 }

@@ -5,7 +5,7 @@ use fotsevindre::{Date, Format};
 
 /// Times each format in both directions.
 pub fn compare_formats() {
-    for pattern in ["%Y-%m-%d", "%d %b %Y"] {
+    for pattern in ["%Y-%m-%d", "%d %b %Y", "%d/%m/%Y", "%Y-%j", "%G-W%V-%u"] {
         compare_format(pattern);
     }
 }
@@ -21,17 +21,19 @@ fn compare_format(pattern: &str) {
     let chronos: Vec<_> =
         julian_days.iter().map(|day| chrono::NaiveDate::from_num_days_from_ce_opt(day - 1_721_425).unwrap()).collect();
     compare(
-        &format!("format {pattern}"),
+        "formats",
+        &format!("{pattern} printed"),
         vec![
-            ("ours", over(&dates, |date| date.format(&format).unwrap())),
+            ("here", over(&dates, |date| date.format(&format).unwrap())),
             #[cfg(has_chrono)]
             ("chrono", over(&chronos, |date| date.format(pattern).to_string())),
         ],
     );
     compare(
-        &format!("parse {pattern}"),
+        "formats",
+        &format!("{pattern} parsed"),
         vec![
-            ("ours", over(&texts, |text| Date::parse(text, &for_dates).unwrap())),
+            ("here", over(&texts, |text| Date::parse(text, &for_dates).unwrap())),
             #[cfg(has_chrono)]
             ("chrono", over(&texts, |text| chrono::NaiveDate::parse_from_str(text, pattern).unwrap())),
         ],

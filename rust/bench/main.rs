@@ -1,18 +1,17 @@
-//! Times each call of the client and of the other crates, in turn, over random dates of the years 1
-//! to 9999. Prints the median of the rounds in nanoseconds of processor time for each call, and in
-//! parentheses how many times the other crate's time ours is.
+//! Times functions of the crate and of the crates `time`, `chrono` and `chrono-tz`, over random dates of
+//! the years 1 to 9999, in the rows of `clients/c/bench.h`. The loops of a row run in turn. The
+//! argument is the number of rounds.
 #![allow(unexpected_cfgs)]
 
 mod calls;
 mod formats;
-mod periods;
 mod zones;
 
 use std::hint::black_box;
 
 const DRAWN: usize = 4096;
-const PASSES: usize = 25;
-const ROUNDS: usize = 21;
+const PASSES: usize = 10;
+const ROUNDS: usize = 51;
 
 /// A random date, with the numbers for the calls.
 struct Drawn {
@@ -61,47 +60,40 @@ fn over<'a, T, R>(values: &'a [T], call: impl Fn(&T) -> R + 'a) -> Box<dyn Fn() 
     })
 }
 
-/// Columns of calendar dates.
-fn column_of_calendar_dates(dates: &[i32]) -> Box<dyn Fn() + '_> {
-    Box::new(move || {
-        let (mut years, mut months, mut days, mut statuses) = ([0; DRAWN], [0; DRAWN], [0; DRAWN], [0; DRAWN]);
-        let dates = black_box(dates);
-        fotsevindre::columns::dates_to_calendar_dates(dates, &mut years, &mut months, &mut days, &mut statuses);
-        black_box((years, months, days, statuses));
-    })
+#[repr(C)]
+struct Timespec {
+    seconds: i64,
+    nanoseconds: i64,
 }
 
 extern "C" {
-    fn clock() -> std::ffi::c_long;
+    fn clock_gettime(clock: i32, time: *mut Timespec) -> i32;
 }
 
-/// Returns the processor time of this program in seconds. POSIX has a million clocks a second.
+/// Returns the processor time of this program in seconds. Linux has this number and struct on 64 bits.
 fn processor_time() -> f64 {
-    (unsafe { clock() }) as f64 / 1e6
+    const CLOCK_PROCESS_CPUTIME_ID: i32 = 2;
+    let mut time = Timespec { seconds: 0, nanoseconds: 0 };
+    assert_eq!(unsafe { clock_gettime(CLOCK_PROCESS_CPUTIME_ID, &mut time) }, 0);
+    time.seconds as f64 + time.nanoseconds as f64 / 1e9
 }
 
-/// Times the calls in turn, and prints the median of each.
-fn compare(name: &str, calls: Vec<Timed>) {
-    let mut times = vec![Vec::new(); calls.len()];
-    for _ in 0..ROUNDS {
-        for ((_, call), times) in calls.iter().zip(&mut times) {
+/// Times the functions in turn, and prints the minimum of each.
+fn compare(group: &str, name: &str, calls: Vec<Timed>) {
+    let rounds = std::env::args().nth(1).map_or(ROUNDS, |rounds| rounds.parse().unwrap());
+    let mut times = vec![f64::INFINITY; calls.len()];
+    for _ in 0..rounds {
+        for ((_, call), least) in calls.iter().zip(&mut times) {
             let start = processor_time();
             for _ in 0..PASSES {
                 call();
             }
-            times.push((processor_time() - start) * 1e9 / (DRAWN * PASSES) as f64);
+            *least = least.min((processor_time() - start) * 1e9 / (DRAWN * PASSES) as f64);
         }
     }
-    print!("{name:<22}");
-    let medians: Vec<f64> = times
-        .iter_mut()
-        .map(|times| {
-            times.sort_by(f64::total_cmp);
-            times[ROUNDS / 2]
-        })
-        .collect();
-    for ((who, _), median) in calls.iter().zip(&medians) {
-        print!("  {who} {median:6.2} ({:4.2})", medians[0] / median);
+    print!("rust\t{group}, Rust\t{name}");
+    for ((who, _), least) in calls.iter().zip(&times) {
+        print!("\t{who}={least:.2}");
     }
     println!();
 }
@@ -121,29 +113,11 @@ fn main() {
     #[cfg(has_chrono)]
     use chrono::Datelike;
 
-    let julian_days: Vec<_> = numbers.iter().map(|n| n.julian_day).collect();
-    let offsets: Vec<_> =
-        numbers.iter().map(|n| fotsevindre::UtcOffset::from_whole_seconds((n.days * 9) as i32).unwrap()).collect();
-    println!("nanoseconds a call, median of {ROUNDS} rounds");
     compare(
-        "a call at least",
-        vec![
-            ("no call", over(&offsets, |offset| offset.whole_seconds())),
-            ("a negated offset", over(&offsets, |offset| -*offset)),
-            ("the next day", over(&ours, |date| date.next_day())),
-        ],
-    );
-    compare(
-        "a row",
-        vec![
-            ("to_calendar_date", over(&ours, |date| date.to_calendar_date())),
-            ("of a column", column_of_calendar_dates(&julian_days)),
-        ],
-    );
-    compare(
+        "dates",
         "from_calendar_date",
         vec![
-            ("ours", over(&numbers, |n| fotsevindre::Date::from_calendar_date(n.year, n.month.try_into().unwrap(), n.day))),
+            ("here", over(&numbers, |n| fotsevindre::Date::from_calendar_date(n.year, n.month.try_into().unwrap(), n.day))),
             #[cfg(has_time)]
             ("time", over(&numbers, |n| time::Date::from_calendar_date(n.year, n.month.try_into().unwrap(), n.day))),
             #[cfg(has_chrono)]
@@ -151,9 +125,10 @@ fn main() {
         ],
     );
     compare(
+        "dates",
         "from_ordinal_date",
         vec![
-            ("ours", over(&numbers, |n| fotsevindre::Date::from_ordinal_date(n.year, n.ordinal))),
+            ("here", over(&numbers, |n| fotsevindre::Date::from_ordinal_date(n.year, n.ordinal))),
             #[cfg(has_time)]
             ("time", over(&numbers, |n| time::Date::from_ordinal_date(n.year, n.ordinal))),
             #[cfg(has_chrono)]
@@ -161,9 +136,10 @@ fn main() {
         ],
     );
     compare(
+        "dates",
         "to_calendar_date",
         vec![
-            ("ours", over(&ours, |date| date.to_calendar_date())),
+            ("here", over(&ours, |date| date.to_calendar_date())),
             #[cfg(has_time)]
             ("time", over(&times, |date| date.to_calendar_date())),
             #[cfg(has_chrono)]
@@ -171,9 +147,10 @@ fn main() {
         ],
     );
     compare(
+        "dates",
         "to_iso_week_date",
         vec![
-            ("ours", over(&ours, |date| date.to_iso_week_date())),
+            ("here", over(&ours, |date| date.to_iso_week_date())),
             #[cfg(has_time)]
             ("time", over(&times, |date| date.to_iso_week_date())),
             #[cfg(has_chrono)]
@@ -181,9 +158,10 @@ fn main() {
         ],
     );
     compare(
+        "dates",
         "weekday",
         vec![
-            ("ours", over(&ours, |date| date.weekday())),
+            ("here", over(&ours, |date| date.weekday())),
             #[cfg(has_time)]
             ("time", over(&times, |date| date.weekday())),
             #[cfg(has_chrono)]
@@ -191,9 +169,10 @@ fn main() {
         ],
     );
     compare(
+        "dates",
         "next_day",
         vec![
-            ("ours", over(&ours, |date| date.next_day())),
+            ("here", over(&ours, |date| date.next_day())),
             #[cfg(has_time)]
             ("time", over(&times, |date| date.next_day())),
             #[cfg(has_chrono)]
@@ -201,9 +180,10 @@ fn main() {
         ],
     );
     compare(
+        "dates",
         "next_occurrence",
         vec![
-            ("ours", over(&ours, |date| date.checked_next_occurrence(black_box(fotsevindre::Weekday::Friday)))),
+            ("here", over(&ours, |date| date.checked_next_occurrence(black_box(fotsevindre::Weekday::Friday)))),
             #[cfg(has_chrono)]
             (
                 "chrono",
@@ -216,9 +196,10 @@ fn main() {
         ],
     );
     compare(
+        "dates",
         "checked_add",
         vec![
-            ("ours", over(&ours_moved, |(date, duration)| date.checked_add(*duration))),
+            ("here", over(&ours_moved, |(date, duration)| date.checked_add(*duration))),
             #[cfg(has_time)]
             ("time", over(&times_moved, |(date, duration)| date.checked_add(*duration))),
             #[cfg(has_chrono)]
@@ -226,9 +207,10 @@ fn main() {
         ],
     );
     compare(
+        "dates",
         "to_string",
         vec![
-            ("ours", over(&ours, |date| date.to_string())),
+            ("here", over(&ours, |date| date.to_string())),
             #[cfg(has_time)]
             ("time", over(&times, |date| date.to_string())),
             #[cfg(has_chrono)]
@@ -238,6 +220,5 @@ fn main() {
     #[cfg(has_time)]
     calls::compare_calls(&numbers);
     formats::compare_formats();
-    periods::compare_periods(&numbers);
     zones::compare_zones();
 }

@@ -1,7 +1,7 @@
-//! The offset at an instant, the instants of a local time, and moves, over random instants of Europe/Berlin.
+//! The offset at an instant and the instants of a local time, over random instants of Europe/Berlin.
 
 use super::{compare, over, Draw, DRAWN};
-use fotsevindre::{OffsetDateTime, Period, Policy, Zone, ZonedDateTime};
+use fotsevindre::{OffsetDateTime, Zone};
 
 const FILE: &str = "/usr/share/zoneinfo/Europe/Berlin";
 
@@ -15,7 +15,7 @@ const PERIODS: [(&str, i64, i64); 3] = [
 /// Times the calls, if the machine has the file of the zone.
 pub fn compare_zones() {
     let Ok(bytes) = std::fs::read(FILE) else {
-        println!("zones: left out, as there is no {FILE}");
+        eprintln!("no {FILE}");
         return;
     };
     let zone = Zone::parse(&bytes).unwrap();
@@ -29,36 +29,26 @@ fn compare_period(zone: &Zone, name: &str, first: i64, last: i64) {
     let instants: Vec<_> = (0..DRAWN).map(|_| first + draw.below((last - first) as u64) as i64).collect();
     let readings: Vec<_> = instants.iter().map(|instant| OffsetDateTime::from_unix_timestamp(*instant).unwrap().local()).collect();
     #[cfg(has_chrono_tz)]
-    use chrono::TimeZone;
+    use chrono::{Offset, TimeZone};
     #[cfg(has_chrono_tz)]
     let chronos: Vec<_> = instants.iter().map(|instant| chrono::NaiveDateTime::from_timestamp_opt(*instant, 0).unwrap()).collect();
-    compare(
-        &format!("offset {name}"),
-        vec![
-            ("ours", over(&instants, |instant| zone.utc_offset_at(*instant))),
-            #[cfg(has_chrono_tz)]
-            ("chrono-tz", over(&chronos, |instant| chrono_tz::Europe::Berlin.offset_from_utc_datetime(instant))),
-        ],
-    );
-    compare(
-        &format!("resolve {name}"),
-        vec![
-            ("ours", over(&readings, |reading| zone.resolve(*reading))),
-            #[cfg(has_chrono_tz)]
-            ("chrono-tz", over(&chronos, |reading| chrono_tz::Europe::Berlin.offset_from_local_datetime(reading))),
-        ],
-    );
-    let month = Period::from_months(1);
-    let moved: Vec<_> =
-        readings.iter().map(|reading| ZonedDateTime::from_local(*reading, zone, Policy::Compatible).unwrap()).collect();
-    compare(
-        &format!("moves {name}"),
-        vec![
-            ("resolve", over(&readings, |reading| zone.resolve(*reading))),
-            ("from_local", over(&readings, |reading| ZonedDateTime::from_local(*reading, zone, Policy::Compatible))),
-            ("a month later", over(&moved, |value| value.checked_add_period(month, Policy::Compatible))),
-            ("the next day", over(&moved, |value| value.moved_to(value.date().next_day().unwrap(), Policy::Compatible))),
-            ("start_of_day", over(&moved, |value| value.start_of_day())),
-        ],
-    );
+    #[allow(unused_mut)]
+    let mut offsets = vec![("here", over(&instants, |instant| zone.utc_offset_at(*instant)))];
+    #[allow(unused_mut)]
+    let mut resolved = vec![("here", over(&readings, |reading| zone.resolve(*reading)))];
+    #[cfg(has_chrono_tz)]
+    {
+        let offset_of = |instant: &chrono::NaiveDateTime| chrono_tz::Europe::Berlin.offset_from_utc_datetime(instant);
+        let agree = |(instant, other): (&i64, &chrono::NaiveDateTime)| {
+            zone.utc_offset_at(*instant).whole_seconds() == offset_of(other).fix().local_minus_utc()
+        };
+        if instants.iter().zip(&chronos).all(agree) {
+            offsets.push(("chrono-tz", over(&chronos, offset_of)));
+            resolved.push(("chrono-tz", over(&chronos, |reading| chrono_tz::Europe::Berlin.offset_from_local_datetime(reading))));
+        } else {
+            eprintln!("other offsets by chrono-tz: {name}");
+        }
+    }
+    compare("zones", &format!("utc_offset_at, {name}"), offsets);
+    compare("zones", &format!("resolve, {name}"), resolved);
 }
