@@ -7,6 +7,10 @@
 #include "fmgr.h"
 #include "utils/date.h"
 #include "utils/timestamp.h"
+/* postgres.h has these macros before PostgreSQL 16. */
+#if PG_VERSION_NUM >= 160000
+#include "varatt.h"
+#endif
 
 #include "../sql/names.h"
 
