@@ -1,5 +1,5 @@
 -- The reasons why a text has no answer.
-use Rattle.std.specs.Prelude.{ℕ, List, ◌++◌, [], codes, decimal, if◌then◌else◌}
+use Rattle.std.specs.Prelude.{ℕ, List, ◌++◌, codes, decimal, if◌then◌else◌}
 use Rattle.cal_time.specs.ComponentError.{component_name}
 use Rattle.cal_time.specs.declared.error.ComponentRange.{ComponentRange}
 use Rattle.cal_text.specs.declared.error.ParseError.{ParseError}
@@ -7,9 +7,13 @@ use Rattle.cal_text.specs.declared.error.ParseError.TheVariants.{UnexpectedByte,
 use Rattle.caldate_lines.specs.declared.no_answer.NoAnswer.{NoAnswer}
 use Rattle.caldate_lines.specs.declared.no_answer.NoAnswer.TheVariants as why
 
--- The words for a component that is out of range.
+-- The words for a component that is out of range: `refused month` if it is never valid, or
+-- `no such day` if that depends on the other components.
+abbrev pub refusal_words : ComponentRange → List ℕ
+refusal_words error = if error.is_conditional then codes "no such " else codes "refused "
+
 abbrev pub refused_text : ComponentRange → List ℕ
-refused_text error = codes "refused " ++ component_name error.component ++ (if error.is_conditional then codes " conditional" else [])
+refused_text error = refusal_words error ++ component_name error.component
 
 -- The words for a reason.
 abbrev pub reason : NoAnswer → List ℕ

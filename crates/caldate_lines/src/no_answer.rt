@@ -1,6 +1,6 @@
 //! The reasons why a line has no answer.
 ghost use Rattle.std.specs.Prelude.{◌≡◌, ◌+◌, ◌≤◌, ◌++◌, length};
-ghost use Rattle.caldate_lines.specs.Reasons.{reason, refused_text};
+ghost use Rattle.caldate_lines.specs.Reasons.{reason, refusal_words, refused_text};
 ghost use Rattle.caldate_lines.specs.Room.{HasRoom};
 
 use crate::output::buffer::Buffer;
@@ -54,15 +54,24 @@ pub fn push_reason(buffer: &mut Buffer, why: NoAnswer)
     }
 }
 
-/// Appends `refused` and the name of the component, and `conditional` if the error is conditional.
+/// Appends `refused month` or `no such day`, with the name of the component.
 fn push_refusal(buffer: &mut Buffer, error: ComponentRange)
     requires { HasRoom 64 buffer.old }
     ensures text { buffer.new ≡ buffer.old ++ refused_text error }
     ensures short { length buffer.new ≤ length buffer.old + 64 }
 {
-    buffer.push(b"refused ");
+    buffer.push(refusal_words(error));
     buffer.push(error.name().as_bytes());
+}
+
+/// Returns the words before the name of the component.
+fn refusal_words(error: ComponentRange) -> &'static [u8]
+    ensures value { result.now ≡ refusal_words error }
+    ensures short { length result.now ≤ 8 }
+{
     if error.is_conditional() {
-        buffer.push(b" conditional");
+        b"no such "
+    } else {
+        b"refused "
     }
 }
