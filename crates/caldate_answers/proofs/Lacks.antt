@@ -59,8 +59,7 @@ lacks_only reading text (Err (UnexpectedEnd p)) (why.Rejected e) form component 
 lacks_only reading text (Err (UnexpectedEnd p)) (why.Unreadable at) form component stop h =
     ap (λ at. Err (why.Unreadable at)) (one_position (HasFormIn reading) text p at stop.0 h.1)
 lacks_only reading text r why.TooLong form component stop h = absurd h
-lacks_only reading text r why.NoField form component stop h = absurd h
-lacks_only reading text r why.NoOtherField form component stop h = absurd h
+lacks_only reading text r (why.NoField missing) form component stop h = absurd h
 lacks_only reading text r why.UnreadOtherField form component stop h = absurd h
 lacks_only reading text r why.None form component stop h = absurd h
 lacks_only reading text r why.NoForm form component stop h = absurd h

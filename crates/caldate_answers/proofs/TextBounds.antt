@@ -79,8 +79,7 @@ pub rejected_form : (r : Reading) (bytes : List ℕ) (any : NoAnswer) → IsUnre
 rejected_form r bytes (why.Rejected component) h e = out_of_range_form r bytes component h
 rejected_form r bytes (why.Unreadable at) h e = absurd (false≢true e)
 rejected_form r bytes why.TooLong h e = absurd h
-rejected_form r bytes why.NoField h e = absurd h
-rejected_form r bytes why.NoOtherField h e = absurd h
+rejected_form r bytes (why.NoField missing) h e = absurd h
 rejected_form r bytes why.UnreadOtherField h e = absurd h
 rejected_form r bytes why.None h e = absurd h
 rejected_form r bytes why.NoForm h e = absurd h

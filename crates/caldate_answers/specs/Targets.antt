@@ -1,11 +1,11 @@
 -- TEXT of `until` and `since` in other fields of the line.
 use Rattle.std.specs.Prelude.{◌≡◌, ℕ, List, MatchOption, Option, Some, None, option_and_then, option_map, Result, Ok, Err}
 use Rattle.cal_text.specs.declared.any.DateOrMoment.{DateOrMoment}
-use Rattle.caldate_lines.specs.Fields.{selected_text, with_numbers}
+use Rattle.caldate_lines.specs.Fields.{missing_field, selected_text, with_numbers}
 use Rattle.caldate_lines.specs.declared.field.Field.{Field}
 use Rattle.caldate_lines.specs.declared.field_numbers.FieldNumbers.{FieldNumbers}
 use Rattle.caldate_lines.specs.declared.no_answer.NoAnswer.{NoAnswer}
-use Rattle.caldate_lines.specs.declared.no_answer.NoAnswer.TheVariants.{NoOtherField, UnreadOtherField}
+use Rattle.caldate_lines.specs.declared.no_answer.NoAnswer.TheVariants.{NoField, UnreadOtherField}
 use Rattle.caldate_answers.specs.Answers.{Answer, IsAnswer, IsNotRead, IsReadAs}
 use Rattle.caldate_answers.specs.declared.request.Filter.{Filter}
 use Rattle.caldate_answers.specs.declared.request.Request.{Request}
@@ -47,7 +47,7 @@ IsReadOther filter (Err any) asked = (any ≡ UnreadOtherField) × ((why : NoAns
 
 -- The same for the text of a line, which may lack these fields.
 abbrev pub IsOther : Filter → Field → List ℕ → Result DateOrMoment NoAnswer → Type 0
-IsOther filter other text found = MatchOption (selected_text other text) (found ≡ Err NoOtherField) (IsReadOther filter found)
+IsOther filter other text found = MatchOption (selected_text other text) (found ≡ Err (NoField (missing_field other text))) (IsReadOther filter found)
 
 -- The filter for a line whose other fields have this date or moment.
 abbrev pub with_text : Filter → DateOrMoment → Filter

@@ -5,6 +5,7 @@ use Rattle.caldate_lines.specs.declared.quoting.Quoting.{Quoting}
 use Rattle.caldate_lines.specs.declared.quoting.Quoting.TheVariants.{Off, Ready, Open, Bare}
 use Rattle.caldate_lines.specs.declared.field.Field.{Field}
 use Rattle.caldate_lines.specs.declared.field_numbers.FieldNumbers.{FieldNumbers}
+use Rattle.caldate_lines.specs.declared.missing_field.MissingField.{MissingField}
 use Rattle.caldate_lines.specs.declared.several_fields.RankedField.{RankedField}
 
 -- The same field with other numbers.
@@ -169,6 +170,10 @@ cut_of field text =
 -- The text of the fields, if the text of the line has them.
 abbrev pub selected_text : Field → List ℕ → Option (List ℕ)
 selected_text field text = option_map (λ cut. field_text field.csv cut.part) (cut_of field text)
+
+-- The last of the fields, and how many fields the text has.
+abbrev pub missing_field : Field → List ℕ → MissingField
+missing_field field text = record { number = field.first - 1 + field.joined + 1; count = length (fields_of field text) }
 
 -- The words are a new last field.
 abbrev pub with_last : Field → List ℕ → List ℕ → List ℕ

@@ -1,9 +1,10 @@
 -- The reasons why a text has no answer.
-use Rattle.std.specs.Prelude.{ℕ, List, ◌++◌, codes, decimal, if◌then◌else◌}
+use Rattle.std.specs.Prelude.{ℕ, ◌==◌, List, ◌++◌, codes, decimal, if◌then◌else◌}
 use Rattle.cal_time.specs.ComponentError.{component_name}
 use Rattle.cal_time.specs.declared.error.ComponentRange.{ComponentRange}
 use Rattle.cal_text.specs.declared.error.ParseError.{ParseError}
 use Rattle.cal_text.specs.declared.error.ParseError.TheVariants.{UnexpectedByte, UnexpectedEnd, OutOfRange}
+use Rattle.caldate_lines.specs.declared.missing_field.MissingField.{MissingField}
 use Rattle.caldate_lines.specs.declared.no_answer.NoAnswer.{NoAnswer}
 use Rattle.caldate_lines.specs.declared.no_answer.NoAnswer.TheVariants as why
 
@@ -15,11 +16,15 @@ refusal_words error = if error.is_conditional then codes "no such " else codes "
 abbrev pub refused_text : ComponentRange → List ℕ
 refused_text error = refusal_words error ++ component_name error.component
 
+-- The words for a missing field: `no field 7: the line has 2 fields`.
+abbrev pub missing_text : MissingField → List ℕ
+missing_text missing =
+    codes "no field " ++ decimal missing.number ++ codes ": the line has " ++ decimal missing.count ++ (if missing.count == 1 then codes " field" else codes " fields")
+
 -- The words for a reason.
 abbrev pub reason : NoAnswer → List ℕ
 reason why.TooLong = codes "line too long"
-reason why.NoField = codes "no such field"
-reason why.NoOtherField = codes "no other field"
+reason (why.NoField missing) = missing_text missing
 reason why.UnreadOtherField = codes "other field unreadable"
 reason why.NoForm = codes "in no form of --read"
 reason why.None = codes "none"

@@ -10,6 +10,7 @@ pub mod field_numbers;
 pub mod header;
 pub mod input;
 pub mod lines;
+pub mod missing_field;
 pub mod no_answer;
 pub mod on_invalid;
 pub mod output;

@@ -1,8 +1,9 @@
 //! The reasons why a line has no answer.
-ghost use Rattle.std.specs.Prelude.{◌≡◌, ◌+◌, ◌≤◌, ◌++◌, length};
-ghost use Rattle.caldate_lines.specs.Reasons.{reason, refusal_words, refused_text};
+ghost use Rattle.std.specs.Prelude.{◌≡◌, ◌+◌, ◌≤◌, ◌==◌, ◌++◌, codes, length, if◌then◌else◌};
+ghost use Rattle.caldate_lines.specs.Reasons.{missing_text, reason, refusal_words, refused_text};
 ghost use Rattle.caldate_lines.specs.Room.{HasRoom};
 
+use crate::missing_field::MissingField;
 use crate::output::buffer::Buffer;
 use cal_time::error::ComponentRange;
 
@@ -11,10 +12,8 @@ use cal_time::error::ComponentRange;
 pub enum NoAnswer {
     /// The text of the line has more than 4096 bytes.
     TooLong,
-    /// The line has no such field.
-    NoField,
-    /// The line lacks the other field, which has TEXT of `until` or `since`.
-    NoOtherField,
+    /// The line lacks the field, or the other field, which has TEXT of `until` or `since`.
+    NoField(MissingField),
     /// The other field is not read as a date or moment.
     UnreadOtherField,
     /// The text was read, and the request has no answer for it.
@@ -39,8 +38,7 @@ pub fn push_reason(buffer: &mut Buffer, why: NoAnswer)
 {
     match why {
         NoAnswer::TooLong => buffer.push(b"line too long"),
-        NoAnswer::NoField => buffer.push(b"no such field"),
-        NoAnswer::NoOtherField => buffer.push(b"no other field"),
+        NoAnswer::NoField(missing) => push_missing(buffer, missing),
         NoAnswer::UnreadOtherField => buffer.push(b"other field unreadable"),
         NoAnswer::NoForm => buffer.push(b"in no form of --read"),
         NoAnswer::None => buffer.push(b"none"),
@@ -52,6 +50,27 @@ pub fn push_reason(buffer: &mut Buffer, why: NoAnswer)
             buffer.push_number(position as u64);
         }
     }
+}
+
+/// Appends the number of the field and how many fields the line has.
+fn push_missing(buffer: &mut Buffer, missing: MissingField)
+    requires { HasRoom 80 buffer.old }
+    ensures text { buffer.new ≡ buffer.old ++ missing_text missing }
+    ensures short { length buffer.new ≤ length buffer.old + 80 }
+{
+    buffer.push(b"no field ");
+    buffer.push_number(u64::from(missing.number));
+    buffer.push(b": the line has ");
+    buffer.push_number(u64::from(missing.count));
+    buffer.push(field_word(missing.count));
+}
+
+/// Returns the word after a number of fields.
+fn field_word(count: u32) -> &'static [u8]
+    ensures value { result.now ≡ (if count == 1 then codes " field" else codes " fields") }
+    ensures short { length result.now ≤ 7 }
+{
+    if count == 1 { b" field" } else { b" fields" }
 }
 
 /// Appends `refused month` or `no such day`, with the name of the component.

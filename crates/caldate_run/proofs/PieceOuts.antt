@@ -101,7 +101,7 @@ no_fields_out filter field (next ∷ fields) text at old new none put = absurd (
 
 pub fields_out : (filter : Filter) (field own : Field) (fields : List RankedField) (d : RankedField) (text : List ℕ) (at end : ℕ) (piece : Piece) (any : Option NoAnswer) (later : Option (ℕ × NoAnswer))
     (goes goes_on both : Bool) (old mid after new : List ℕ) (start : ℕ) → 1 ≤ length fields → own ≡ with_numbers field (get_or fields 0 d).numbers
-    → piece ≡ field_piece own (get_or fields 0 d).rank at (later_cut at (cut_of own text)) → end ≡ field_end at (later_cut at (cut_of own text)) → start ≡ length old
+    → piece ≡ field_piece own text (get_or fields 0 d).rank at (later_cut at (cut_of own text)) → end ≡ field_end at (later_cut at (cut_of own text)) → start ≡ length old
     → AppendsOut (IsPieceOut filter text piece any) goes old mid
     → AppendsOut (IsOutOf filter text (fields_from field text end (take (length fields - 1) (drop 1 fields))).texts (fields_from field text end (take (length fields - 1) (drop 1 fields))).rest later) goes_on mid after
     → both ≡ (goes && goes_on) → new ≡ cond both after (take start after)
@@ -112,19 +112,19 @@ fields_out filter field own fields d text at end piece any later goes goes_on bo
     let parts = both_out old mid after new h.0 k.0 goes goes_on both start is_start h.1 h.2 k.1 k.2 is_both put in
     let first = with_numbers field next.numbers in
     let end_of : Field → ℕ = λ f. field_end at (later_cut at (cut_of f text)) in
-    let piece_of : Field → Piece = λ f. field_piece f next.rank at (later_cut at (cut_of f text)) in
+    let piece_of : Field → Piece = λ f. field_piece f text next.rank at (later_cut at (cut_of f text)) in
     let piece_out = subst (λ (p : Piece). IsPieceOut filter text p any h.0) (is_piece ∙ ap piece_of is_own) h.3 in
     let more_out = subst (λ e. IsOutOf filter text (fields_from field text e others).texts (fields_from field text e others).rest later k.0) (is_end ∙ ap end_of is_own) k.3 in (
       joined h.0 k.0,
       parts.0,
       parts.1,
       subst (λ fs. IsOutOf filter text (fields_from field text at fs).texts (fields_from field text at fs).rest (earlier next.rank any later) (joined h.0 k.0)) (sym (more_parts fields d some))
-          (any, h.0, later, k.0, piece_out, more_out, rank_is first next.rank at (later_cut at (cut_of first text)) any later, refl),
+          (any, h.0, later, k.0, piece_out, more_out, rank_is first text next.rank at (later_cut at (cut_of first text)) any later, refl),
     )
   where
-    rank_is : (field : Field) (rank at : ℕ) (cut : Option Cut) (any : Option NoAnswer) (later : Option (ℕ × NoAnswer)) → earlier rank any later ≡ earlier (field_piece field rank at cut).rank any later
-    rank_is field rank at None any later = refl
-    rank_is field rank at (Some cut) any later = refl
+    rank_is : (field : Field) (text : List ℕ) (rank at : ℕ) (cut : Option Cut) (any : Option NoAnswer) (later : Option (ℕ × NoAnswer)) → earlier rank any later ≡ earlier (field_piece field text rank at cut).rank any later
+    rank_is field text rank at None any later = refl
+    rank_is field text rank at (Some cut) any later = refl
 
 -- ---- the pieces of a line
 pub whole_pieces : (filter : Filter) (text : List ℕ) → filter.field ≡ None → pieces_of filter text ≡ single (whole text)
@@ -206,10 +206,10 @@ abbrev pub Parts : List ℕ → List ℕ → List ℕ → Cut
 Parts front part rest = record { front = front; part = part; rest = rest }
 
 field_piece_is : (field : Field) (text front part rest : List ℕ) → field.csv ≡ false → cut_of field text ≡ Some (Parts front part rest)
-    → (later_cut 0 (cut_of field text) ≡ Some (Parts front part rest)) × (field_piece field 0 0 (later_cut 0 (cut_of field text)) ≡ record { kept = front; source = part; asked = Some part; rank = 0 })
+    → (later_cut 0 (cut_of field text) ≡ Some (Parts front part rest)) × (field_piece field text 0 0 (later_cut 0 (cut_of field text)) ≡ record { kept = front; source = part; asked = Ok part; rank = 0 })
 field_piece_is field text front part rest csv cut =
     let later = ap (later_cut 0) cut ∙ ap (λ b. cond b (Some (Parts front part rest)) None) (from_start (length front)) in
-    (later, ap (field_piece field 0 0) later ∙ ap (λ t. record { kept = front; source = part; asked = Some t; rank = 0 }) (plain_field field.csv part csv))
+    (later, ap (field_piece field text 0 0) later ∙ ap (λ t. record { kept = front; source = part; asked = Ok t; rank = 0 }) (plain_field field.csv part csv))
 
 pub field_answered : (filter : Filter) (field : Field) (text front part rest old new : List ℕ) (answer : Answer) (out : Option (List ℕ)) (goes : Bool) → filter.field ≡ Some field → filter.several ≡ []
     → field.csv ≡ false → field.appends ≡ false → other_field filter ≡ None → cut_of field text ≡ Some (Parts front part rest) → text ≡ front ++ part ++ rest → IsAnswer filter part answer
@@ -220,7 +220,7 @@ field_answered filter field text front part rest old new answer out goes own sin
     let at = field_piece_is field text front part rest csv cut in
     let last : drop (field_end 0 (later_cut 0 (cut_of field text))) text ≡ rest =
     ap (λ c. drop (field_end 0 c) text) at.0 ∙ ap (drop (length front + length part)) whole ∙ ap (λ n. drop n (front ++ part ++ rest)) (sym (length-append front part)) ∙ drop-append_seam (front ++ part) rest in
-    let piece : IsPieceOut filter text (record { kept = front; source = part; asked = Some part; rank = 0 }) None (option_map (λ words. front ++ words) (replaced filter part true answer)) =
+    let piece : IsPieceOut filter text (record { kept = front; source = part; asked = Ok part; rank = 0 }) None (option_map (λ words. front ++ words) (replaced filter part true answer)) =
     (answer, by_itself filter text part answer other is, sym none, refl) in
     fields_answered filter text field one None goes old new own in_place (ap (fields_in field) (sym single)) (
       out,

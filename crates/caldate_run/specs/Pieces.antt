@@ -1,12 +1,13 @@
 -- A line in pieces. What goes out are the same pieces, with each string replaced by its answer.
-use Rattle.std.specs.Prelude.{◌≡◌, ℕ, ◌+◌, ◌||◌, nat_le, nat_lt, Bool, false, List, [], ◌∷◌, ◌++◌, length, drop, MatchOption, Option, Some, None, option_map, is_some, Ok, Err, if◌then◌else◌}
+use Rattle.std.specs.Prelude.{◌≡◌, ℕ, ◌+◌, ◌||◌, nat_le, nat_lt, Bool, false, List, [], ◌∷◌, ◌++◌, length, drop, Option, Some, None, ok_or, option_map, Result, Ok, Err, MatchResult, is_ok, if◌then◌else◌}
 use Rattle.std.specs.Option.{option_map_or}
 use Rattle.std.specs.Result.{result_err}
-use Rattle.caldate_lines.specs.Fields.{Cut, cut_of, end_of_field, field_text, in_place_of, is_quoted, selected_text, with_numbers}
+use Rattle.caldate_lines.specs.Fields.{Cut, cut_of, end_of_field, field_text, in_place_of, is_quoted, missing_field, selected_text, with_numbers}
 use Rattle.caldate_lines.specs.Reasons.{reason}
 use Rattle.caldate_lines.specs.declared.on_invalid.OnInvalid.{OnInvalid}
 use Rattle.caldate_lines.specs.declared.on_invalid.OnInvalid.TheVariants as invalid
 use Rattle.caldate_lines.specs.declared.field.Field.{Field}
+use Rattle.caldate_lines.specs.declared.missing_field.MissingField.{MissingField}
 use Rattle.caldate_lines.specs.declared.no_answer.NoAnswer.{NoAnswer}
 use Rattle.caldate_lines.specs.declared.no_answer.NoAnswer.TheVariants as why
 use Rattle.caldate_lines.specs.declared.several_fields.RankedField.{RankedField}
@@ -14,11 +15,12 @@ use Rattle.caldate_answers.specs.Answers.{Answer, keeps}
 use Rattle.caldate_answers.specs.Targets.{IsAnswerAt}
 use Rattle.caldate_answers.specs.declared.request.Filter.{Filter}
 
--- Bytes that stay, and then the bytes that an answer replaces. The string to answer may be missing.
+-- Bytes that stay, and then the bytes that an answer replaces. The line may lack the string to
+-- answer.
 pub record Piece : Type 0 where
   pub kept : List ℕ
   pub source : List ℕ
-  pub asked : Option (List ℕ)
+  pub asked : Result (List ℕ) MissingField
   pub rank : ℕ
 
 -- The pieces of a line, and the bytes after them.
@@ -29,24 +31,24 @@ pub record Pieces : Type 0 where
 -- ---- how a line is cut
 -- A whole line is one text.
 abbrev pub whole : List ℕ → Piece
-whole text = record { kept = []; source = text; asked = Some text; rank = 0 }
+whole text = record { kept = []; source = text; asked = Ok text; rank = 0 }
 
 -- With a new field, the whole line stays, and nothing is replaced.
 abbrev pub new_field : Field → List ℕ → Piece
-new_field field text = record { kept = text ++ field.separator ∷ []; source = []; asked = selected_text field text; rank = 0 }
+new_field field text = record { kept = text ++ field.separator ∷ []; source = []; asked = ok_or (selected_text field text) (missing_field field text); rank = 0 }
 
 -- A field that the line lacks.
-abbrev pub missing : ℕ → Piece
-missing rank = record { kept = []; source = []; asked = None; rank = rank }
+abbrev pub missing : ℕ → MissingField → Piece
+missing rank field = record { kept = []; source = []; asked = Err field; rank = rank }
 
 -- A field, if the line has it after its first `at` bytes.
 abbrev pub later_cut : ℕ → Option Cut → Option Cut
 later_cut at None = None
 later_cut at (Some cut) = if nat_le at (length cut.front) then Some cut else None
 
-abbrev pub field_piece : Field → ℕ → ℕ → Option Cut → Piece
-field_piece field rank at None = missing rank
-field_piece field rank at (Some cut) = record { kept = drop at cut.front; source = cut.part; asked = Some (field_text field.csv cut.part); rank = rank }
+abbrev pub field_piece : Field → List ℕ → ℕ → ℕ → Option Cut → Piece
+field_piece field text rank at None = missing rank (missing_field field text)
+field_piece field text rank at (Some cut) = record { kept = drop at cut.front; source = cut.part; asked = Ok (field_text field.csv cut.part); rank = rank }
 
 -- The number of bytes up to its end.
 abbrev pub field_end : ℕ → Option Cut → ℕ
@@ -59,7 +61,7 @@ fields_from field text at (next ∷ fields) =
     let own = with_numbers field next.numbers in
     let cut = later_cut at (cut_of own text) in
     let more = fields_from field text (field_end at cut) fields in
-    record { texts = field_piece own next.rank at cut ∷ more.texts; rest = more.rest }
+    record { texts = field_piece own text next.rank at cut ∷ more.texts; rest = more.rest }
 
 -- A single field, or several.
 abbrev pub own_field : Field → RankedField
@@ -114,8 +116,8 @@ replaced filter source has_text (Err any) =
 
 -- ---- the law
 -- The answer to the string, by other fields of the line if they have TEXT.
-abbrev pub IsAnswerToAsked : Filter → List ℕ → Option (List ℕ) → Answer → Type 0
-IsAnswerToAsked filter text asked answer = MatchOption asked (answer ≡ Err why.NoField) (λ asked. IsAnswerAt filter text asked answer)
+abbrev pub IsAnswerToAsked : Filter → List ℕ → Result (List ℕ) MissingField → Answer → Type 0
+IsAnswerToAsked filter text asked answer = MatchResult asked (λ asked. IsAnswerAt filter text asked answer) (λ missing. answer ≡ Err (why.NoField missing))
 
 -- The first reason, in the order of the options.
 abbrev pub earlier : ℕ → Option NoAnswer → Option (ℕ × NoAnswer) → Option (ℕ × NoAnswer)
@@ -127,7 +129,7 @@ earlier rank (Some any) (Some later) = if nat_lt later.0 rank then Some later el
 abbrev pub IsPieceOut : Filter → List ℕ → Piece → Option NoAnswer → Option (List ℕ) → Type 0
 IsPieceOut filter text piece any out =
     (answer : Answer) × IsAnswerToAsked filter text piece.asked answer × (any ≡ result_err answer)
-    × (out ≡ option_map (λ words. piece.kept ++ words) (replaced filter piece.source (is_some piece.asked) answer))
+    × (out ≡ option_map (λ words. piece.kept ++ words) (replaced filter piece.source (is_ok piece.asked) answer))
 
 -- Nothing goes out for a line if nothing goes out for one of its pieces.
 abbrev pub joined : Option (List ℕ) → Option (List ℕ) → Option (List ℕ)

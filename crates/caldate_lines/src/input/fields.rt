@@ -1,9 +1,11 @@
 //! The fields of a line.
 ghost use Rattle.std.specs.Prelude.{◌≡◌, ◌+◌, ◌<◌, ◌≤◌, ◌++◌, ◌∷◌, [], Some, None, IfSome, IsTrue, MatchOption, drop, length, take};
-ghost use Rattle.caldate_lines.specs.Fields.{HasFirst, IsAfter, cut_of, fields_of, is_quoted, quotes_of};
+ghost use Rattle.caldate_lines.specs.Fields.{HasFirst, IsAfter, cut_of, fields_of, is_quoted, missing_field, quotes_of};
+ghost use Rattle.caldate_lines.specs.Room.{longest_text};
 
 use crate::field::Field;
 use crate::lines::part_end;
+use crate::missing_field::MissingField;
 use crate::quoting::Quoting;
 
 /// Returns the bytes before the fields, the fields and the bytes after them, if the text has them.
@@ -24,6 +26,33 @@ pub fn cut_field(field: Field, text: &[u8]) -> Option<(&[u8], &[u8], &[u8])>
     let start = text.len() - rest.len();
     let end = text.len() - last.len() + first_length(field, last);
     Some((&text[..start], &text[start..end], &text[end..]))
+}
+
+/// Returns what a line lacks that doesn't have the fields.
+#[cold]
+#[inline(never)]
+pub fn missing_field(field: Field, text: &[u8]) -> MissingField
+    requires { length text.now ≤ longest_text }
+    ensures { result ≡ missing_field field text.now }
+{
+    MissingField {
+        number: u32::from(field.first.saturating_sub(1)) + u32::from(field.joined) + 1,
+        count: count_fields(field, text),
+    }
+}
+
+/// Returns the number of fields.
+fn count_fields(field: Field, text: &[u8]) -> u32
+    requires { length text.now ≤ longest_text }
+    ensures { result ≡ length (fields_of field text.now) }
+{
+    let mut rest = text;
+    let mut count = 1;
+    while let Some((_, others)) = first_field(field, rest) {
+        rest = others;
+        count += 1;
+    }
+    count
 }
 
 /// Returns whether the field of a CSV record is in quotes.

@@ -11,7 +11,7 @@ use caldate_answers::answer::{push_answer, push_between_at, read_with};
 use caldate_answers::request::{Filter, Request};
 use caldate_lines::field::Field;
 use caldate_lines::input::field_text::{FieldText, plain_text};
-use caldate_lines::input::fields::cut_field;
+use caldate_lines::input::fields::{cut_field, missing_field};
 use caldate_lines::no_answer::NoAnswer;
 use caldate_lines::output::buffer::Buffer;
 
@@ -27,7 +27,7 @@ pub fn other_field(filter: &Filter<'_>) -> Option<Field>
 
 /// Parses the other fields of a line in the forms of the field to answer.
 ///
-/// For field 2 of `a,2024-02-29` in CSV, this returns 2024-02-29. Returns `NoOtherField` if the line
+/// For field 2 of `a,2024-02-29` in CSV, this returns 2024-02-29. Returns `NoField` if the line
 /// has too few fields, and `UnreadOtherField` if the text of the other fields is in none of the forms.
 pub fn read_other(filter: &Filter<'_>, other: Field, text: &[u8]) -> Result<DateOrMoment, NoAnswer>
     requires { length text.now ≤ longest_text }
@@ -35,7 +35,7 @@ pub fn read_other(filter: &Filter<'_>, other: Field, text: &[u8]) -> Result<Date
 {
     match cut_field(other, text) {
         Some((_front, part, _rest)) => read_part(filter, other.csv, part),
-        None => Err(NoAnswer::NoOtherField),
+        None => Err(NoAnswer::NoField(missing_field(other, text))),
     }
 }
 

@@ -1,5 +1,5 @@
 //! What goes out for the pieces of a line.
-ghost use Rattle.std.specs.Prelude.{◌≡◌, ◌+◌, ◌*◌, ◌-◌, ◌<◌, ◌≤◌, ◌++◌, ◌∷◌, [], Ok, Err, Some, IfSome, option_map, IsTrue, true, is_some, length, take, drop, unwrap_or, if◌then◌else◌};
+ghost use Rattle.std.specs.Prelude.{◌≡◌, ◌+◌, ◌*◌, ◌-◌, ◌<◌, ◌≤◌, ◌++◌, ◌∷◌, [], Ok, Err, Some, IfSome, option_map, IsTrue, true, is_ok, is_some, length, take, drop, unwrap_or, if◌then◌else◌};
 ghost use Rattle.std.specs.Result.{result_err};
 ghost use Rattle.caldate_lines.specs.Reasons.{reason};
 ghost use Rattle.caldate_lines.specs.Room.{HasRoom, longest_answer, longest_field, longest_out, longest_reply, longest_text};
@@ -168,7 +168,7 @@ fn push_text(
     requires fits { length text.now ≤ longest_text }
     requires room { HasRoom (length piece.now.source + longest_text + longest_field + 1) buffer.old }
     ensures out { AppendsOut (λ out. (answer : Answer) × IsAnswerToAsked filter.now text.now piece.now.asked answer
-        × (result.1 ≡ result_err answer) × (out ≡ replaced filter.now piece.now.source (is_some piece.now.asked) answer))
+        × (result.1 ≡ result_err answer) × (out ≡ replaced filter.now piece.now.source (is_ok piece.now.asked) answer))
         result.0 buffer.old buffer.new }
     ensures short { length buffer.new ≤ length buffer.old + length piece.now.source + longest_field }
 {
@@ -189,14 +189,14 @@ fn push_unquoted(
     requires fits { length text.now ≤ longest_text }
     requires room { HasRoom (length piece.now.source + longest_text + longest_field + 1) buffer.old }
     ensures out { AppendsOut (λ out. (answer : Answer) × IsAnswerToAsked filter.now text.now piece.now.asked answer
-        × (result.1 ≡ result_err answer) × (out ≡ replaced filter.now piece.now.source (is_some piece.now.asked) answer))
+        × (result.1 ≡ result_err answer) × (out ≡ replaced filter.now piece.now.source (is_ok piece.now.asked) answer))
         result.0 buffer.old buffer.new }
     ensures short { length buffer.new ≤ length buffer.old + length piece.now.source + longest_field }
 {
     match piece.text() {
-        Some(asked) => push_asked(buffer, filter, text, piece.source(), asked.as_bytes()),
-        None => {
-            let why = NoAnswer::NoField;
+        Ok(asked) => push_asked(buffer, filter, text, piece.source(), asked.as_bytes()),
+        Err(missing) => {
+            let why = NoAnswer::NoField(missing);
             let goes_out = push_instead(buffer, filter, piece.source(), false, why);
             (goes_out, Some(why))
         }
@@ -214,7 +214,7 @@ fn push_asked(
     requires fits { length text.now ≤ longest_text }
     requires few { length asked.now ≤ longest_text }
     requires room { HasRoom (length source.now + longest_text + longest_field + 1) buffer.old }
-    ensures out { AppendsOut (λ out. (answer : Answer) × IsAnswerToAsked filter.now text.now (Some asked.now) answer
+    ensures out { AppendsOut (λ out. (answer : Answer) × IsAnswerToAsked filter.now text.now (Ok asked.now) answer
         × (result.1 ≡ result_err answer) × (out ≡ replaced filter.now source.now true answer))
         result.0 buffer.old buffer.new }
     ensures short { length buffer.new ≤ length buffer.old + length source.now + longest_field }
