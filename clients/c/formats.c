@@ -225,6 +225,20 @@ static const Rejected REJECTED[] = {
     {"%a %F", "Wed 2024-02-29", FOTS_CONTRADICTION, FOTS_WEEKDAY_OUT_OF_RANGE}, {"%m", "02", FOTS_INSUFFICIENT_FORMAT, SIZE_MAX},
     {"%y-%m-%d", "24-02-29", FOTS_INSUFFICIENT_FORMAT, SIZE_MAX}, {"%F %H", "2024-02-29 09", FOTS_INSUFFICIENT_FORMAT, SIZE_MAX},
     {"%Y%-m%d", "2024229", FOTS_INSUFFICIENT_FORMAT, SIZE_MAX},
+    {"%G-W%V-%u", "2024-W09", FOTS_UNEXPECTED_END, 8}, {"%G-W%V-%u", "2024-W09-40", FOTS_UNEXPECTED_BYTE, 10},
+    {"%G-W%V-%u", "2024-02-29", FOTS_UNEXPECTED_BYTE, 5}, {"%G-W%V-%u", "2024W09-4", FOTS_UNEXPECTED_BYTE, 4},
+    {"%G-W%V-%u", "-044-W09-4", FOTS_UNEXPECTED_BYTE, 0}, {"%G-W%V-%u", "2024-W9-4", FOTS_UNEXPECTED_BYTE, 7},
+    {"%G-W%V-%u", "2024-W09-8", FOTS_WEEKDAY_OUT_OF_RANGE, SIZE_MAX}, {"%G-W%V-%u", "2024-W09-0", FOTS_WEEKDAY_OUT_OF_RANGE, SIZE_MAX},
+    {"%G-W%V-%u", "2024-W00-4", FOTS_WEEK_OUT_OF_RANGE, SIZE_MAX}, {"%G-W%V-%u", "2024-W53-1", FOTS_WEEK_OUT_OF_RANGE, SIZE_MAX},
+};
+
+static const Rejected REJECTED_TIMES[] = {
+    {"%H:%M:%S", "", FOTS_UNEXPECTED_END, 0}, {"%H:%M:%S", "09:05", FOTS_UNEXPECTED_END, 5}, {"%H:%M:%S", "09:05:0", FOTS_UNEXPECTED_END, 7},
+    {"%H:%M:%S", "9:05:07", FOTS_UNEXPECTED_BYTE, 1}, {"%H:%M:%S", "09:05:07 ", FOTS_UNEXPECTED_BYTE, 8}, {"%H:%M:%S", "09:05:07.25", FOTS_UNEXPECTED_BYTE, 8},
+    {"%H:%M:%S", "09.05.07", FOTS_UNEXPECTED_BYTE, 2}, {"%H:%M:%S", "24:00:00", FOTS_HOUR_OUT_OF_RANGE, SIZE_MAX},
+    {"%H:%M:%S", "09:60:07", FOTS_MINUTE_OUT_OF_RANGE, SIZE_MAX}, {"%H:%M:%S", "23:59:60", FOTS_SECOND_OUT_OF_RANGE, SIZE_MAX},
+    {"%H:%M", "09:05:07", FOTS_UNEXPECTED_BYTE, 5}, {"%H:%M", "09:", FOTS_UNEXPECTED_END, 3}, {"%H:%M", "24:00", FOTS_HOUR_OUT_OF_RANGE, SIZE_MAX},
+    {"%H:%M", "23:60", FOTS_MINUTE_OUT_OF_RANGE, SIZE_MAX}, {"%H:%M:", "09:05:07", FOTS_UNEXPECTED_BYTE, 6}, {"%H:%S", "09:05", FOTS_INSUFFICIENT_FORMAT, SIZE_MAX},
 };
 
 static void parsed_dates(void)
@@ -246,6 +260,25 @@ static void parsed_dates(void)
         fots_parse_date_result read = fots_date_parse_format(REJECTED[k].text, strlen(REJECTED[k].text), &format);
         check(read.status == REJECTED[k].status && read.position == REJECTED[k].position && read.date.julian_day == FOTS_NO_VALUE,
             REJECTED[k].text, read.status, (long long)read.position);
+    }
+}
+
+/* Each second of a day, and each minute. */
+static void parsed_times(void)
+{
+    const fots_format second = format_of("%H:%M:%S"), minute = format_of("%H:%M");
+    for (int at = 0; at < 86400; at++) {
+        snprintf(buffer, ROOM, "%02d:%02d:%02d", at / 3600, at / 60 % 60, at % 60);
+        fots_parse_time_result read = fots_time_parse_format(buffer, 8, &second);
+        check(read.status == FOTS_OK && read.time == (fots_time)at * 1000000000U && read.position == SIZE_MAX, "a second", at, read.status);
+        read = fots_time_parse_format(buffer, 5, &minute);
+        check(read.status == FOTS_OK && read.time == (fots_time)(at / 60) * 60000000000U && read.position == SIZE_MAX, "a minute", at, read.status);
+    }
+    for (int k = 0; k < COUNT(REJECTED_TIMES); k++) {
+        const fots_format format = format_of(REJECTED_TIMES[k].format);
+        const fots_parse_time_result read = fots_time_parse_format(REJECTED_TIMES[k].text, strlen(REJECTED_TIMES[k].text), &format);
+        check(read.status == REJECTED_TIMES[k].status && read.position == REJECTED_TIMES[k].position && read.time == FOTS_NO_TIME,
+            REJECTED_TIMES[k].text, read.status, (long long)read.position);
     }
 }
 
@@ -339,6 +372,7 @@ int main(void)
     rows();
     each_type();
     parsed_dates();
+    parsed_times();
     parsed_others();
     faults();
     lenient();

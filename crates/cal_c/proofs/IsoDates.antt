@@ -16,7 +16,6 @@ use Rattle.cal_format.specs.declared.item.Padding.TheVariants as padding
 use Rattle.cal_format.specs.Laws.{iso_items, iso_items-text}
 use Rattle.cal_format.specs.Moment.{moment_of_date}
 use Rattle.cal_format.specs.Reading.{index}
-use Rattle.cal_format.specs.Scanning.{IsOneDate}
 use Rattle.cal_format.proofs.Apart.{index-one}
 use Rattle.cal_c.specs.Formats.{item_parts, parts}
 use Rattle.cal_c.specs.OnePass.{IsItemOf, AreItemsOf, IsFormatOf, PrintsItems}
@@ -87,16 +86,23 @@ more-only i items p ps first rest = record {
 abbrev at : List FormatItem → ℕ → FormatItem
 at ps n = get_or ps n (parts 0 0)
 
+pub three-only : (a b c : Item) (ps : List FormatItem) → length ps ≡ 3 → IsOnly a (at ps 0) → IsOnly b (at ps 1) → IsOnly c (at ps 2) → AreItemsOf ps (λ l. l ≡ a ∷ b ∷ c ∷ [])
+three-only a b c (p ∷ q ∷ r ∷ []) n f g h = more-only a _ p _ f (more-only b _ q _ g (more-only c _ r _ h none-only))
+three-only a b c (p ∷ q ∷ r ∷ s ∷ ps) n f g h = absurd (omega arith)
+three-only a b c (p ∷ q ∷ []) n f g h = absurd (omega arith)
+three-only a b c (p ∷ []) n f g h = absurd (omega arith)
+three-only a b c [] n f g h = absurd (omega arith)
+
 pub five-only : (a b c d e : Item) (ps : List FormatItem) → length ps ≡ 5 → IsOnly a (at ps 0) → IsOnly b (at ps 1) → IsOnly c (at ps 2) → IsOnly d (at ps 3) → IsOnly e (at ps 4)
     → AreItemsOf ps (λ l. l ≡ a ∷ b ∷ c ∷ d ∷ e ∷ [])
-five-only a b c d e (p ∷ q ∷ r ∷ s ∷ t ∷ []) n f g h i j =
-    more-only a _ p _ f (more-only b _ q _ g (more-only c _ r _ h (more-only d _ s _ i (more-only e _ t _ j none-only))))
-five-only a b c d e (p ∷ q ∷ r ∷ s ∷ t ∷ u ∷ ps) n f g h i j = absurd (omega arith)
-five-only a b c d e (p ∷ q ∷ r ∷ s ∷ []) n f g h i j = absurd (omega arith)
-five-only a b c d e (p ∷ q ∷ r ∷ []) n f g h i j = absurd (omega arith)
-five-only a b c d e (p ∷ q ∷ []) n f g h i j = absurd (omega arith)
+five-only a b c d e (p ∷ q ∷ ps) n f g h i j = more-only a _ p _ f (more-only b _ q _ g (three-only c d e ps (omega arith) h i j))
 five-only a b c d e (p ∷ []) n f g h i j = absurd (omega arith)
 five-only a b c d e [] n f g h i j = absurd (omega arith)
+
+pub six-only : (a b c d e f : Item) (ps : List FormatItem) → length ps ≡ 6 → IsOnly a (at ps 0) → IsOnly b (at ps 1) → IsOnly c (at ps 2) → IsOnly d (at ps 3) → IsOnly e (at ps 4) → IsOnly f (at ps 5)
+    → AreItemsOf ps (λ l. l ≡ a ∷ b ∷ c ∷ d ∷ e ∷ f ∷ [])
+six-only a b c d e f [] n g h i j k l = absurd (omega arith)
+six-only a b c d e f (p ∷ ps) n g h i j k l = more-only a _ p _ g (five-only b c d e f ps (omega arith) h i j k l)
 
 -- ---- the text of a date of the years 0 to 9999
 plain : (y : ℕ) → y ≤ 9_999 → sign_text (pos y) ≡ []
@@ -125,8 +131,8 @@ usual-printed n old rest bytes long is =
       end_is = omega (arith, long, ap length same);
     }
 
-pub printed-format : (f : FormatParts) (P : List Item → Type 0) → IsFormatOf f (λ l. l ≡ iso_items) → P iso_items → IsFormatOf f P
-printed-format f P is p = record { format = is.format; every = λ items has. subst P (sym (is.every items has)) p }
+pub only-format : (own : List Item) (f : FormatParts) (P : List Item → Type 0) → IsFormatOf f (λ l. l ≡ own) → P own → IsFormatOf f P
+only-format own f P is p = record { format = is.format; every = λ items has. subst P (sym (is.every items has)) p }
 
 pub ok-one : {E : Type 0} (r : Result ℕ E) (m n : ℕ) → r ≡ Ok m → r ≡ Ok n → m ≡ n
 ok-one (Ok k) m n e f = cc
@@ -144,6 +150,6 @@ pub not-false : (b : Bool) → not b ≡ false → IsTrue b
 not-false true e = refl
 not-false false e = cc
 
-pub iso-parsed : (o : Option ℕ) (f : FormatParts) (text : List ℕ) → IsFormatOf f (λ l. l ≡ iso_items) → IfSome o (λ n. IsOneDate iso_items n text) → IfSome o (λ n. IsFormatOf f (λ items. IsOneDate items n text))
-iso-parsed None f text is one = tt
-iso-parsed (Some n) f text is one = printed-format f (λ items. IsOneDate items n text) is one
+pub only-parsed : (own : List Item) (o : Option ℕ) (f : FormatParts) (Q : ℕ → List Item → Type 0) → IsFormatOf f (λ l. l ≡ own) → IfSome o (λ n. Q n own) → IfSome o (λ n. IsFormatOf f (Q n))
+only-parsed own None f Q is one = tt
+only-parsed own (Some n) f Q is one = only-format own f (Q n) is one

@@ -28,6 +28,7 @@ pub mod ZonedResults
 pub mod Periods
 pub mod OnePass
 pub mod IsoDates
+pub mod UsualFormats
 pub mod OneZone
 pub mod OneZoned
 pub mod OnePair

@@ -9,10 +9,8 @@ use Rattle.cal_format.specs.declared.item.Name.{Name}
 use Rattle.cal_format.specs.declared.item.Padding.TheVariants as padding
 use Rattle.cal_format.specs.declared.moment.Moment.{Moment}
 use Rattle.cal_format.specs.Reading.{is_apart, begins_apart, shows_within, show_within}
-use Rattle.cal_format.specs.Scanning.{HasFields}
-use Rattle.cal_format.specs.Shown.{AreShown}
 use Rattle.cal_format.specs.Text.{item_text, text_of}
-use Rattle.cal_format.proofs.OnePass.{first-or}
+use Rattle.cal_format.proofs.OnePass.{first-or, none-has}
 use Rattle.cal_c.specs.Formats.{item_parts, parts}
 use Rattle.cal_c.specs.OnePass.{IsItemOf, AreItemsOf, IsFormatOf, ScansItems, PrintsItem, PrintsItems}
 use Rattle.cal_c.proofs.IsoDates.{byte-one}
@@ -44,16 +42,6 @@ pub only-item : (P : Item → Type 0) (p : FormatItem) (i : Item) → p ≡ item
 only-item P p i is one has = record { item = i; part_is = is; every = λ j e. subst P (sym (one j (sym is ∙ e))) has }
 
 -- No numbers are no items.
-none-has : (f : Fields) (text : List ℕ) → HasFields [] f f text text
-none-has f text = record {
-  fit = tt;
-  in_range = refl;
-  text_is = refl;
-  kept = λ c e. refl;
-  marked = λ c h. refl;
-  shown = λ before are. subst (λ l. AreShown l f.shown) (sym (append-nil before)) are;
-}
-
 pub none-scanned : (f : Fields) (text : List ℕ) (ps : List FormatItem) → length ps < 1 → AreItemsOf ps (ScansItems f f text text)
 none-scanned f text (p ∷ ps) low = absurd (omega (arith, low))
 none-scanned f text [] low = record { items = []; parts_are = refl; every = every }

@@ -1,7 +1,11 @@
 -- What holds of the items with some numbers.
-use Rattle.std.specs.Prelude.{◌≡◌, ℕ, ◌+◌, List, [], ◌++◌, length, take, map, IsTrue}
+use Rattle.std.specs.Prelude.{◌≡◌, ℕ, ◌+◌, List, [], ◌∷◌, ◌++◌, length, take, map, Bool, true, false, IsTrue}
+use Rattle.cal_time.specs.DateText.{digits_at_least}
 use Rattle.cal_format.specs.declared.fields.Fields.{Fields}
+use Rattle.cal_format.specs.declared.item.Component.TheVariants.{IsoYear, IsoWeek, Weekday, Hour, Minute, Second}
 use Rattle.cal_format.specs.declared.item.Item.{Item}
+use Rattle.cal_format.specs.declared.item.Item.TheVariants.{Literal, Number}
+use Rattle.cal_format.specs.declared.item.Padding.TheVariants.{Zero}
 use Rattle.cal_format.specs.declared.moment.Moment.{Moment}
 use Rattle.cal_format.specs.Reading.{ends_before, are_apart, shows_within, show_within}
 use Rattle.cal_format.specs.Scanning.{HasField, HasFields}
@@ -49,3 +53,17 @@ pub record PrintsItems (low high : ℕ) (v : Moment) (old new : List ℕ) (at en
   pub within : IsTrue (show_within low high items)
   pub text : take end new ≡ take at old ++ text_of items v
   pub end_is : end ≡ at + length (text_of items v)
+
+-- The items of an ISO 8601 week date, `%G-W%V-%u`.
+abbrev pub week_items : List Item
+week_items = Number IsoYear Zero ∷ Literal 45 ∷ Literal 87 ∷ Number IsoWeek Zero ∷ Literal 45 ∷ Number Weekday Zero ∷ []
+
+-- The items of `%H:%M`, or of `%H:%M:%S` if the second is shown.
+abbrev pub clock_items : Bool → List Item
+clock_items false = Number Hour Zero ∷ Literal 58 ∷ Number Minute Zero ∷ []
+clock_items true = Number Hour Zero ∷ Literal 58 ∷ Number Minute Zero ∷ Literal 58 ∷ Number Second Zero ∷ []
+
+-- The text of the second after the minute.
+abbrev pub second_text : Bool → ℕ → List ℕ
+second_text false s = []
+second_text true s = 58 ∷ digits_at_least 2 s

@@ -1,4 +1,5 @@
 //! Formats: values in text by a format that C passes.
+mod clocks;
 mod components;
 pub mod format_parts;
 pub(crate) mod iso_dates;

@@ -1,4 +1,4 @@
-//! Dates by the format `%Y-%m-%d`, which takes less time than other formats.
+//! Dates by the formats `%Y-%m-%d` and `%G-W%V-%u`, which take less time than other formats.
 ghost use Rattle.std.specs.Prelude.{◌≡◌, ◌<◌, ◌≤◌, ◌*◌, IfSome, IsTrue, length, pos};
 ghost use Rattle.cal_time.specs.Digits.{two_digits};
 ghost use Rattle.cal_time.specs.DateText.{text};
@@ -7,17 +7,20 @@ ghost use Rattle.cal_format.specs.Moment.{moment_of_date};
 ghost use Rattle.cal_format.specs.Scanning.{AreHeld, IsOneDate};
 ghost use Rattle.cal_format.specs.declared.item.Item.TheVariants.{Literal, Number};
 ghost use Rattle.cal_format.specs.declared.item.Padding.TheVariants.{Zero};
-ghost use Rattle.cal_c.specs.OnePass.{IsFormatOf, IsItemOf, PrintsItems};
+ghost use Rattle.cal_c.specs.OnePass.{IsFormatOf, IsItemOf, PrintsItems, week_items};
 
 use super::format_parts::{FormatItem, FormatParts};
 use super::items::item_parts;
 use super::one_pass::print_at_once;
 use cal_format::{Component, Item, Moment, Padding};
-use cal_text::date;
+use cal_text::{DateNumbers, Scanner, date, date_from_numbers};
 use cal_time::Date;
 
 /// The number of items of `%Y-%m-%d`.
 const ITEMS: usize = 5;
+
+/// The number of items of `%G-W%V-%u`.
+const WEEK_ITEMS: usize = 6;
 
 /// The length of the string of a date of the years 0 to 9999.
 const LENGTH: usize = 10;
@@ -33,7 +36,7 @@ pub(crate) fn is_iso(format: &FormatParts) -> bool
     if parts.len() != ITEMS {
         return false;
     }
-    if !is_hyphen(parts[1]) || !is_hyphen(parts[3]) {
+    if !is_byte(parts[1], b'-') || !is_byte(parts[3], b'-') {
         return false;
     }
     if !is_number(parts[0], Component::Year) || !is_number(parts[2], Component::Month) {
@@ -42,19 +45,42 @@ pub(crate) fn is_iso(format: &FormatParts) -> bool
     is_number(parts[4], Component::Day)
 }
 
+/// Returns `true` if the numbers are the format `%G-W%V-%u`.
+#[inline(always)]
+pub(crate) fn is_iso_week(format: &FormatParts) -> bool
+    ensures { IsTrue result → IsFormatOf format.now (λ items. items ≡ week_items) }
+{
+    let Some(parts) = format.parts() else {
+        return false;
+    };
+    if parts.len() != WEEK_ITEMS {
+        return false;
+    }
+    if !is_byte(parts[1], b'-') || !is_byte(parts[4], b'-') {
+        return false;
+    }
+    if !is_byte(parts[2], b'W') || !is_number(parts[0], Component::IsoYear) {
+        return false;
+    }
+    if !is_number(parts[3], Component::IsoWeek) {
+        return false;
+    }
+    is_number(parts[5], Component::Weekday)
+}
+
 /// Returns `true` if the numbers are this component, padded with zeros.
 #[inline(always)]
-fn is_number(part: FormatItem, component: Component) -> bool
+pub(super) fn is_number(part: FormatItem, component: Component) -> bool
     ensures { IsTrue result → IsItemOf part (λ item. item ≡ Number component Zero) }
 {
     part == item_parts(Item::Number(component, Padding::Zero))
 }
 
 #[inline(always)]
-fn is_hyphen(part: FormatItem) -> bool
-    ensures { IsTrue result → IsItemOf part (λ item. item ≡ Literal 45) }
+pub(super) fn is_byte(part: FormatItem, byte: u8) -> bool
+    ensures { IsTrue result → IsItemOf part (λ item. item ≡ Literal byte) }
 {
-    part == item_parts(Item::Literal(b'-'))
+    part == item_parts(Item::Literal(byte))
 }
 
 /// Writes a date to the front of a buffer like `print_at_once`.
@@ -95,6 +121,27 @@ pub(crate) fn parse_iso(text: &[u8]) -> Option<Date>
     if own.as_slice() != text {
         return None;
     }
+    Some(date)
+}
+
+/// Parses a date by `%G-W%V-%u`. Returns `None` for a string that isn't the string of a date of the
+/// ISO years 0 to 9999.
+#[inline(never)]
+pub(crate) fn parse_iso_week(text: &[u8]) -> Option<Date>
+    ensures { IfSome result (λ n. IsOneDate week_items n text.now) }
+{
+    let mut scanner = Scanner { rest: text };
+    let year = scanner.four_digits()?;
+    scanner.byte(b'-')?;
+    scanner.byte(b'W')?;
+    let week = scanner.two_digits()?;
+    scanner.byte(b'-')?;
+    let digit = scanner.byte_from(b'1', 6)?;
+    scanner.end()?;
+    let numbers = DateNumbers::Week(year as i32, week as u8, digit - b'0');
+    let Ok(date) = date_from_numbers(numbers) else {
+        return None;
+    };
     Some(date)
 }
 

@@ -9,9 +9,10 @@ ghost use Rattle.cal_c.specs.Formats.{HasItems, IsFormat, item_parts};
 ghost use Rattle.cal_c.specs.FormatTexts.{IsPrinted, IsUnprinted, length_error};
 ghost use Rattle.cal_c.specs.OnePass.{IsItemOf, AreItemsOf, IsFormatOf, ScansItem, ScansItems, PrintsItem, PrintsItems};
 
+use super::clocks::{clock_of, parse_clock};
 use super::components::component_with;
 use super::format_parts::{FormatItem, FormatParts};
-use super::iso_dates::{is_iso, parse_iso};
+use super::iso_dates::{is_iso, is_iso_week, parse_iso, parse_iso_week};
 use super::items::item_with;
 use super::printing::{MAX_LENGTH, write};
 use super::results::LengthResult;
@@ -155,6 +156,9 @@ pub(super) fn parse_date_at_once(text: &[u8], format: &FormatParts) -> Option<Da
     if is_iso(format) {
         return parse_iso(text);
     }
+    if is_iso_week(format) {
+        return parse_iso_week(text);
+    }
     let parts = format.parts()?;
     let mut fields = Fields::new();
     if !scan_whole(parts, text, &mut fields) {
@@ -171,6 +175,9 @@ pub(super) fn parse_date_at_once(text: &[u8], format: &FormatParts) -> Option<Da
 pub(super) fn parse_time_at_once(text: &[u8], format: &FormatParts) -> Option<Time>
     ensures { IfSome result (λ t. IsFormatOf format.now (λ items. IsOneTime items t text.now)) }
 {
+    if let Some(shows_second) = clock_of(format) {
+        return parse_clock(text, shows_second);
+    }
     let parts = format.parts()?;
     let mut fields = Fields::new();
     if !scan_whole(parts, text, &mut fields) {
@@ -202,27 +209,19 @@ pub(super) fn parse_pair_at_once(text: &[u8], format: &FormatParts) -> Option<Pl
 
 /// Parses the whole string by the items with these numbers. Returns `false` if one of them is not
 /// an item, or at a byte or a number that doesn't fit.
-#[inline(always)]
 fn scan_whole(parts: &[FormatItem], text: &[u8], fields: &mut Fields) -> bool
     ensures { IsTrue result → AreItemsOf parts.now (λ items.
         ScansItems fields.old fields.new text.now [] items) }
 {
     let mut scanner = Scanner { rest: text };
-    scan_parts(parts, &mut scanner, fields) && scanner.rest.is_empty()
-}
-
-/// Parses the items with these numbers at the front of a string. Returns `false` if one of them is
-/// not an item, or at a byte or a number that doesn't fit.
-fn scan_parts(parts: &[FormatItem], scanner: &mut Scanner, fields: &mut Fields) -> bool
-    ensures { IsTrue result → AreItemsOf parts.now (λ items.
-        ScansItems fields.old fields.new scanner.old.rest.now scanner.new.rest.now items) }
-{
-    match parts {
-        [] => true,
-        [part, others @ ..] => {
-            scan_part(*part, others, scanner, fields) && scan_parts(others, scanner, fields)
+    let mut left = parts;
+    while let [part, others @ ..] = left {
+        if !scan_part(*part, others, &mut scanner, fields) {
+            return false;
         }
+        left = others;
     }
+    scanner.rest.is_empty()
 }
 
 /// Parses an item before these others.

@@ -15,6 +15,6 @@ returns c h =
     let iso = λ (l : List Item). l ≡ iso_items in
     format-of c.args.format.now parts iso iso c.in-Some.ensures.few c.in-Some.ensures.value c.in-Some.ensures.length
     (five-only (Number Year Zero) (Literal 45) (Number Month Zero) (Literal 45) (Number Day Zero) parts long
-    (c.is_number.ensures c.if-not-is_number.false) (c.is_hyphen.ensures c.if-not-is_hyphen.false)
-    (c.is_number-else-not-is_number.ensures c.if-not-is_number-2.false) (c.is_hyphen-else-not-is_hyphen.ensures c.if-not-is_hyphen-2.false)
+    (c.is_number.ensures c.if-not-is_number.false) (c.is_byte.ensures c.if-not-is_byte.false)
+    (c.is_number-else-not-is_number.ensures c.if-not-is_number-2.false) (c.is_byte-else-not-is_byte.ensures c.if-not-is_byte-2.false)
     (c.is_number-2.ensures h)) (λ items e. e)
