@@ -23,6 +23,7 @@ mod folding;
 mod lists;
 mod nearest;
 mod occurrences;
+mod offset_range;
 mod parsing;
 mod positions;
 mod reach;
