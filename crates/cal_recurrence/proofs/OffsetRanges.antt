@@ -1,6 +1,7 @@
 -- How far readings are from the instants that they mean, by the offsets of a zone near an instant.
 use Rattle.std.proofs.Common.{◌≡◌, refl, sym, ap, ◌∙◌, arith, ℕ, zero, suc, ◌<◌, ◌≤◌, ◌⊎◌, inl, inr, length, Option, Some, None, ℤ, pos, negsuc, neg_ℤ, ◌+ℤ◌, ◌-ℤ◌, ◌*ℤ◌, ◌≤ℤ◌, ◌<ℤ◌, subst}
 use Rattle.std.specs.Int.{int_div_euclid, int_rem_euclid}
+use Rattle.std.proofs.lemmas.Bool.{cases_lt}
 use Rattle.std.proofs.lemmas.Int.{ints}
 use Rattle.cal_time.specs.SignedDuration.{second}
 use Rattle.cal_datetime.specs.OffsetDateTime.{LocalAndOffset, instant, local_at, unix_epoch, unix_seconds}
@@ -205,8 +206,38 @@ all zone x r min max = record {
 }
 
 -- ---- spans
-pub starts : (zone : Timeline) (i : ℤ) (s : Span) → neg_ℤ (pos 1_000_000_000_000_000_000) ≤ℤ i → IsBetweenChanges zone i s → s.first ≤ℤ i
-starts zone i s big h = elim (h.count) as (λ (n : ℕ). h.count ≡ n → s.first ≤ℤ i) [
-  | zero ↦ λ e. (let is = h.after.unbounded_first e in omega (arith, ints, is, big))
-  | suc k ↦ λ e. (let is = h.after.first k (sym e) in let past = h.split.below k (omega (arith, e)) in omega (arith, ints, is, past))
-] refl
+starts-at : (zone : Timeline) (i : ℤ) (s : Span) (n : ℕ) → neg_ℤ (pos 1_000_000_000_000_000) ≤ℤ i → (h : IsBetweenChanges zone i s) → h.count ≡ n → s.first ≤ℤ i
+starts-at zone i s zero big h e = let is = h.after.unbounded_first e in omega (arith, ints, is, big)
+starts-at zone i s (suc k) big h e = let is = h.after.first k (sym e) in let past = h.split.below k (omega (arith, e)) in omega (arith, ints, is, past)
+
+-- The span of an instant has it.
+pub starts : (zone : Timeline) (i : ℤ) (s : Span) → neg_ℤ (pos 1_000_000_000_000_000) ≤ℤ i → IsBetweenChanges zone i s → s.first ≤ℤ i
+starts zone i s big h = starts-at zone i s h.count big h refl
+
+pub ends : (zone : Timeline) (i : ℤ) (s : Span) → i ≤ℤ pos 1_000_000_000_000_000 → IsBetweenChanges zone i s → i ≤ℤ s.last
+ends zone i s big h = elim (cases_lt h.count (length zone.changes)) as (λ _. i ≤ℤ s.last) [
+  | inl less ↦ let is = h.after.last less in let ahead = h.split.above h.count (omega arith) less in omega (arith, ints, is, ahead)
+  | inr most ↦ let is = h.after.unbounded_last most in omega (arith, ints, is, big)
+]
+
+-- Two spans beside each other have one change between them, at the most.
+pub beside : (zone : Timeline) (s : ℤ) (early late : Span) → IsSecond s → IsSpan zone early → IsSpan zone late → IsBetweenChanges zone (s -ℤ pos 187_200) early → IsBetweenChanges zone (s +ℤ pos 187_200) late
+    → (late.first -ℤ pos 1) ≤ℤ early.last → IsStep zone s late.first early.offset late.offset
+beside zone s early late second before after from until most =
+    let first = starts zone (s -ℤ pos 187_200) early (omega (arith, ints, second.0)) from in
+    let last = ends zone (s +ℤ pos 187_200) late (omega (arith, ints, second.1)) until in
+    record {
+      early = λ i near less. before i (omega (arith, ints, first, near.0)) (omega (arith, ints, less, most));
+      late = λ i near least. after i least (omega (arith, ints, last, near.1));
+    }
+
+-- One span has no change.
+pub calm : (zone : Timeline) (s : ℤ) (span : Span) → IsSecond s → IsSpan zone span → IsBetweenChanges zone (s -ℤ pos 187_200) span → (s +ℤ pos 187_200) ≤ℤ span.last → IsStep zone s s span.offset span.offset
+calm zone s span second same from most =
+    let first = starts zone (s -ℤ pos 187_200) span (omega (arith, ints, second.0)) from in
+    let one : (i : ℤ) → IsNear s i → offset_at zone i ≡ span.offset = λ i near. same i (omega (arith, ints, first, near.0)) (omega (arith, ints, most, near.1)) in
+    record { early = λ i near less. one i near; late = λ i near least. one i near }
+
+-- The range of one offset.
+pub one : (s c o : ℤ) (r : OffsetRange) → r.min ≡ o → r.max ≡ o → IsRangeOf s c o o r
+one s c o r min max = inr (inr (record { low_before = omega (arith, ints, min); low_after = omega (arith, ints, min); high_before = omega (arith, ints, max); high_after = omega (arith, ints, max) }))
