@@ -127,26 +127,39 @@ high-meant zone x z k o r h (inr f) early =
     ]
 
 -- ---- where a search begins and ends
-pub begins-at : (zone : Timeline) (x : ℤ) (r : OffsetRange) → HasOffsets zone (unix_seconds x) r → IsStart zone (x -ℤ pos 1) (local_at x r.min)
-begins-at zone x r h z m range is late = low-meant zone x z (instant m) m.offset r h (meant zone z m is) (omega (arith, ints, late))
+pub begins-at : (zone : Timeline) (x s : ℤ) (r : OffsetRange) → HasOffsets zone s r → s ≡ unix_seconds x → IsStart zone (x -ℤ pos 1) (local_at x r.min)
+begins-at zone x s r h e z m range is late = low-meant zone x z (instant m) m.offset r (subst (λ y. HasOffsets zone y r) e h) (meant zone z m is) (omega (arith, ints, late))
 
 -- A search for later instants can begin there, too.
 pub later-start : (zone : Timeline) (x y s : ℤ) → x ≤ℤ y → IsStart zone x s → IsStart zone y s
 later-start zone x y s most h z m range meant late = h z m range meant (omega (arith, ints, most, late))
 
-pub settled-at : (zone : Timeline) (k : LocalAndOffset) (s : ℤ) (r : OffsetRange) → HasOffsets zone (unix_seconds (instant k)) r → local_at (instant k) r.max ≤ℤ s → IsSettled zone (Some k) s
-settled-at zone k s r h past y m is most = elim (compared (instant m) (instant k)) as (λ _. instant k ≤ℤ instant m) [
-  | inl early ↦ let less = high-meant zone (instant k) y (instant m) m.offset r h (meant zone y m is) early in absurd (omega (arith, ints, less, past, most))
+pub settled-at : (zone : Timeline) (k : LocalAndOffset) (z s : ℤ) (r : OffsetRange) → HasOffsets zone s r → s ≡ unix_seconds (instant k) → local_at (instant k) r.max ≤ℤ z → IsSettled zone (Some k) z
+settled-at zone k z s r h e past y m is most = elim (compared (instant m) (instant k)) as (λ _. instant k ≤ℤ instant m) [
+  | inl early ↦
+      let less = high-meant zone (instant k) y (instant m) m.offset r (subst (λ i. HasOffsets zone i r) e h) (meant zone y m is) early in
+      absurd (omega (arith, ints, less, past, most))
   | inr late ↦ late
 ]
 
 -- ---- spans
 -- A span of the zone with the instant i.
-pub record SpanAt (zone : Timeline) (i : ℤ) (s : Span) : Type 0 where
-  pub least : neg_ℤ (pos 9_223_372_036_854_775_808) ≤ℤ i
-  pub same : IsSpan zone s
-  pub offset : s.offset ≡ offset_at zone i
-  pub ends : IsBetweenChanges zone i s
+record SpanAt (zone : Timeline) (i : ℤ) (s : Span) : Type 0 where
+  least : neg_ℤ (pos 9_223_372_036_854_775_808) ≤ℤ i
+  same : IsSpan zone s
+  offset : s.offset ≡ offset_at zone i
+  ends : IsBetweenChanges zone i s
+
+pub span-at : (zone there : Timeline) (i : ℤ) (s : Span) → there ≡ zone → InOrder zone → neg_ℤ (pos 9_223_372_036_854_775_808) ≤ℤ i
+    → (InOrder there → IsSpan there s) → (InOrder there → s.offset ≡ offset_at there i) → (InOrder there → IsBetweenChanges there i s) → SpanAt zone i s
+span-at zone there i s e order least same offset ends =
+    let same-order = subst InOrder (sym e) order in
+    record {
+      least = least;
+      same = subst (λ z. IsSpan z s) e (same same-order);
+      offset = subst (λ z. s.offset ≡ offset_at z i) e (offset same-order);
+      ends = subst (λ z. IsBetweenChanges z i s) e (ends same-order);
+    }
 
 starts-at : (zone : Timeline) (i : ℤ) (s : Span) (n : ℕ) → neg_ℤ (pos 9_223_372_036_854_775_808) ≤ℤ i → (h : IsBetweenChanges zone i s) → h.count ≡ n → s.first ≤ℤ i
 starts-at zone i s zero least h e = let is = h.after.unbounded_first e in omega (arith, ints, is, least)
