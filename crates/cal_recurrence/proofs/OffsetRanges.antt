@@ -1,7 +1,8 @@
 -- How far readings are from the instants that they mean, by the offsets of a zone near an instant.
-use Rattle.std.proofs.Common.{◌≡◌, refl, sym, arith, ℕ, zero, suc, ◌≤◌, ◌⊎◌, inl, inr, Some, ℤ, pos, negsuc, neg_ℤ, ◌+ℤ◌, ◌-ℤ◌, ◌*ℤ◌, ◌≤ℤ◌, ◌<ℤ◌, subst}
-use Rattle.std.specs.Int.{int_div_euclid, int_max, int_min, int_rem_euclid}
-use Rattle.std.proofs.lemmas.Int.{clamps, ints}
+use Rattle.std.proofs.Common.{◌≡◌, refl, sym, ◌∙◌, arith, ℕ, zero, suc, ◌<◌, ◌≤◌, ◌⊎◌, inl, inr, length, Some, ℤ, pos, negsuc, neg_ℤ, ◌+ℤ◌, ◌-ℤ◌, ◌*ℤ◌, ◌≤ℤ◌, ◌<ℤ◌, subst}
+use Rattle.std.specs.Int.{int_div_euclid, int_rem_euclid}
+use Rattle.std.proofs.lemmas.Bool.{cases_lt}
+use Rattle.std.proofs.lemmas.Int.{ints}
 use Rattle.cal_time.specs.SignedDuration.{second}
 use Rattle.cal_datetime.specs.OffsetDateTime.{LocalAndOffset, instant, local_at, unix_epoch, unix_seconds, IsInstant}
 use Rattle.cal_datetime.specs.UnixTimeLaws.{seconds-and_past}
@@ -14,10 +15,10 @@ use Rattle.cal_zone.specs.declared.gap.Gap as gaps
 use Rattle.cal_zone.specs.declared.local.Local.{Local}
 use Rattle.cal_zone.specs.declared.local.Local.TheVariants.{Single, Gap, Fold}
 use Rattle.cal_zone.specs.declared.span.Span.{Span}
-use Rattle.cal_recurrence.specs.OffsetRange.{HasOffsets, IsSecond, IsSettled, IsStart}
+use Rattle.cal_recurrence.specs.OffsetRange.{IsLeast, IsMost, IsNear, IsRange, IsSecond, IsSettled, IsStart}
 use Rattle.cal_recurrence.specs.ZonedSet.{IsMeant}
 use Rattle.cal_recurrence.specs.declared.offset_range.OffsetRange.{OffsetRange}
-use Rattle.cal_recurrence.proofs.ZonedSearch.{compared}
+use Rattle.cal_recurrence.proofs.ZonedSearch.{compared, near}
 
 -- ---- seconds
 past_range : (z : ℤ) → (pos 0 ≤ℤ int_rem_euclid z (pos second)) × (int_rem_euclid z (pos second) <ℤ pos second)
@@ -78,67 +79,145 @@ meant-at zone z m (Fold first later) shown selected low high =
 meant : (zone : Timeline) (z : ℤ) (m : LocalAndOffset) → IsMeant zone z m → IsShown zone z (instant m) m.offset ⊎ IsSkipped zone z (instant m)
 meant zone z m h = meant-at zone z m h.local h.shown h.selected (omega (arith, ints, h.offset.magnitude)) (omega (arith, ints, h.offset.magnitude))
 
--- ---- the offsets near an instant
--- A reading that means the instant x or a later one is ahead of x by the minimum, at least.
-low-meant : (zone : Timeline) (x z k o : ℤ) (r : OffsetRange) → HasOffsets zone (unix_seconds x) r → IsShown zone z k o ⊎ IsSkipped zone z k → x ≤ℤ k → local_at x r.min ≤ℤ z
-low-meant zone x z k o r h (inl f) late =
-    let j = unix_seconds k in
-    let xs = in-second x in
-    let ks = in-second k in
-    elim (compared (unix_seconds x +ℤ pos 187_200) j) as (λ _. local_at x r.min ≤ℤ z) [
-      | inl far ↦ omega (arith, ints, f.at, f.range.0, h.least.1, far, xs.until, ks.from)
-      | inr near ↦
-          let least : r.min ≤ℤ o = subst (λ y. r.min ≤ℤ y) f.offset (h.within j (omega (arith, ints, late, xs.from, ks.until), near)).0 in
-          omega (arith, ints, f.at, late, least)
-    ]
-low-meant zone x z k o r h (inr f) late =
-    let xs = in-second x in
-    let zs = in-second z in
-    let low : (unix_seconds x -ℤ pos 187_200) ≤ℤ (f.change -ℤ pos 1) = omega (arith, ints, late, f.at, f.gap.ends, f.gap.offsets.0.0, f.gap.offsets.1.1, xs.from, zs.until) in
-    elim (compared (unix_seconds x +ℤ pos 187_200) (f.change -ℤ pos 1)) as (λ _. local_at x r.min ≤ℤ z) [
-      | inl far ↦ omega (arith, ints, f.gap.offsets.0.0, f.gap.starts, h.least.1, far, xs.until, zs.from)
-      | inr near ↦
-          let least : r.min ≤ℤ f.before = subst (λ y. r.min ≤ℤ y) f.gap.before_is (h.within (f.change -ℤ pos 1) (low, near)).0 in
-          omega (arith, ints, f.at, late, least)
+-- ---- one change near an instant
+-- Near the Unix time s, clocks have one offset before a change, and one from it on.
+record IsStep (zone : Timeline) (s change before after : ℤ) : Type 0 where
+  early : (i : ℤ) → IsNear s i → i <ℤ change → offset_at zone i ≡ before
+  late : (i : ℤ) → IsNear s i → change ≤ℤ i → offset_at zone i ≡ after
+
+-- The offset at a second near the change.
+abbrev Offset : ℤ → ℤ → ℤ → ℤ → ℤ → Type 0
+Offset j change before after o = ((j <ℤ change) × (o ≡ before)) ⊎ ((change ≤ℤ j) × (o ≡ after))
+
+offset-of : (zone : Timeline) (s change before after j o : ℤ) → IsStep zone s change before after → IsNear s j → offset_at zone j ≡ o → Offset j change before after o
+offset-of zone s change before after j o step near is = elim (compared j change) as (λ _. Offset j change before after o) [
+  | inl early ↦ inl (early, sym is ∙ step.early j near early)
+  | inr late ↦ inr (late, sym is ∙ step.late j near late)
+]
+
+-- The change of a gap near the instant is the change.
+gap-is : (zone : Timeline) (s change before after z : ℤ) (at o p : ℤ) → IsStep zone s change before after → IsNear s at → IsNear s (at -ℤ pos 1) → IsGap zone z at o p → (at ≡ change) × (o ≡ before) × (p ≡ after)
+gap-is zone s change before after z at o p step near prior gap =
+    let first = offset-of zone s change before after (at -ℤ pos 1) o step prior gap.before_is in
+    let second = offset-of zone s change before after at p step near gap.after_is in
+    elim first as (λ _. (at ≡ change) × (o ≡ before) × (p ≡ after)) [
+      | inl a ↦ elim second as (λ _. (at ≡ change) × (o ≡ before) × (p ≡ after)) [
+          | inl b ↦ absurd (omega (arith, ints, a.1, b.1, gap.starts, gap.ends))
+          | inr b ↦ (omega (arith, ints, a.0, b.0), a.1, b.1)
+        ]
+      | inr a ↦ elim second as (λ _. (at ≡ change) × (o ≡ before) × (p ≡ after)) [
+          | inl b ↦ absurd (omega (arith, ints, a.0, b.0))
+          | inr b ↦ absurd (omega (arith, ints, a.1, b.1, gap.starts, gap.ends))
+        ]
     ]
 
--- A reading that means an earlier instant is ahead of x by less than the maximum.
-high-meant : (zone : Timeline) (x z k o : ℤ) (r : OffsetRange) → HasOffsets zone (unix_seconds x) r → IsShown zone z k o ⊎ IsSkipped zone z k → k <ℤ x → z <ℤ local_at x r.max
-high-meant zone x z k o r h (inl f) early =
+-- ---- readings near the change
+low-shown : (x k z s j c a b o min : ℤ) → InSecond x s → InSecond k j → z ≡ k +ℤ o *ℤ pos second → Offset j c a b o → IsLeast s c a b min → x ≤ℤ k → local_at x min ≤ℤ z
+low-shown x k z s j c a b o min xs ks at (inl h) (inl f) late = omega (arith, ints, at, h.1, late, f.1)
+low-shown x k z s j c a b o min xs ks at (inl h) (inr f) late = omega (arith, ints, at, h.1, h.0, late, f.0, f.1, xs.from, ks.until)
+low-shown x k z s j c a b o min xs ks at (inr h) (inl f) late = omega (arith, ints, at, h.1, h.0, f.0, f.1, xs.until, ks.from)
+low-shown x k z s j c a b o min xs ks at (inr h) (inr f) late = omega (arith, ints, at, h.1, late, f.1)
+
+high-shown : (x k z s j c a b o max : ℤ) → InSecond x s → InSecond k j → z ≡ k +ℤ o *ℤ pos second → Offset j c a b o → IsMost s c a b max → k <ℤ x → z <ℤ local_at x max
+high-shown x k z s j c a b o max xs ks at (inl h) (inl f) early = omega (arith, ints, at, h.1, early, f.1)
+high-shown x k z s j c a b o max xs ks at (inl h) (inr f) early = omega (arith, ints, at, h.1, h.0, f.0, f.1, xs.from, ks.until)
+high-shown x k z s j c a b o max xs ks at (inr h) (inl f) early = omega (arith, ints, at, h.1, h.0, early, f.0, f.1, xs.until, ks.from)
+high-shown x k z s j c a b o max xs ks at (inr h) (inr f) early = omega (arith, ints, at, h.1, early, f.1)
+
+-- The reading, in the second w of local time, is in the gap of the change.
+record InGap (k z w c a b : ℤ) : Type 0 where
+  at : z ≡ k +ℤ a *ℤ pos second
+  second : InSecond z w
+  starts : (c +ℤ a) ≤ℤ w
+  ends : w <ℤ (c +ℤ b)
+
+low-gap : (x k z s w c a b min : ℤ) → InSecond x s → InGap k z w c a b → IsLeast s c a b min → x ≤ℤ k → local_at x min ≤ℤ z
+low-gap x k z s w c a b min xs g (inl f) late = omega (arith, ints, g.at, late, f.1)
+low-gap x k z s w c a b min xs g (inr f) late = absurd (omega (arith, ints, g.at, g.second.until, g.ends, late, xs.from, f.0))
+
+high-gap : (x k z s w c a b max : ℤ) → InSecond x s → InGap k z w c a b → IsMost s c a b max → k <ℤ x → z <ℤ local_at x max
+high-gap x k z s w c a b max xs g (inl f) early = absurd (omega (arith, ints, g.at, g.second.from, g.starts, g.ends, early, xs.until, f.0))
+high-gap x k z s w c a b max xs g (inr f) early = omega (arith, ints, g.at, g.second.from, g.second.until, g.starts, g.ends, early, xs.from, xs.until, f.1)
+
+-- ---- any reading
+low-meant : (zone : Timeline) (x z k o s c a b min : ℤ) → InSecond x s → IsStep zone s c a b → IsOffset min → IsLeast s c a b min → IsShown zone z k o ⊎ IsSkipped zone z k → x ≤ℤ k → local_at x min ≤ℤ z
+low-meant zone x z k o s c a b min xs step fits is (inl h) late =
     let j = unix_seconds k in
-    let xs = in-second x in
     let ks = in-second k in
-    elim (compared j (unix_seconds x -ℤ pos 187_200)) as (λ _. z <ℤ local_at x r.max) [
-      | inl far ↦ omega (arith, ints, f.at, f.range.1, h.most.0, far, xs.from, ks.until)
-      | inr near ↦
-          let most : o ≤ℤ r.max = subst (λ y. y ≤ℤ r.max) f.offset (h.within j (near, omega (arith, ints, early, xs.until, ks.from))).1 in
-          omega (arith, ints, f.at, early, most)
+    elim (compared (s +ℤ pos 187_200) j) as (λ _. local_at x min ≤ℤ z) [
+      | inl far ↦ omega (arith, ints, h.at, h.range.0, fits.1, far, xs.until, ks.from)
+      | inr near ↦ low-shown x k z s j c a b o min xs ks h.at (offset-of zone s c a b j o step (omega (arith, ints, late, xs.from, ks.until), near) h.offset) is late
     ]
-high-meant zone x z k o r h (inr f) early =
-    let xs = in-second x in
+low-meant zone x z k o s c a b min xs step fits is (inr h) late =
+    let w = unix_seconds z in
     let zs = in-second z in
-    let high : f.change ≤ℤ (unix_seconds x +ℤ pos 187_200) = omega (arith, ints, early, f.at, f.gap.starts, xs.until, zs.from) in
-    elim (compared f.change (unix_seconds x -ℤ pos 187_200)) as (λ _. z <ℤ local_at x r.max) [
-      | inl far ↦ omega (arith, ints, f.gap.offsets.1.1, f.gap.ends, h.most.0, far, xs.from, zs.until)
+    elim (compared (s +ℤ pos 187_200) h.change) as (λ _. local_at x min ≤ℤ z) [
+      | inl far ↦ omega (arith, ints, h.gap.offsets.0.0, h.gap.starts, fits.1, far, xs.until, zs.from)
       | inr near ↦
-          let most : f.after ≤ℤ r.max = subst (λ y. y ≤ℤ r.max) f.gap.after_is (h.within f.change (near, high)).1 in
-          let before : f.change ≤ℤ unix_seconds x = omega (arith, ints, early, f.at, f.gap.starts, xs.until, zs.from) in
-          omega (arith, ints, f.gap.ends, most, before, xs.from, zs.until)
+          let low : (s -ℤ pos 187_200) ≤ℤ (h.change -ℤ pos 1) = omega (arith, ints, late, h.at, h.gap.ends, h.gap.offsets.0.0, h.gap.offsets.1.1, xs.from, zs.until) in
+          let same = gap-is zone s c a b w h.change h.before h.after step (omega (arith, ints, low), near) (low, omega (arith, ints, near)) h.gap in
+          low-gap x k z s w c a b min xs (record {
+            at = omega (arith, ints, h.at, same.1);
+            second = zs;
+            starts = omega (arith, ints, h.gap.starts, same.0, same.1);
+            ends = omega (arith, ints, h.gap.ends, same.0, same.2);
+          }) is late
     ]
+
+high-meant : (zone : Timeline) (x z k o s c a b max : ℤ) → InSecond x s → IsStep zone s c a b → IsOffset max → IsMost s c a b max → IsShown zone z k o ⊎ IsSkipped zone z k → k <ℤ x → z <ℤ local_at x max
+high-meant zone x z k o s c a b max xs step fits is (inl h) early =
+    let j = unix_seconds k in
+    let ks = in-second k in
+    elim (compared j (s -ℤ pos 187_200)) as (λ _. z <ℤ local_at x max) [
+      | inl far ↦ omega (arith, ints, h.at, h.range.1, fits.0, far, xs.from, ks.until)
+      | inr near ↦ high-shown x k z s j c a b o max xs ks h.at (offset-of zone s c a b j o step (near, omega (arith, ints, early, xs.until, ks.from)) h.offset) is early
+    ]
+high-meant zone x z k o s c a b max xs step fits is (inr h) early =
+    let w = unix_seconds z in
+    let zs = in-second z in
+    elim (compared (h.change -ℤ pos 1) (s -ℤ pos 187_200)) as (λ _. z <ℤ local_at x max) [
+      | inl far ↦ omega (arith, ints, h.gap.offsets.1.1, h.gap.ends, fits.0, far, xs.from, zs.until)
+      | inr low ↦
+          let high : h.change ≤ℤ (s +ℤ pos 187_200) = omega (arith, ints, early, h.at, h.gap.starts, xs.until, zs.from) in
+          let same = gap-is zone s c a b w h.change h.before h.after step (omega (arith, ints, low), high) (low, omega (arith, ints, high)) h.gap in
+          high-gap x k z s w c a b max xs (record {
+            at = omega (arith, ints, h.at, same.1);
+            second = zs;
+            starts = omega (arith, ints, h.gap.starts, same.0, same.1);
+            ends = omega (arith, ints, h.gap.ends, same.0, same.2);
+          }) is early
+    ]
+
+pub one-change : (zone : Timeline) (x s c a b : ℤ) (r : OffsetRange) → unix_seconds x ≡ s → IsStep zone s c a b → IsOffset r.min → IsOffset r.max → IsLeast s c a b r.min → IsMost s c a b r.max → IsRange zone x r
+one-change zone x s c a b r e step least most low high =
+    let xs = subst (InSecond x) e (in-second x) in
+    record {
+      least = least;
+      most = most;
+      low = λ z m h late. low-meant zone x z (instant m) m.offset s c a b r.min xs step least low (meant zone z m h) late;
+      high = λ z m h early. high-meant zone x z (instant m) m.offset s c a b r.max xs step most high (meant zone z m h) early;
+    }
+
+-- The range of all offsets.
+pub all-offsets : (zone : Timeline) (x : ℤ) (r : OffsetRange) → r.min ≡ neg_ℤ (pos 93_599) → r.max ≡ pos 93_599 → IsRange zone x r
+all-offsets zone x r min max = record {
+  least = (omega (arith, ints, min), omega (arith, ints, min));
+  most = (omega (arith, ints, max), omega (arith, ints, max));
+  low = λ z m h late. let far = (near zone z m h).0 in omega (arith, ints, far, late, min);
+  high = λ z m h early. let far = (near zone z m h).1 in omega (arith, ints, far, early, max);
+}
 
 -- ---- where a search begins and ends
-pub begins-at : (zone : Timeline) (x s : ℤ) (r : OffsetRange) → HasOffsets zone s r → s ≡ unix_seconds x → IsStart zone (x -ℤ pos 1) (local_at x r.min)
-begins-at zone x s r h e z m range is late = low-meant zone x z (instant m) m.offset r (subst (λ y. HasOffsets zone y r) e h) (meant zone z m is) (omega (arith, ints, late))
-
--- A search for later instants can begin there, too.
+-- A search for later instants can begin at the same reading.
 pub later-start : (zone : Timeline) (x y s : ℤ) → x ≤ℤ y → IsStart zone x s → IsStart zone y s
 later-start zone x y s most h z m range meant late = h z m range meant (omega (arith, ints, most, late))
 
-pub settled-at : (zone : Timeline) (k : LocalAndOffset) (z s : ℤ) (r : OffsetRange) → HasOffsets zone s r → s ≡ unix_seconds (instant k) → local_at (instant k) r.max ≤ℤ z → IsSettled zone (Some k) z
-settled-at zone k z s r h e past y m is most = elim (compared (instant m) (instant k)) as (λ _. instant k ≤ℤ instant m) [
-  | inl early ↦
-      let less = high-meant zone (instant k) y (instant m) m.offset r (subst (λ i. HasOffsets zone i r) e h) (meant zone y m is) early in
-      absurd (omega (arith, ints, less, past, most))
+pub begins-at : (zone : Timeline) (x : ℤ) (r : OffsetRange) → IsRange zone x r → IsStart zone (x -ℤ pos 1) (local_at x r.min)
+begins-at zone x r h z m range is late = h.low z m is (omega (arith, ints, late))
+
+pub settled-at : (zone : Timeline) (k : LocalAndOffset) (z : ℤ) (r : OffsetRange) → IsRange zone (instant k) r → local_at (instant k) r.max ≤ℤ z → IsSettled zone (Some k) z
+settled-at zone k z r h past y m is most = elim (compared (instant m) (instant k)) as (λ _. instant k ≤ℤ instant m) [
+  | inl early ↦ let less = h.high y m is early in absurd (omega (arith, ints, less, past, most))
   | inr late ↦ late
 ]
 
@@ -169,47 +248,41 @@ starts-at zone i s (suc k) least h e = let is = h.after.first k (sym e) in let p
 starts : (zone : Timeline) (i : ℤ) (s : Span) → SpanAt zone i s → s.first ≤ℤ i
 starts zone i s h = starts-at zone i s h.ends.count h.least h.ends refl
 
+-- It ends at the instant, or after it.
+pub reaches : (zone : Timeline) (i : ℤ) (s : Span) → SpanAt zone i s → i ≤ℤ pos 9_223_372_036_854_775_807 → i ≤ℤ s.last
+reaches zone i s h most = elim (cases_lt h.ends.count (length zone.changes)) as (λ _. i ≤ℤ s.last) [
+  | inl less ↦ let is = h.ends.after.last less in let ahead = h.ends.split.above h.ends.count (omega arith) less in omega (arith, ints, is, ahead)
+  | inr past ↦ let is = h.ends.after.unbounded_last past in omega (arith, ints, is, most)
+]
+
 -- Its offset is in range.
-fits : (zone : Timeline) (i : ℤ) (s : Span) → InOrder zone → SpanAt zone i s → IsOffset s.offset
+pub fits : (zone : Timeline) (i : ℤ) (s : Span) → InOrder zone → SpanAt zone i s → IsOffset s.offset
 fits zone i s order h = subst IsOffset (sym h.offset) (offset_in zone order i)
 
--- One span has all instants near s.
-pub one-span : (zone : Timeline) (s i : ℤ) (span : Span) (r : OffsetRange) → InOrder zone → SpanAt zone i span → i ≡ (s -ℤ pos 187_200) → (s +ℤ pos 187_200) ≤ℤ span.last
-    → r.min ≡ span.offset → r.max ≡ span.offset → HasOffsets zone s r
-one-span zone s i span r order h e last min max =
+-- One of two offsets is in range.
+of-two : (a b o : ℤ) (P Q : Type 0) → IsOffset a → IsOffset b → (P × (o ≡ a)) ⊎ (Q × (o ≡ b)) → IsOffset o
+of-two a b o P Q h g (inl e) = subst IsOffset (sym e.1) h
+of-two a b o P Q h g (inr e) = subst IsOffset (sym e.1) g
+
+-- One span with all instants near s has no change there.
+pub one-span : (zone : Timeline) (x s i : ℤ) (span : Span) (r : OffsetRange) → unix_seconds x ≡ s → InOrder zone → SpanAt zone i span → i ≡ (s -ℤ pos 187_200) → (s +ℤ pos 187_200) ≤ℤ span.last
+    → r.min ≡ span.offset → r.max ≡ span.offset → IsRange zone x r
+one-span zone x s i span r is order h e last min max =
     let first = starts zone i span h in
     let own = fits zone i span order h in
-    record {
-      least = subst IsOffset (sym min) own;
-      most = subst IsOffset (sym max) own;
-      within = λ j near. (let same = h.same j (omega (arith, ints, first, e, near.0)) (omega (arith, ints, last, near.1)) in (omega (arith, ints, same, min), omega (arith, ints, same, max)));
-    }
+    let same : (j : ℤ) → IsNear s j → offset_at zone j ≡ span.offset = λ j near. h.same j (omega (arith, ints, first, e, near.0)) (omega (arith, ints, last, near.1)) in
+    one-change zone x s s span.offset span.offset r is (record { early = λ j near less. same j near; late = λ j near most. same j near })
+    (subst IsOffset (sym min) own) (subst IsOffset (sym max) own) (inr (omega (arith, ints), min)) (inr (omega (arith, ints), max))
 
--- Two spans, one after the other, have all instants near s.
-of-two : (a b o min max : ℤ) → (o ≡ a) ⊎ (o ≡ b) → min ≡ int_min a b → max ≡ int_max a b → (min ≤ℤ o) × (o ≤ℤ max)
-of-two a b o min max (inl e) low high = (omega (arith, ints, clamps, e, low), omega (arith, ints, clamps, e, high))
-of-two a b o min max (inr e) low high = (omega (arith, ints, clamps, e, low), omega (arith, ints, clamps, e, high))
-
-pub two-spans : (zone : Timeline) (s i k : ℤ) (early late : Span) (r : OffsetRange) → InOrder zone → SpanAt zone i early → SpanAt zone k late → i ≡ (s -ℤ pos 187_200) → k ≡ (early.last +ℤ pos 1) → (s +ℤ pos 187_200) ≤ℤ late.last
-    → r.min ≡ int_min early.offset late.offset → r.max ≡ int_max early.offset late.offset → HasOffsets zone s r
-two-spans zone s i k early late r order h g e next last min max =
+-- Two spans, one after the other, have one change.
+pub two-spans : (zone : Timeline) (x s i k : ℤ) (early late : Span) (r : OffsetRange) → unix_seconds x ≡ s → InOrder zone → SpanAt zone i early → SpanAt zone k late → i ≡ (s -ℤ pos 187_200) → k ≡ (early.last +ℤ pos 1) → (s +ℤ pos 187_200) ≤ℤ late.last
+    → IsLeast s k early.offset late.offset r.min → IsMost s k early.offset late.offset r.max → IsRange zone x r
+two-spans zone x s i k early late r is order h g e next last min max =
     let first = starts zone i early h in
     let after = starts zone k late g in
     let own = fits zone i early order h in
     let other = fits zone k late order g in
-    record {
-      least = (omega (arith, ints, clamps, min, own.0, other.0), omega (arith, ints, clamps, min, own.1, other.1));
-      most = (omega (arith, ints, clamps, max, own.0, other.0), omega (arith, ints, clamps, max, own.1, other.1));
-      within = λ j near. of-two early.offset late.offset (offset_at zone j) r.min r.max (elim (compared early.last j) as (λ _. (offset_at zone j ≡ early.offset) ⊎ (offset_at zone j ≡ late.offset)) [
-        | inl past ↦ inr (g.same j (omega (arith, ints, past, after, next)) (omega (arith, ints, last, near.1)))
-        | inr most ↦ inl (h.same j (omega (arith, ints, first, e, near.0)) most)
-      ]) min max;
-    }
-
--- The range of all offsets.
-pub all-offsets : (zone : Timeline) (s : ℤ) (r : OffsetRange) → InOrder zone → r.min ≡ neg_ℤ (pos 93_599) → r.max ≡ pos 93_599 → HasOffsets zone s r
-all-offsets zone s r order min max = record {
-  least = (omega (arith, ints, min), omega (arith, ints, min));
-  most = (omega (arith, ints, max), omega (arith, ints, max));
-  within = λ j near. (let fits = offset_in zone order j in (omega (arith, ints, fits.0, min), omega (arith, ints, fits.1, max)));
-}
+    one-change zone x s k early.offset late.offset r is (record {
+      early = λ j near less. h.same j (omega (arith, ints, first, e, near.0)) (omega (arith, ints, less, next));
+      late = λ j near most. g.same j (omega (arith, ints, after, most)) (omega (arith, ints, last, near.1));
+    }) (of-two early.offset late.offset r.min _ _ own other min) (of-two early.offset late.offset r.max _ _ own other max) min max

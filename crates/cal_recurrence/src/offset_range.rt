@@ -2,7 +2,7 @@
 //! ends.
 ghost use Rattle.std.specs.Prelude.{◌≡◌, ℤ, true, pos, ◌-ℤ◌};
 ghost use Rattle.cal_datetime.specs.OffsetDateTime.{instant, unix_seconds};
-ghost use Rattle.cal_recurrence.specs.OffsetRange.{HasOffsets, IsSecond, IsSettled, IsStart};
+ghost use Rattle.cal_recurrence.specs.OffsetRange.{IsLeast, IsMost, IsNear, IsRange, IsSecond, IsSettled, IsStart};
 
 use crate::reach::{MAX_OFFSET, earliest_reading, utc_offset};
 use cal_datetime::{OffsetDateTime, PlainDateTime};
@@ -11,18 +11,46 @@ use cal_zone::Zone;
 /// More than the maximum difference of two offsets, in seconds.
 const NEAR: i64 = 187_200;
 
-/// The minimum and the maximum of the offsets of a zone near an instant.
+/// The minimum and the maximum of how far readings near an instant are ahead of it, in seconds.
 #[derive(Clone, Copy)]
 struct OffsetRange {
     min: i32,
     max: i32,
 }
 
-/// Returns the range of the offsets near an instant, a Unix time in seconds. If the zone changes
-/// twice there, it is the range of all offsets.
+/// Returns the offset before a change near an instant or the one after it: the readings that mean the
+/// instant or a later one are ahead of it by this offset, at least.
+fn least(seconds: i64, change: i64, before: i32, after: i32) -> i32
+    requires seconds { IsSecond seconds }
+    requires change { IsNear seconds change }
+    ensures { IsLeast seconds change before after result }
+{
+    if seconds + i64::from(before) < change + i64::from(after) {
+        before
+    } else {
+        after
+    }
+}
+
+/// Returns the offset before a change near an instant or the one after it: the readings that mean an
+/// earlier instant are ahead of the instant by less than this offset.
+fn most(seconds: i64, change: i64, before: i32, after: i32) -> i32
+    requires seconds { IsSecond seconds }
+    requires change { IsNear seconds change }
+    ensures { IsMost seconds change before after result }
+{
+    if seconds + i64::from(after) < change + i64::from(before) {
+        before
+    } else {
+        after
+    }
+}
+
+/// Returns how far the readings that mean an instant, a Unix time in seconds, and those near it are
+/// ahead of it. If the zone changes twice there, it is the range of all offsets.
 fn offsets_near(zone: &Zone<'_>, seconds: i64) -> OffsetRange
     requires { IsSecond seconds }
-    ensures { HasOffsets zone.now seconds result }
+    ensures { (x : ℤ) → unix_seconds x ≡ seconds → IsRange zone.now x result }
 {
     let last = seconds + NEAR;
     let spans = zone.as_unchecked();
@@ -33,11 +61,12 @@ fn offsets_near(zone: &Zone<'_>, seconds: i64) -> OffsetRange
             max: early.offset,
         };
     }
-    let late = spans.span_at(early.last + 1);
+    let change = early.last + 1;
+    let late = spans.span_at(change);
     if last <= late.last {
         return OffsetRange {
-            min: early.offset.min(late.offset),
-            max: early.offset.max(late.offset),
+            min: least(seconds, change, early.offset, late.offset),
+            max: most(seconds, change, early.offset, late.offset),
         };
     }
     OffsetRange {
