@@ -11,7 +11,6 @@ pub mod Laters
 pub mod Leads
 pub mod LocalShapes
 pub mod Marks
-pub mod Nearest
 pub mod OneAnswer
 pub mod Outside
 pub mod Periods

@@ -60,10 +60,8 @@ pub enum Expected {
     RoundedNumber,
     /// An offset from UTC, such as `+01:00`.
     Offset,
-    /// A year of four digits, such as `2024`, or `near`.
+    /// A year of four digits, such as `2024`.
     Year,
-    /// A date after `near`.
-    Day,
     /// An offset from UTC or a zone. The word is not the name of a zone.
     Place,
     /// The name of a zone that can be read, such as `Europe/Berlin`.
