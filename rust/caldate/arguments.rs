@@ -18,6 +18,7 @@ use cal_time::{Date, Month, Time, UtcOffset};
 use cal_zone::{Policy, Zone};
 use caldate_answers::reading::reader::Reader;
 use caldate_answers::reading::value_format::ValueFormat;
+use caldate_answers::reading::yearless::AssumedYear;
 use caldate_answers::reading::{DateOrder, Reading};
 use caldate_answers::request::*;
 use caldate_args::args::arguments::{BUFFER_BYTES, join};
@@ -227,7 +228,10 @@ fn filter_text(filter: &Filter<'_>) -> String {
     let readers: Vec<String> = filter.readers.as_slice().iter().map(reader_text).collect();
     parts.push(format!("read={}", readers.join(",")));
     parts.push(format!("offset={}", filter.assumptions.offset.whole_seconds()));
-    parts.push(format!("year={}", String::from_utf8_lossy(&filter.assumptions.year)));
+    parts.push(match filter.assumptions.year {
+        AssumedYear::Is(year) => format!("year={year:04}"),
+        AssumedYear::Near(date) => format!("year near {date}"),
+    });
     if let Some(clock) = &filter.clock {
         parts.push(format!("zone={} {}", zone_text(&clock.zone), policy_name(clock.policy)));
     }

@@ -11,6 +11,7 @@ pub mod Laters
 pub mod Leads
 pub mod LocalShapes
 pub mod Marks
+pub mod Nearest
 pub mod OneAnswer
 pub mod Outside
 pub mod Periods

@@ -8,6 +8,7 @@ pub mod Counts
 pub mod Forms
 pub mod Found
 pub mod Moves
+pub mod Nearness
 pub mod Offsets
 pub mod Periods
 pub mod Readers

@@ -108,7 +108,7 @@ fn bound_by_form(reading: Reading, bytes: &[u8]) -> usize
 }
 
 /// Returns the bound for fronts of the strings in a format.
-fn bound_by_format(format: &ValueFormat, bytes: &[u8]) -> usize
+pub fn bound_by_format(format: &ValueFormat, bytes: &[u8]) -> usize
     ensures within { result ≤ length bytes.now }
     ensures front { (offset : ℤ) (n : ℕ) (more : List ℕ) (found : DateOrMoment)
         → n ≤ length bytes.now

@@ -63,7 +63,8 @@ pub fn message_for(expected: Expected) -> &'static str
         Expected::RoundedNumber =>
             "invalid step; expected one that divides a day, such as 15 minutes",
         Expected::Offset => "invalid offset; expected one such as +01:00, -05:30 or Z",
-        Expected::Year => "invalid year; expected four digits, such as 2024",
+        Expected::Year => "invalid year; expected four digits, such as 2024, or near and a date",
+        Expected::Day => "invalid day; expected a date, such as 2024-02-29",
         Expected::Place => {
             "invalid offset or zone; expected one such as +01:00, -05:30, Z or Europe/Berlin"
         }

@@ -31,6 +31,8 @@ pub enum OptionName {
     Read,
     Assume,
     AssumeYear,
+    /// `near`, a value of `--assume-year`, which has a value of its own.
+    Near,
     Zone,
     Ambiguous,
     Holidays,

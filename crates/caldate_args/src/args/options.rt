@@ -10,12 +10,14 @@ use crate::args::usage_error::{Expected, UsageError, usage_error_at};
 use crate::args::words::cut;
 use crate::data_files::DataFiles;
 use cal_schedule::Workdays;
-use cal_time::UtcOffset;
+use cal_text::{DateOrMoment, parse_any};
+use cal_time::{Date, UtcOffset};
 use cal_zone::{Policy, Zone};
 use caldate_answers::answer::moves::workdays_except;
 use caldate_answers::reading::reader::{Assumptions, Reader};
 use caldate_answers::reading::spelling::Spelling;
 use caldate_answers::reading::value_format::ValueFormat;
+use caldate_answers::reading::yearless::AssumedYear;
 use caldate_answers::reading::{Readers, Reading};
 use caldate_lines::field::Field;
 use caldate_lines::field_name::FieldName;
@@ -52,8 +54,8 @@ pub struct Options<'a> {
     pub readers: Readers,
     /// The offset of `--assume OFFSET`.
     pub offset: Option<UtcOffset>,
-    /// The four digits of `--assume-year YEAR`.
-    pub year: Option<[u8; 4]>,
+    /// The year of `--assume-year YEAR` or `--assume-year near DATE`.
+    pub year: Option<AssumedYear>,
     /// The zone of `--zone NAME`.
     pub zone: Option<Zone<'a>>,
     /// The policy of `--ambiguous POLICY`.
@@ -155,6 +157,9 @@ fn after_value<'a, D: DataFiles<'a>>(
     index: usize,
     files: &mut D,
 ) -> Result<OptionsAfter<'a>, UsageError<'a>> {
+    if let Some(next) = option_after(option, value) {
+        return Ok(OptionsAfter::Continued(options, Some(next)));
+    }
     let invalid = usage_error_at(index, expected_value(option));
     let more = with_value(options, option, value, invalid, files)?;
     Ok(OptionsAfter::Continued(more, None))
@@ -202,7 +207,7 @@ fn has_room_for(options: &Options<'_>, option: OptionName) -> bool {
         OptionName::Skip => options.skip.is_none(),
         OptionName::Read => read_count(options.readers.as_slice()) < 4,
         OptionName::Assume => options.offset.is_none(),
-        OptionName::AssumeYear => options.year.is_none(),
+        OptionName::AssumeYear | OptionName::Near => options.year.is_none(),
         OptionName::Zone => options.zone.is_none(),
         OptionName::Ambiguous => options.policy.is_none(),
         OptionName::Holidays => options.workdays.is_none(),
@@ -229,6 +234,7 @@ fn expected_value(option: OptionName) -> Expected {
         OptionName::Read => Expected::Reading,
         OptionName::Assume => Expected::Offset,
         OptionName::AssumeYear => Expected::Year,
+        OptionName::Near => Expected::Day,
         OptionName::Zone => Expected::Zone,
         OptionName::Ambiguous => Expected::Policy,
         OptionName::Holidays => Expected::Holidays,
@@ -244,11 +250,24 @@ pub fn is_option(word: &[u8]) -> bool {
     }
 }
 
-/// Returns whether the word is such an option, and its value is the next word.
-pub fn is_option_with_value(word: &[u8]) -> bool {
-    match option_of(word) {
-        Some(option) => takes_value(option),
-        None => false,
+/// Returns the option whose value is the next word, if the word is an option.
+pub fn option_before_value(word: &[u8]) -> Option<OptionName> {
+    let (name, value) = cut_value(word);
+    let option = option_of(name)?;
+    if is_joined(word) {
+        option_after(option, value)
+    } else if takes_value(option) {
+        Some(option)
+    } else {
+        None
+    }
+}
+
+/// Returns the option whose value follows a value of an option: DATE follows `near`.
+pub fn option_after(option: OptionName, value: &[u8]) -> Option<OptionName> {
+    match option {
+        OptionName::AssumeYear if value == b"near".as_slice() => Some(OptionName::Near),
+        _ => None,
     }
 }
 
@@ -298,7 +317,8 @@ fn with_meaning<'a>(
     match option {
         OptionName::Invalid => more.on_invalid = Some(value_named(value, &MODES)?),
         OptionName::Assume => more.offset = Some(offset_of(value)?),
-        OptionName::AssumeYear => more.year = Some(year_of(value)?),
+        OptionName::AssumeYear => more.year = Some(AssumedYear::Is(year_of(value)?)),
+        OptionName::Near => more.year = Some(AssumedYear::Near(day_of(value)?)),
         OptionName::Ambiguous => more.policy = Some(value_named(value, &POLICIES)?),
         _ => return None,
     }
@@ -434,14 +454,19 @@ fn skip_of(word: &[u8]) -> Option<u64> {
 }
 
 /// Parses a year of four digits.
-fn year_of(word: &[u8]) -> Option<[u8; 4]> {
-    if word.len() != 4 || !word[0].is_ascii_digit() || !word[1].is_ascii_digit() {
+fn year_of(word: &[u8]) -> Option<i32> {
+    if word.len() != 4 || !word[0].is_ascii_digit() {
         return None;
     }
-    if !word[2].is_ascii_digit() || !word[3].is_ascii_digit() {
-        return None;
+    i32::try_from(parse_i64(word)?).ok()
+}
+
+/// Parses a date in one of the four forms.
+fn day_of(word: &[u8]) -> Option<Date> {
+    match parse_any(word) {
+        Ok(DateOrMoment::Date(_, date)) => Some(date),
+        _ => None,
     }
-    Some([word[0], word[1], word[2], word[3]])
 }
 
 /// Returns the fields that the options select. The default separator is a tab, or a comma in CSV.
@@ -543,7 +568,7 @@ fn iso_reading(reader: &Reader, offset: Option<UtcOffset>, has_zone: bool) -> Op
 pub fn assumptions_in(options: &Options<'_>) -> Assumptions {
     Assumptions {
         offset: options.offset.unwrap_or(UtcOffset::UTC),
-        year: options.year.unwrap_or(*b"0000"),
+        year: options.year.unwrap_or(AssumedYear::Is(0)),
     }
 }
 

@@ -60,8 +60,10 @@ pub enum Expected {
     RoundedNumber,
     /// An offset from UTC, such as `+01:00`.
     Offset,
-    /// A year of four digits, such as `2024`.
+    /// A year of four digits, such as `2024`, or `near`.
     Year,
+    /// A date after `near`.
+    Day,
     /// An offset from UTC or a zone. The word is not the name of a zone.
     Place,
     /// The name of a zone that can be read, such as `Europe/Berlin`.
