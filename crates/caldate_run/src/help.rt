@@ -88,8 +88,8 @@ Options, before or after a command:
   --ambiguous POLICY    with --zone or at ZONE MOVE: a time that clocks skip or
                         show twice is compatible (the default), earlier, later,
                         or reject for none
-  --assume-year YEAR    the year of syslog, or of a format without one; near DATE
-                        is the year in which it is nearest to that day
+  --assume-year YEAR    the year of syslog, or of a format without one; or near
+                        DATE, for the year of the date that is nearest to it
   --holidays FILE       with workdays: the dates in that file aren't workdays,
                         or those of a calendar: target, us-federal, nyse,
                         england-and-wales, or de-bw and so on

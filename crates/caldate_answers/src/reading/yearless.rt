@@ -13,7 +13,7 @@ use crate::scan::bound::bound_by_format;
 use cal_text::DateOrMoment;
 use cal_time::{Date, ShortText, UtcOffset};
 
-/// The maximum number of years between that of a day and that of a string near it.
+/// The maximum number of years between a day and a string near it.
 const REACH: u8 = 50;
 
 /// The year of a string that has none.
@@ -21,8 +21,7 @@ const REACH: u8 = 50;
 pub enum AssumedYear {
     /// This one, from 0 to 9999.
     Is(i32),
-    /// The one in which the string is nearest to this day, or the earlier of two that are as near. It
-    /// is at most 50 years from that of the day.
+    /// The one in which the string is nearest to this day, or the earlier of two, within 50 years.
     Near(Date),
 }
 
@@ -94,8 +93,8 @@ fn may_lack_year(format: &ValueFormat, text: &[u8]) -> bool
     bound_by_format(format, front.as_bytes()) > text.len()
 }
 
-/// Returns the last date or moment of a string on or before a day, in a year or in one of so many
-/// before it.
+/// Returns the last date or moment of a string on or before a day, in the years from `year - more` to
+/// `year`.
 fn last_until(
     day: Date,
     format: &ValueFormat,
@@ -121,7 +120,8 @@ fn last_until(
     last_until(day, format, offset, text, year - 1, more - 1)
 }
 
-/// Returns the first date or moment of a string after a day, in a year or in one of so many after it.
+/// Returns the first date or moment of a string after a day, in the years from `year` to
+/// `year + more`.
 fn first_after(
     day: Date,
     format: &ValueFormat,
@@ -168,7 +168,7 @@ fn in_year(format: &ValueFormat, offset: UtcOffset, text: &[u8], year: i32) -> O
     }
 }
 
-/// Returns the one that is nearer to a day, or the earlier one if they are as near.
+/// Returns the date or moment that is nearer to a day, or the earlier of two that are as near.
 fn nearer_to(
     day: Date,
     last: Option<DateOrMoment>,
