@@ -463,9 +463,9 @@ fn year_of(word: &[u8]) -> Option<i32> {
 
 /// Parses a date in one of the four forms.
 fn day_of(word: &[u8]) -> Option<Date> {
-    match parse_any(word) {
-        Ok(DateOrMoment::Date(_, date)) => Some(date),
-        _ => None,
+    match &parse_any(word).ok()? {
+        DateOrMoment::Date(_, date) => Some(*date),
+        DateOrMoment::Moment(_, _) => None,
     }
 }
 
