@@ -21,6 +21,7 @@ pub mod NearestValues
 pub mod Sets
 pub mod DateTimeSets
 pub mod ZonedSearch
+pub mod OffsetRanges
 pub mod CountedSets
 pub mod TimeSteps
 pub mod TimeTests

@@ -23,6 +23,7 @@ use Rattle.cal_zone.specs.declared.local.Local.{Local}
 use Rattle.cal_zone.specs.declared.local.Local.TheVariants.{Single, Gap, Fold}
 use Rattle.cal_recurrence.specs.Occurrences.{nanoseconds_left}
 use Rattle.cal_recurrence.specs.TimeSearch.{first_by}
+use Rattle.cal_recurrence.specs.OffsetRange.{IsSettled, IsStart}
 use Rattle.cal_recurrence.specs.ZonedSet.{is_earlier, is_in_time, is_kept, is_selected, reach, HasInstant, IsFirstAfter, IsListed, IsMeant, IsNextAfter, IsNextCandidate, IsPast, Means, MeansAt, NoReading, NoneAfter, Occurs}
 use Rattle.cal_recurrence.specs.declared.date_time_set.DateTimeSet.{DateTimeSet}
 use Rattle.cal_recurrence.specs.declared.zoned_set.ZonedSet.{ZonedSet}
@@ -329,24 +330,18 @@ step set last n x p q range h covered at =
     joined (Before set n) (MeansAt set n) (Covered set n) x p q (splits set n) (up-to_next set last n x p range h covered) at
 
 -- ---- the ends of the search
--- The readings before this one can't mean a later instant than x.
-abbrev pub Starts : ℤ → ℤ → Type 0
-Starts s x = (z : ℤ) → IsDateTime z → x <ℤ (z +ℤ reach) → s ≤ℤ z
-
-early : (set : ZonedSet) (s x z : ℤ) (k : LocalAndOffset) → Starts s x → IsDateTime s → Means set z k → (s ≤ℤ z → ⊥) → instant k ≤ℤ x
-early set s x z k starts range means none = elim (compared x (instant k)) as (λ _. instant k ≤ℤ x) [
-  | inl late ↦
-      let far = (near set.zone.now z k means.meant).0 in
-      absurd (none (starts z means.range (omega (arith, ints, late, far))))
+early : (set : ZonedSet) (s x z : ℤ) (k : LocalAndOffset) → IsStart set.zone.now x s → Means set z k → (s ≤ℤ z → ⊥) → instant k ≤ℤ x
+early set s x z k starts means none = elim (compared x (instant k)) as (λ _. instant k ≤ℤ x) [
+  | inl late ↦ absurd (none (starts z k means.range means.meant late))
   | inr most ↦ most
 ]
 
-pub begins : (set : ZonedSet) (s x n : ℤ) (r : Option LocalAndOffset) → Starts s x → IsDateTime s → IsNextCandidate set (unsigned_abs s) n → IsNextAfter (MeansAt set n) x r → IsNextAfter (Covered set n) x r
+pub begins : (set : ZonedSet) (s x n : ℤ) (r : Option LocalAndOffset) → IsStart set.zone.now x s → IsDateTime s → IsNextCandidate set (unsigned_abs s) n → IsNextAfter (MeansAt set n) x r → IsNextAfter (Covered set n) x r
 begins set s x n r starts range h at = joined (Before set n) (MeansAt set n) (Covered set n) x None r (splits set n) (λ z k g.
-    early set s x z k starts range g.0 (λ from. let most = h.first z k g.0 (omega (arith, ints, from, range.not_before)) in absurd (omega (arith, ints, most, g.1)))) at
+    early set s x z k starts g.0 (λ from. let most = h.first z k g.0 (omega (arith, ints, from, range.not_before)) in absurd (omega (arith, ints, most, g.1)))) at
 
-pub empty : (set : ZonedSet) (s x : ℤ) → Starts s x → IsDateTime s → NoReading set (unsigned_abs s) → NoneAfter (Means set) x
-empty set s x starts range h z k g = early set s x z k starts range g (λ from. h z k g (omega (arith, ints, from, range.not_before)))
+pub empty : (set : ZonedSet) (s x : ℤ) → IsStart set.zone.now x s → IsDateTime s → NoReading set (unsigned_abs s) → NoneAfter (Means set) x
+empty set s x starts range h z k g = early set s x z k starts g (λ from. h z k g (omega (arith, ints, from, range.not_before)))
 
 pub ends : (set : ZonedSet) (last x : ℤ) (r : Option LocalAndOffset) → IsDateTime last → NoReading set (unsigned_abs last + 1) → IsNextAfter (Covered set last) x r
     → IsNextAfter (Means set) x r
@@ -358,17 +353,20 @@ ends set last x r range h covered = widen (Covered set last) (Means set) x r (λ
   ],
 )) (λ z k g. g.0) covered
 
-pub stops : (set : ZonedSet) (n x : ℤ) (r : Option LocalAndOffset) → IsNextAfter (Before set n) x r → MatchOption r ⊥ (λ m. (instant m +ℤ reach) <ℤ n) → IsNextAfter (Means set) x r
-stops set n x None h past = absurd past
-stops set n x (Some m) h past = record {
+pub or-settled : (set : ZonedSet) (n : ℕ) (first : Option LocalAndOffset) (reading : ℤ) (r : Option ℤ) → MatchOption r (NoReading set n) (IsNextCandidate set n)
+    → MatchOption r (NoReading set n ⊎ IsSettled set.zone.now first reading) (IsNextCandidate set n)
+or-settled set n first reading None h = inl h
+or-settled set n first reading (Some y) h = h
+
+pub stops : (set : ZonedSet) (last x : ℤ) (r : Option LocalAndOffset) → IsNextAfter (Covered set last) x r → IsSettled set.zone.now r last → IsNextAfter (Means set) x r
+stops set last x None h settled = absurd settled
+stops set last x (Some m) h settled = record {
   place = h.place;
   is = h.is.0;
   later = h.later;
-  first = λ z k g late. elim (compared z n) as (λ _. (instant m ≤ℤ instant k) × (instant k ≡ instant m → h.place ≤ℤ z)) [
-    | inl less ↦ h.first z k (g, less) late
-    | inr most ↦
-        let far = (near set.zone.now z k g.meant).1 in
-        (omega (arith, ints, past, most, far), λ e. absurd (omega (arith, ints, past, most, far, e)))
+  first = λ z k g late. elim (compared last z) as (λ _. (instant m ≤ℤ instant k) × (instant k ≡ instant m → h.place ≤ℤ z)) [
+    | inl after ↦ (settled z k g.meant (omega (arith, ints, after)), λ e. omega (arith, ints, after, h.is.1))
+    | inr most ↦ h.first z k (g, most) late
   ];
 }
 

@@ -25,6 +25,7 @@ pub mod SetWritten
 pub mod SetMeaning
 pub mod Cursors
 pub mod ZonedSet
+pub mod OffsetRange
 pub mod ZonedSetLaws
 pub mod CountedSet
 pub mod Occurrences

@@ -1,12 +1,12 @@
 //! Recurrence sets in a time zone whose `COUNT` is counted only as far as a search needs.
-ghost use Rattle.std.specs.Prelude.{◌≡◌, ◌↔◌, ◌+ℤ◌, ◌-ℤ◌, ◌≤ℤ◌, ◌<ℤ◌, ℤ, [], pos, IsTrue};
-ghost use Rattle.cal_datetime.specs.DateTime.{IsDateTime};
+ghost use Rattle.std.specs.Prelude.{◌≡◌, ◌↔◌, ◌+ℤ◌, ◌-ℤ◌, ℤ, [], pos, IsTrue};
 ghost use Rattle.cal_datetime.specs.OffsetDateTime.{instant, unix_epoch};
 ghost use Rattle.cal_recurrence.specs.CountedSet.{unread, whole_rule};
 ghost use Rattle.cal_recurrence.specs.Cursors.{resumed_zone_rule};
 ghost use Rattle.cal_recurrence.specs.SetMeaning.{last_instant, zone_rule};
 ghost use Rattle.cal_recurrence.specs.Occurrences.{before_all};
-ghost use Rattle.cal_recurrence.specs.ZonedSet.{reach, HasInstant, IsNextAfter, Occurs};
+ghost use Rattle.cal_recurrence.specs.OffsetRange.{IsStart};
+ghost use Rattle.cal_recurrence.specs.ZonedSet.{HasInstant, IsNextAfter, Occurs};
 ghost use Rattle.cal_recurrence.specs.declared.reading_cursor.ReadingCursor.{ReadingCursor};
 ghost use Rattle.cal_recurrence.specs.declared.recurrence.Recurrence.{Recurrence};
 
@@ -15,7 +15,8 @@ use crate::date_or_time::DateOrTime;
 use crate::date_time_rule::DateTimeRule;
 use crate::date_time_set::DateTimeSet;
 use crate::occurrences::Occurrences;
-use crate::reach::{earliest_reading, first_moment, is_past};
+use crate::offset_range::earliest_in;
+use crate::reach::{first_moment, is_past};
 use crate::reading_cursor::ReadingCursor;
 use crate::recurrence::{Recurrence, RuleEnd};
 use crate::zoned_set::{ZonedSet, is_at, nanoseconds};
@@ -196,7 +197,7 @@ impl<'a> CountedZonedSet<'a> {
     /// Returns the first occurrence that is later than some nanoseconds after 1970-01-01 0:00 UTC.
     /// The readings before `start` can't mean such an instant.
     fn search(&mut self, start: PlainDateTime, after: i128) -> Option<OffsetDateTime>
-        requires { (z : ℤ) → IsDateTime z → (unix_epoch +ℤ after) <ℤ (z +ℤ reach) → start ≤ℤ z }
+        requires { IsStart self.old.zone.now (unix_epoch +ℤ after) start }
         ensures value { IsNextAfter (Occurs self.old) (unix_epoch +ℤ after) result }
         ensures same { self.new ≡ self.old }
     {
@@ -220,7 +221,8 @@ impl<'a> CountedZonedSet<'a> {
         ensures value { IsNextAfter (Occurs self.old) (instant moment) result }
         ensures same { self.new ≡ self.old }
     {
-        self.search(earliest_reading(moment), nanoseconds(moment))
+        let zone = self.set.zone;
+        self.search(earliest_in(zone, moment), nanoseconds(moment))
     }
 
     /// Returns the first occurrence that isn't before an instant, or `None` if the set has no such
@@ -230,7 +232,8 @@ impl<'a> CountedZonedSet<'a> {
         ensures value { IsNextAfter (Occurs self.old) (instant moment -ℤ pos 1) result }
         ensures same { self.new ≡ self.old }
     {
-        self.search(earliest_reading(moment), nanoseconds(moment) - 1)
+        let zone = self.set.zone;
+        self.search(earliest_in(zone, moment), nanoseconds(moment) - 1)
     }
 
     /// Returns `true` if an instant is an occurrence. For 2:30 on two days from 2024-03-30 on in

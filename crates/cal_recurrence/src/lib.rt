@@ -23,6 +23,7 @@ mod folding;
 mod lists;
 mod nearest;
 mod occurrences;
+mod offset_range;
 mod parsing;
 mod positions;
 mod reach;
@@ -71,6 +72,8 @@ pub use set_parsing::{parse_set, without_return};
 pub use set_parts::SetParts;
 pub use text::RecurrenceText;
 pub use times_of_day::TimesOfDay;
-pub use words::{cut, cut_outside, is_alike};
+pub use words::{
+    count_of, cut, cut_outside, is_alike, month_of, short_count_of, split, weekday_of,
+};
 pub use zone_name::ZoneName;
 pub use zoned_set::ZonedSet;

@@ -11,10 +11,10 @@ use cal_datetime::{OffsetDateTime, PlainDateTime, midnight};
 use cal_time::UtcOffset;
 
 /// The maximum magnitude of an offset, in seconds.
-const MAX_OFFSET: i32 = 93_599;
+pub(crate) const MAX_OFFSET: i32 = 93_599;
 
 /// Returns the offset of some seconds.
-fn utc_offset(seconds: i32) -> UtcOffset
+pub(crate) fn utc_offset(seconds: i32) -> UtcOffset
     requires { unsigned_abs seconds ≤ 93_599 }
     ensures { result ≡ seconds }
 {

@@ -238,7 +238,7 @@ pub fn count_of(word: &[u8], most: u32) -> Option<u32>
 }
 
 /// Parses a number from 1 to `most` of at most `digits` digits.
-fn short_count_of(word: &[u8], digits: usize, most: u16) -> Option<u16>
+pub fn short_count_of(word: &[u8], digits: usize, most: u16) -> Option<u16>
     ensures value { result ≡ short_count_of digits most word.now }
     ensures least { IfSome result (λ n. 1 ≤ n) }
     ensures most { IfSome result (λ n. n ≤ most) }

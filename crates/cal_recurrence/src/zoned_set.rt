@@ -1,15 +1,16 @@
 //! Recurrence sets in a time zone.
-ghost use Rattle.std.specs.Prelude.{◌≡◌, ◌↔◌, ◌+◌, ℤ, true, pos, ◌+ℤ◌, ◌-ℤ◌, ◌≤ℤ◌, ◌<ℤ◌, ◌⊎◌, unsigned_abs, None, IsTrue, MatchOption, SomeIff, option_map};
+ghost use Rattle.std.specs.Prelude.{◌≡◌, ◌↔◌, ◌+◌, ℤ, true, pos, ◌+ℤ◌, ◌-ℤ◌, ◌<ℤ◌, ◌⊎◌, unsigned_abs, None, IsTrue, MatchOption, SomeIff, option_map};
 ghost use Rattle.cal_time.specs.UtcOffset.{IsOffset};
-ghost use Rattle.cal_datetime.specs.DateTime.{IsDateTime};
 ghost use Rattle.cal_datetime.specs.OffsetDateTime.{instant, unix_epoch, unix_nanoseconds, IsInstant};
 ghost use Rattle.cal_recurrence.specs.DateTimeRule.{is_not_after};
 ghost use Rattle.cal_recurrence.specs.DateTimeSet.{candidates};
-ghost use Rattle.cal_recurrence.specs.ZonedSet.{is_kept, is_selected, reach, HasInstant, IsListed, IsNextAfter, IsNextCandidate, IsPast, Means, MeansAt, NoReading, Occurs};
+ghost use Rattle.cal_recurrence.specs.OffsetRange.{IsSettled, IsStart};
+ghost use Rattle.cal_recurrence.specs.ZonedSet.{is_kept, is_selected, HasInstant, IsListed, IsNextAfter, IsNextCandidate, IsPast, Means, MeansAt, NoReading, Occurs};
 ghost use Rattle.cal_recurrence.specs.declared.zoned_set.ZonedSet.{ZonedSet};
 
 use crate::date_time_set::DateTimeSet;
 use crate::nearest::nearest;
+use crate::offset_range::is_settled;
 use crate::reach::{earlier, is_past};
 use cal_datetime::{OffsetDateTime, PlainDateTime};
 use cal_zone::Zone;
@@ -115,6 +116,24 @@ impl<'a> ZonedSet<'a> {
         Some(next)
     }
 
+    /// Returns the first candidate after a reading, or `None` if the later ones mean no instants
+    /// before a moment.
+    fn next_unsettled(
+        &self,
+        first: &Option<OffsetDateTime>,
+        reading: PlainDateTime,
+    ) -> Option<PlainDateTime>
+        ensures { MatchOption result
+            (NoReading self.now (unsigned_abs reading + 1) ⊎ IsSettled self.now.zone.now first.now reading)
+            (IsNextCandidate self.now (unsigned_abs reading + 1)) }
+    {
+        if is_settled(self.zone, first, reading) {
+            None
+        } else {
+            self.next_reading(reading)
+        }
+    }
+
     /// Returns the moment that a candidate means, if it is an occurrence and is later than some
     /// nanoseconds after 1970-01-01 0:00 UTC.
     fn moment_after(&self, reading: PlainDateTime, after: i128) -> Option<OffsetDateTime>
@@ -136,7 +155,7 @@ impl<'a> ZonedSet<'a> {
     /// Returns the first moment that a reading means, if it is later than some nanoseconds after
     /// 1970-01-01 0:00 UTC. The readings before `start` can't mean such an instant.
     fn first_meant(&self, start: PlainDateTime, after: i128) -> Option<OffsetDateTime>
-        requires { (z : ℤ) → IsDateTime z → (unix_epoch +ℤ after) <ℤ (z +ℤ reach) → start ≤ℤ z }
+        requires { IsStart self.now.zone.now (unix_epoch +ℤ after) start }
         ensures { IsNextAfter (Means self.now) (unix_epoch +ℤ after) result }
     {
         let _ = start.date();
@@ -145,10 +164,7 @@ impl<'a> ZonedSet<'a> {
         };
         let mut last = reading;
         let mut first = self.moment_after(last, after);
-        while let Some(next) = self.next_reading(last) {
-            if is_past(&first, next) {
-                break;
-            }
+        while let Some(next) = self.next_unsettled(&first, last) {
             let moment = self.moment_after(next, after);
             first = earlier(&first, &moment);
             last = next;
@@ -185,7 +201,7 @@ impl<'a> ZonedSet<'a> {
     /// Returns the first occurrence that is later than some nanoseconds after 1970-01-01 0:00 UTC.
     /// The readings before `start` can't mean such an instant.
     pub(crate) fn first_after(&self, start: PlainDateTime, after: i128) -> Option<OffsetDateTime>
-        requires { (z : ℤ) → IsDateTime z → (unix_epoch +ℤ after) <ℤ (z +ℤ reach) → start ≤ℤ z }
+        requires { IsStart self.now.zone.now (unix_epoch +ℤ after) start }
         ensures { IsNextAfter (Occurs self.now) (unix_epoch +ℤ after) result }
     {
         earlier(&self.first_meant(start, after), &self.first_listed(after))

@@ -1,9 +1,13 @@
 use Rattle.std.proofs.Common.{◌+ℤ◌, subst, sym}
 use Rattle.std.proofs.lemmas.Int.{to_z-of_z}
 use Rattle.cal_datetime.specs.OffsetDateTime.{unix_epoch}
+use Rattle.cal_recurrence.specs.OffsetRange.{IsStart}
 use Rattle.cal_recurrence.specs.ZonedSet.{IsNextAfter, Occurs}
 use Rattle.cal_recurrence.proofs.ZonedSearch.{first-of-both}
 use Rattle.cal_recurrence.proofs.zoned_set.ZonedSet.first_after.Goals as goal
+
+pub first_meant-requires : goal.first_meant-requires
+first_meant-requires c = subst (λ a. IsStart c.args.self.now.zone.now (unix_epoch +ℤ a) c.args.start) (sym (to_z-of_z _ c.args.after c.ranges.after)) c.requires
 
 pub returns : goal.returns
 returns c =

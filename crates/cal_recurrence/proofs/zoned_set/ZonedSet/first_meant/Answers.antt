@@ -1,9 +1,9 @@
-use Rattle.std.proofs.Common.{◌+◌, ◌+ℤ◌, sym, subst}
+use Rattle.std.proofs.Common.{◌+◌, ◌+ℤ◌, inl, inr, sym, subst}
 use Rattle.std.specs.Prelude.{unsigned_abs}
 use Rattle.std.proofs.lemmas.Int.{to_z-of_z}
 use Rattle.cal_datetime.specs.OffsetDateTime.{unix_epoch}
-use Rattle.cal_recurrence.specs.ZonedSet.{IsNextAfter, IsNextCandidate, MeansAt}
-use Rattle.cal_recurrence.proofs.ZonedSearch.{begins, empty, ends, is-at, none-left, step, stops, up-to_next, Covered}
+use Rattle.cal_recurrence.specs.ZonedSet.{IsNextAfter, IsNextCandidate, Means, MeansAt}
+use Rattle.cal_recurrence.proofs.ZonedSearch.{begins, empty, ends, is-at, none-left, step, stops, Covered}
 use Rattle.cal_recurrence.proofs.zoned_set.ZonedSet.first_meant.Goals as goal
 
 pub returns-in_default : goal.returns-in_default
@@ -32,29 +32,22 @@ pub loop-next-preserved : goal.loop-next-preserved
 loop-next-preserved c =
     let set = c.args.self.now in
     let last = c.loop-next.last in
-    let n = c.in-Some-next_reading.next in
-    let at : IsNextCandidate set (unsigned_abs last + 1) n = c.in-Some-next_reading.ensures in
+    let n = c.in-Some-next_unsettled.next in
+    let at : IsNextCandidate set (unsigned_abs last + 1) n = c.in-Some-next_unsettled.ensures in
     record {
       covered = subst (IsNextAfter (Covered set n) _) (sym c.earlier-first.ensures)
           (step set last n _ c.loop-next.first c.moment_after-moment.result c.loop-next.invariant.range at c.loop-next.invariant.covered c.moment_after-moment.ensures);
       range = at.range;
     }
 
-pub returns-then-is_past : goal.returns-then-is_past
-returns-then-is_past c =
+pub returns : goal.returns
+returns c =
     let set = c.args.self.now in
     let last = c.loop-next.last in
     let first = c.loop-next.first in
-    let n = c.in-Some-next_reading.next in
     let x = unix_epoch +ℤ c.args.after in
-    stops set n x first (up-to_next set last n x first c.loop-next.invariant.range c.in-Some-next_reading.ensures
-    (subst (λ a. IsNextAfter (Covered set last) (unix_epoch +ℤ a) first) (to_z-of_z _ c.args.after c.ranges.after) c.loop-next.invariant.covered))
-    (c.is_past.ensures c.if-is_past.true)
-
-pub returns-in_default-next_reading : goal.returns-in_default-next_reading
-returns-in_default-next_reading c =
-    let set = c.args.self.now in
-    let last = c.loop-next.last in
-    let first = c.loop-next.first in
-    ends set last (unix_epoch +ℤ c.args.after) first c.loop-next.invariant.range c.in_default-next_reading.ensures
-    (subst (λ a. IsNextAfter (Covered set last) (unix_epoch +ℤ a) first) (to_z-of_z _ c.args.after c.ranges.after) c.loop-next.invariant.covered)
+    let covered = subst (λ a. IsNextAfter (Covered set last) (unix_epoch +ℤ a) first) (to_z-of_z _ c.args.after c.ranges.after) c.loop-next.invariant.covered in
+    elim c.in_default-next_unsettled.ensures as (λ _. IsNextAfter (Means set) x first) [
+      | inl none ↦ ends set last x first c.loop-next.invariant.range none covered
+      | inr settled ↦ stops set last x first covered settled
+    ]
