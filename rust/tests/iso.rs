@@ -48,11 +48,14 @@ fn times_and_date_times() {
         ("2320", "23:20"),
         ("23", "23:00"),
         ("23:20:50.123456789000", "23:20:50.123456789"),
+        ("23:20:50.1234567890000000000000000000000000000000", "23:20:50.123456789"),
+        ("232050,1000000000000000000", "23:20:50.1"),
     ];
     for (text, time) in rows {
         assert_eq!(Time::parse_iso(text), Ok(time.parse().unwrap()), "{text}");
     }
     assert_eq!(Time::parse_iso("23:20:50.1234567890001").unwrap_err().to_string(), "unexpected byte at 21");
+    assert_eq!(Time::parse_iso("23:20:50.12345678900000000000000000001").unwrap_err().to_string(), "unexpected byte at 37");
     assert_eq!(Time::parse_iso("23:20,5").unwrap_err().to_string(), "unexpected byte at 5");
     assert_eq!(Time::parse_iso("24:00").unwrap_err().to_string(), "hour was not in range");
     let rows = [
@@ -102,7 +105,7 @@ fn date_grammar() -> Grammar {
 }
 
 fn clock_grammar(has_fraction: bool) -> Grammar {
-    let decimals = Any(vec![Times(1, Some(9), Box::new(DIGIT)), All(vec![digits(9), Times(1, Some(9), Box::new(Byte(b"0")))])]);
+    let decimals = Any(vec![Times(1, Some(9), Box::new(DIGIT)), All(vec![digits(9), Times(1, None, Box::new(Byte(b"0")))])]);
     let fraction = All(vec![Byte(b".,"), decimals]);
     let seconds = || if has_fraction { All(vec![digits(2), maybe(fraction.clone())]) } else { digits(2) };
     let extended = All(vec![Byte(b":"), digits(2), maybe(All(vec![Byte(b":"), seconds()]))]);
@@ -243,7 +246,7 @@ impl Draw {
             text += &format!("{mark}{}", self.number(2, 62));
         }
         if parts > 2 && has_fraction {
-            let width = 1 + self.below(18) as usize;
+            let width = 1 + self.below(40) as usize;
             let decimals = self.number(width.min(9), 10u64.pow(width.min(9) as u32));
             text += &format!("{}{decimals:0<width$}", self.one(&[".", ","]));
         }
@@ -296,6 +299,14 @@ fn agree<V: PartialEq + std::fmt::Debug>(
         assert_eq!(parse(&text), expected, "{}", String::from_utf8_lossy(&text));
     }
     assert!(accepted > texts / 10, "{accepted} of {texts}");
+}
+
+#[test]
+fn fractions_of_a_million_digits() {
+    let zeros = "0".repeat(1_000_000);
+    assert_eq!(Time::parse_iso(&format!("23:20:50.25{zeros}")), Ok(Time::from_hms_milli(23, 20, 50, 250).unwrap()));
+    assert_eq!(iso::time::parse(format!("232050,25{zeros}1").as_bytes()), Err(UnexpectedByte(1_000_009)));
+    assert_eq!(iso::offset_date_time::parse(format!("20240229T232050,25{zeros}").as_bytes()), Err(UnexpectedEnd(1_000_018)));
 }
 
 #[test]

@@ -1,5 +1,5 @@
 -- What the scanners of times of day, offsets and date-times went past.
-use Rattle.std.proofs.Common.{◌≡◌, ℕ, ◌<◌, ◌⊎◌, inl, inr, Bool, true, false, List, [], ◌∷◌, ◌++◌, Option, Some, None, refl, sym, ap, subst, ◌∙◌, arith}
+use Rattle.std.proofs.Common.{◌≡◌, ℕ, ◌+◌, ◌<◌, ◌⊎◌, inl, inr, Bool, false, List, [], ◌∷◌, ◌++◌, Option, Some, None, refl, sym, ap, subst, ◌∙◌, arith}
 use Rattle.std.specs.Prelude.{IfSome}
 use Rattle.std.proofs.lemmas.List.{append_assoc}
 use Rattle.cal_text.specs.declared.date_numbers.DateNumbers.{DateNumbers}
@@ -7,11 +7,12 @@ use Rattle.cal_text.specs.declared.plain.numbers.PlainNumbers.{PlainNumbers}
 use Rattle.cal_text.specs.declared.time.numbers.TimeNumbers.{TimeNumbers}
 use Rattle.cal_text.specs.DateForms.{DigitsFit}
 use Rattle.cal_text.specs.Rfc3339Form.{IsSeparator, sign_byte}
-use Rattle.cal_text.specs.Shape.{GoesPast, ParsesDigits, ScansWhole, Shape, unmatched_bytes}
+use Rattle.cal_text.specs.Shape.{End, GoesPast, ParsesDigits, Shape, unmatched_bytes}
 use Rattle.cal_text.proofs.Decimals.{fraction-below}
 use Rattle.cal_text.proofs.Parts.{at_end}
-use Rattle.cal_iso.specs.ClockForm.{IsAfterHour, IsSecondsOrNone}
+use Rattle.cal_iso.specs.ClockForm.{HasTail, IsAfterHour, IsIsoFraction, IsSecondsOrNone}
 use Rattle.cal_iso.specs.DateForm.{HasIsoDate}
+use Rattle.cal_iso.specs.IsoShape.{ScansWholeLong, any_length}
 use Rattle.cal_iso.specs.MomentForm.{HasIsoDateTime, HasIsoPlain, IsTimeOrMidnight}
 use Rattle.cal_iso.specs.OffsetForm.{IsShift}
 use Rattle.cal_iso.specs.TimeForm.{HasIsoClock, HasIsoTime}
@@ -19,12 +20,13 @@ use Rattle.cal_iso.proofs.ClockShapes.{no_tail}
 use Rattle.cal_iso.proofs.DateReads.{fits, number}
 
 -- ---- to the end of a text
-pub to_end : {V : Type 0} (f g : Shape) (r : Option V) (old mid new : List ℕ) → unmatched_bytes f old ≡ unmatched_bytes g mid → ScansWhole g mid new r → ScansWhole f old new r
-to_end f g (Some v) old mid new e h = e ∙ h
-to_end f g None old mid new e h = e ∙ h
+pub to_end : {V : Type 0} (part part' : ℕ → Shape → Shape) (r : Option V) (old mid new : List ℕ)
+    → ((k : ℕ) → unmatched_bytes (part (k + any_length) End) old ≡ unmatched_bytes (part' (k + any_length) End) mid) → ScansWholeLong part' mid new r → ScansWholeLong part old new r
+to_end part part' (Some v) old mid new e h = λ k. e k ∙ h k
+to_end part part' None old mid new e h = λ k. e k ∙ h k
 
 -- ---- times of day
-pub put_clock : (h m s n : ℕ) (old mid new : List ℕ) → ParsesDigits old mid 2 h → GoesPast (λ bytes. IsAfterHour true bytes m s n) mid new
+pub put_clock : (h m s n : ℕ) (old mid new : List ℕ) → ParsesDigits old mid 2 h → GoesPast (λ bytes. IsAfterHour IsIsoFraction bytes m s n) mid new
     → GoesPast (λ bytes. HasIsoClock bytes (record { hour = h; minute = m; second = s; nanosecond = n })) old new
 put_clock h m s n old mid new hour rest = record {
   front = hour.digits ++ rest.front;
@@ -44,9 +46,9 @@ pub without_letter : (r : Option TimeNumbers) (old mid : List ℕ) → mid ≡ o
 without_letter None old mid kept h = tt
 without_letter (Some t) old mid kept h = inl (subst (λ all. HasIsoClock all t) kept h)
 
-seconds_below : (mark bytes : List ℕ) (s n : ℕ) → IsSecondsOrNone true mark bytes s n → n < 1000000000
+seconds_below : (mark bytes : List ℕ) (s n : ℕ) → IsSecondsOrNone IsIsoFraction mark bytes s n → n < 1000000000
 seconds_below mark bytes s n (inl none) = omega (arith, none.2)
-seconds_below mark bytes s n (inr h) = elim h.has_tail as (λ _. n < 1000000000) [
+seconds_below mark bytes s n (inr h) = elim h.is_tail as (λ _. n < 1000000000) [
   | inl none ↦ omega (arith, none.1)
   | inr is ↦ fraction-below (46 ∷ is.0) n (inr (is.0, record { some = is.1.some; all = is.1.all; bytes_are = refl; value = is.1.value }))
 ]
@@ -63,13 +65,13 @@ time_below bytes t (inl h) = clock_below bytes t h
 time_below bytes t (inr h) = clock_below h.0 t h.1
 
 -- ---- offsets
-pub put_shift : (b : Bool) (h m s n : ℕ) (old hours mid new : List ℕ) → old ≡ sign_byte b ∷ hours → ParsesDigits hours mid 2 h → GoesPast (λ bytes. IsAfterHour false bytes m s n) mid new → new ≡ []
+pub put_shift : (b : Bool) (h m s n : ℕ) (old hours mid new : List ℕ) → old ≡ sign_byte b ∷ hours → ParsesDigits hours mid 2 h → GoesPast (λ bytes. IsAfterHour (HasTail false) bytes m s n) mid new → new ≡ []
     → IsShift old (record { is_negative = b; hours = h; minutes = m; seconds = s })
 put_shift b h m s n old hours mid new sign digits rest end = record {
   hours = digits.digits;
   rest = rest.front;
   is_hours = number 2 h hours mid digits;
-  is_rest = subst (λ k. IsAfterHour false rest.front m s k) (no_tail rest.front m s n rest.is) rest.is;
+  is_rest = subst (λ k. IsAfterHour (HasTail false) rest.front m s k) (no_tail rest.front m s n rest.is) rest.is;
   bytes_are = sign ∙ ap (λ r. sign_byte b ∷ r) (digits.bytes_are ∙ ap (λ r. digits.digits ++ r) (at_end mid rest.front new rest.bytes_are end));
 }
 

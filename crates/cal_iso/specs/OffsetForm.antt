@@ -4,7 +4,7 @@ use Rattle.std.specs.Prelude.{◌≡◌, ◌⊎◌, ℕ, false, List, ◌∷◌,
 use Rattle.cal_text.specs.declared.offset.numbers.OffsetNumbers.{OffsetNumbers}
 use Rattle.cal_text.specs.OffsetForm.{utc}
 use Rattle.cal_text.specs.Rfc3339Form.{sign_byte}
-use Rattle.cal_iso.specs.ClockForm.{IsAfterHour}
+use Rattle.cal_iso.specs.ClockForm.{HasTail, IsAfterHour}
 use Rattle.cal_iso.specs.DateForm.{IsNumber}
 
 -- A sign, two digits of the hours, and perhaps minutes and seconds.
@@ -12,7 +12,7 @@ pub record IsShift (bytes : List ℕ) (o : OffsetNumbers) : Type 0 where
   pub hours : List ℕ
   pub rest : List ℕ
   pub is_hours : IsNumber 2 hours o.hours
-  pub is_rest : IsAfterHour false rest o.minutes o.seconds 0
+  pub is_rest : IsAfterHour (HasTail false) rest o.minutes o.seconds 0
   pub bytes_are : bytes ≡ sign_byte o.is_negative ∷ (hours ++ rest)
 
 -- The bytes have the form of an offset with the numbers o: Z or z for UTC, or a shift.

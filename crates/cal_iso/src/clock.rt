@@ -1,8 +1,8 @@
 //! Parsing minutes and seconds after an hour, in a time of day or in an offset.
 ghost use Rattle.std.specs.Prelude.{◌≡◌, ◌<◌, ◌∷◌, [], IfSome};
-ghost use Rattle.cal_text.specs.Shape.{GoesPast, Scans};
+ghost use Rattle.cal_text.specs.Shape.{GoesPast};
 ghost use Rattle.cal_iso.specs.ClockForm.{HasTail, IsAfterHour, IsSecondsOrNone};
-ghost use Rattle.cal_iso.specs.IsoShape.{AfterHour, BasicSeconds, ColonAndSeconds, Tail};
+ghost use Rattle.cal_iso.specs.IsoShape.{AfterHour, BasicSeconds, ColonAndSeconds, ScansLong, Tail};
 
 use crate::fraction::scan_fraction;
 use cal_text::Scanner;
@@ -18,9 +18,10 @@ pub(crate) struct AfterHourNumbers {
 /// Parses minutes and seconds in the extended or in the basic format, or nothing. Only a time of day
 /// has a fraction.
 pub(crate) fn scan_after_hour(scanner: &mut Scanner, has_fraction: bool) -> Option<AfterHourNumbers>
-    ensures scans { Scans (AfterHour has_fraction) scanner.old.rest.now scanner.new.rest.now result }
+    ensures scans { ScansLong (λ k. AfterHour (Tail k has_fraction))
+        scanner.old.rest.now scanner.new.rest.now result }
     ensures value { IfSome result (λ t. GoesPast
-        (λ bytes. IsAfterHour has_fraction bytes t.minute t.second t.nanosecond)
+        (λ bytes. IsAfterHour (HasTail has_fraction) bytes t.minute t.second t.nanosecond)
         scanner.old.rest.now scanner.new.rest.now) }
 {
     if let Some(()) = scanner.byte(b':') {
@@ -52,10 +53,10 @@ pub(crate) fn scan_after_hour(scanner: &mut Scanner, has_fraction: bool) -> Opti
 
 /// Parses a colon, seconds and perhaps a fraction, or nothing.
 fn scan_colon_and_seconds(scanner: &mut Scanner, has_fraction: bool) -> Option<(u32, u32)>
-    ensures scans { Scans (ColonAndSeconds has_fraction)
+    ensures scans { ScansLong (λ k. ColonAndSeconds (Tail k has_fraction))
         scanner.old.rest.now scanner.new.rest.now result }
     ensures value { IfSome result (λ t. GoesPast
-        (λ bytes. IsSecondsOrNone has_fraction (58 ∷ []) bytes t.0 t.1)
+        (λ bytes. IsSecondsOrNone (HasTail has_fraction) (58 ∷ []) bytes t.0 t.1)
         scanner.old.rest.now scanner.new.rest.now) }
     ensures range { IfSome result (λ t. t.0 < 100) }
 {
@@ -71,10 +72,10 @@ fn scan_colon_and_seconds(scanner: &mut Scanner, has_fraction: bool) -> Option<(
 
 /// Parses seconds and perhaps a fraction in the basic format, or nothing.
 fn scan_basic_seconds(scanner: &mut Scanner, has_fraction: bool) -> Option<(u32, u32)>
-    ensures scans { Scans (BasicSeconds has_fraction)
+    ensures scans { ScansLong (λ k. BasicSeconds (Tail k has_fraction))
         scanner.old.rest.now scanner.new.rest.now result }
     ensures value { IfSome result (λ t. GoesPast
-        (λ bytes. IsSecondsOrNone has_fraction [] bytes t.0 t.1)
+        (λ bytes. IsSecondsOrNone (HasTail has_fraction) [] bytes t.0 t.1)
         scanner.old.rest.now scanner.new.rest.now) }
     ensures range { IfSome result (λ t. t.0 < 100) }
 {
@@ -90,7 +91,8 @@ fn scan_basic_seconds(scanner: &mut Scanner, has_fraction: bool) -> Option<(u32,
 
 /// Parses a fraction if the seconds can have one. Returns its nanoseconds.
 fn scan_tail(scanner: &mut Scanner, has_fraction: bool) -> Option<u32>
-    ensures scans { Scans (Tail has_fraction) scanner.old.rest.now scanner.new.rest.now result }
+    ensures scans { ScansLong (λ k. Tail k has_fraction)
+        scanner.old.rest.now scanner.new.rest.now result }
     ensures value { IfSome result (λ n.
         GoesPast (λ bytes. HasTail has_fraction bytes n) scanner.old.rest.now scanner.new.rest.now) }
 {

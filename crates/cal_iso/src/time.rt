@@ -17,7 +17,7 @@ pub(crate) mod form;
 /// `225959,25`, `22:59`, `2259` or `22`. The letter T may be before it.
 ///
 /// Minutes and seconds may be left out, and are 0 then. After the seconds can follow a point or a
-/// comma and one to 18 digits, of which those after the ninth are zeros.
+/// comma and one digit or more, of which those after the ninth are zeros.
 ///
 /// Returns `UnexpectedByte` or `UnexpectedEnd` for any other form. Otherwise returns `OutOfRange`
 /// with the first component out of range: `hour`, `minute` or `second`.

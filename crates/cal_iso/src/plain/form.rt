@@ -1,7 +1,7 @@
 //! Parsing the numbers of a local date-time.
 ghost use Rattle.std.specs.Prelude.{IfSome};
-ghost use Rattle.cal_text.specs.Shape.{End, GoesPast, Scans, ScansWhole};
-ghost use Rattle.cal_iso.specs.IsoShape.{DateTime, OrMidnight, Plain};
+ghost use Rattle.cal_text.specs.Shape.{GoesPast};
+ghost use Rattle.cal_iso.specs.IsoShape.{DateTime, OrMidnight, Plain, ScansLong, ScansWholeLong};
 ghost use Rattle.cal_iso.specs.MomentForm.{HasIsoDateTime, HasIsoPlain, IsTimeOrMidnight};
 
 use crate::date::form::scan_date;
@@ -10,7 +10,7 @@ use cal_text::{PlainNumbers, Scanner, TimeNumbers, scan_separator};
 
 /// Parses the numbers of a date and perhaps of a time of day, up to the end of the string.
 pub(super) fn scan_whole_plain(scanner: &mut Scanner) -> Option<PlainNumbers>
-    ensures scans { ScansWhole (Plain End) scanner.old.rest.now scanner.new.rest.now result }
+    ensures scans { ScansWholeLong Plain scanner.old.rest.now scanner.new.rest.now result }
     ensures value { IfSome result (HasIsoPlain scanner.old.rest.now) }
 {
     let date = scan_date(scanner)?;
@@ -20,7 +20,7 @@ pub(super) fn scan_whole_plain(scanner: &mut Scanner) -> Option<PlainNumbers>
 
 /// Parses a separator and a time of day up to the end of the string, or the end.
 fn scan_or_midnight(scanner: &mut Scanner) -> Option<TimeNumbers>
-    ensures scans { ScansWhole (OrMidnight End) scanner.old.rest.now scanner.new.rest.now result }
+    ensures scans { ScansWholeLong OrMidnight scanner.old.rest.now scanner.new.rest.now result }
     ensures value { IfSome result (IsTimeOrMidnight scanner.old.rest.now) }
 {
     match scanner.byte(b'T') {
@@ -45,7 +45,7 @@ fn scan_or_midnight(scanner: &mut Scanner) -> Option<TimeNumbers>
 
 /// Parses the numbers of a date, a separator and a time of day.
 pub(crate) fn scan_date_time(scanner: &mut Scanner) -> Option<PlainNumbers>
-    ensures scans { Scans DateTime scanner.old.rest.now scanner.new.rest.now result }
+    ensures scans { ScansLong DateTime scanner.old.rest.now scanner.new.rest.now result }
     ensures value { IfSome result (λ p.
         GoesPast (λ bytes. HasIsoDateTime bytes p) scanner.old.rest.now scanner.new.rest.now) }
 {
