@@ -269,7 +269,8 @@ enum fots_status {
     FOTS_UNCLOSED_EVENT = 86, /* no line END ends an event of a calendar file */
     FOTS_OTHER_END = 87, /* a line END that isn't END:VEVENT ends an event */
     FOTS_OTHER_ZONE = 88, /* a line names another zone than a line before it, or two (TZID) */
-    FOTS_WRONG_KIND = 89 /* a line of an event has a value of another kind, such as a time with Z */
+    FOTS_WRONG_KIND = 89, /* a line of an event has a value of another kind, such as a time with Z */
+    FOTS_INVALID_HOLIDAY_RULE = 90 /* a word of a rule of a holiday isn't a day, years or a move */
 };
 
 /* Returns the name of a status: the component, such as "day", or words such as "result out of
@@ -367,6 +368,7 @@ static inline const char *fots_status_name(int32_t status)
     case FOTS_OTHER_END: return "other end of an event";
     case FOTS_OTHER_ZONE: return "other zone";
     case FOTS_WRONG_KIND: return "wrong kind of value";
+    case FOTS_INVALID_HOLIDAY_RULE: return "invalid rule of a holiday";
     default: return "unknown";
     }
 }
@@ -377,6 +379,33 @@ static inline int fots_status_is_conditional(int32_t status)
 {
     return status >= FOTS_DAY_OUT_OF_RANGE && status <= FOTS_WEEKDAY_OUT_OF_RANGE;
 }
+
+/* A sentence in ASCII, which ends with a zero byte. */
+typedef struct fots_sentence {
+    uint32_t length; /* without the zero byte */
+    char bytes[220];
+} fots_sentence;
+
+/* The components of a value: set those that you passed. */
+typedef struct fots_components {
+    int64_t year;
+    int64_t month;
+    int64_t day;
+    int64_t ordinal;
+    int64_t week;
+    int64_t julian_day;
+    int64_t hour;
+    int64_t minute;
+    int64_t second;
+    int64_t millisecond;
+    int64_t microsecond;
+    int64_t nanosecond;
+    int64_t offset_hour;
+    int64_t offset_minute;
+    int64_t offset_second;
+    int64_t seconds; /* of a whole offset */
+    int64_t timestamp;
+} fots_components;
 
 /* ---- results, each with the value after an error */
 
@@ -620,6 +649,12 @@ typedef struct fots_workdays_result {
     fots_workdays workdays; /* or one that every call rejects as FOTS_INVALID_WEEKMASK */
 } fots_workdays_result;
 
+typedef struct fots_holidays_result {
+    int32_t status;
+    int32_t number; /* of holidays */
+    size_t position; /* of the wrong word, or SIZE_MAX */
+} fots_holidays_result;
+
 typedef struct fots_year_fraction_result {
     int32_t status;
     uint32_t denominator; /* or 0 */
@@ -677,6 +712,35 @@ typedef struct fots_share_result {
 
 /* Returns the version of the library: 1000000 * major + 1000 * minor + patch. 0.2.0 is 2000. */
 uint32_t fots_version(void);
+
+/* ---- errors as sentences
+ *
+ * Each returns a sentence for any arguments. After a call without components, a string or a format,
+ * use fots_error_text. */
+
+/* Returns the sentence of a status. FOTS_INVALID_WEEKDAY is "invalid weekday; expected 1 (Monday) to
+ * 7 (Sunday)", and another number "unknown error". */
+fots_sentence fots_error_text(int32_t status);
+
+/* Returns the sentence of a component that is out of range: its value, its range, and the month or
+ * the year that has it. FOTS_DAY_OUT_OF_RANGE for {.year = 2023, .month = 2, .day = 29} is "day 29 is
+ * out of range 1 to 28 (February 2023)". If the value is in the range, or a day has no month, it is
+ * "day is out of range". */
+fots_sentence fots_component_error_text(int32_t status, const fots_components *components);
+
+/* Returns the sentence of a status and its position after a call that parses a text, a format or a
+ * zone: "unexpected "x" at position 9", or "unexpected byte 0xE2 at position 4" if the byte isn't
+ * printable ASCII, "unexpected end at position 9", "weekday contradicts the other components" or
+ * "unknown item at position 3". */
+fots_sentence fots_parse_error_text(int32_t status, size_t position, const char *text, size_t text_length);
+
+/* Returns the sentence of a status after a call with a format. FOTS_INSUFFICIENT_FORMAT has a remedy
+ * if there is one, such as "\"%y\" has no century: use %Y or a pivot". */
+fots_sentence fots_format_error_text(int32_t status, const fots_format *format);
+
+/* Returns the sentence of an error in the text of a recurrence, such as "invalid value of BYDAY at
+ * position 11". */
+fots_sentence fots_recurrence_error_text(int32_t status, uint32_t part, size_t position);
 
 /* ---- create dates */
 
@@ -941,6 +1005,17 @@ enum fots_calendar {
  * FOTS_TARGET has 6 from 2024-01-01 through 2024-12-31. */
 fots_number_result fots_calendar_holidays(uint32_t calendar, fots_date first, fots_date last, fots_date *holidays,
     size_t holidays_length);
+
+/* Writes the holidays of rules like those of a calendar. A line of the string has a rule: a day, and
+ * after it years in force and moves, with spaces between them. "#" begins a comment. Days: 12-25,
+ * 11-4TH (the fourth Thursday of November), 05-lastMO, 11-WE>=16 (the first Wednesday on or after 16
+ * November), easter-2, julian-easter, and each of these in one year, such as 2024-12-27. Years: 1999..,
+ * ..2009, 1999..2009. Moves: SA-1 SU+1 (from a Saturday to Friday, and from a Sunday to Monday).
+ * Errors: FOTS_INVALID_HOLIDAY_RULE and the position of a word; FOTS_TOO_MANY_HOLIDAYS and the
+ * position of a line, for more than FOTS_MAX_HOLIDAYS rules; then those of a calendar.
+ * "easter-2\n12-25" has 2 holidays from 2024-01-01 through 2024-12-31. */
+fots_holidays_result fots_rules_holidays(const char *text, size_t text_length, fots_date first, fots_date last,
+    fots_date *holidays, size_t holidays_length);
 
 /* Add working days to dates, and count them between dates, like the functions for one date. */
 size_t fots_workdays_add_dates(const fots_workdays *workdays, const int32_t *dates, size_t dates_length, const int32_t *days,
@@ -1617,10 +1692,10 @@ fots_parse_moment_result fots_offset_date_time_parse(const char *text, size_t le
 /* Parse any format of ISO 8601, in the extended or in the basic format: a date such as "20240229",
  * "2024060" or "2024W094"; a time of day such as "225959,25", "T2259" or "22"; both, with T, t or a
  * space between them, where a date alone is its midnight; and both with an offset, such as "Z",
- * "+01", "+0100" or "+01:00:30", with one space before it or none. A fraction has up to 18 digits, of
- * which those after the ninth are zeros. The errors are as for fots_date_parse, fots_time_parse,
- * fots_pair_parse and fots_offset_date_time_parse. "2024-0229" is FOTS_UNEXPECTED_BYTE at 8, and
- * "20240229T10" is FOTS_UNEXPECTED_END for fots_moment_parse_iso. */
+ * "+01", "+0100" or "+01:00:30", with one space before it or none. A fraction has any number of
+ * digits, of which those after the ninth are zeros. The errors are as for fots_date_parse,
+ * fots_time_parse, fots_pair_parse and fots_offset_date_time_parse. "2024-0229" is
+ * FOTS_UNEXPECTED_BYTE at 8, and "20240229T10" is FOTS_UNEXPECTED_END for fots_moment_parse_iso. */
 fots_parse_date_result fots_date_parse_iso(const char *text, size_t length);
 fots_parse_time_result fots_time_parse_iso(const char *text, size_t length);
 fots_parse_moment_result fots_pair_parse_iso(const char *text, size_t length);

@@ -41,10 +41,14 @@ class Zone;
 class error : public std::runtime_error {
 public:
     explicit error(std::int32_t status, std::size_t position = SIZE_MAX)
-        : error(status, position, message(status, position))
+        : error(status, position, fots_parse_error_text(status, position, "", 0))
     {
     }
-    // Takes a message of its own.
+    // Takes a sentence of C, or a message of its own.
+    error(std::int32_t status, std::size_t position, const fots_sentence &sentence)
+        : error(status, position, std::string(sentence.bytes, sentence.length))
+    {
+    }
     error(std::int32_t status, std::size_t position, const std::string &message)
         : std::runtime_error(message), status_(status), position_(position)
     {
@@ -61,36 +65,12 @@ public:
 
     // Returns the position of the first wrong byte for FOTS_UNEXPECTED_BYTE, the length of the text
     // for FOTS_UNEXPECTED_END, the position of the part for a parse_rule_error, of the item for
-    // FOTS_UNKNOWN_ITEM, of the first wrong byte of a zone, and of the first of the holidays that
-    // isn't after the one before. For FOTS_CONTRADICTION it is the status of the component, such as
+    // FOTS_UNKNOWN_ITEM, of the word of a rule of holidays, of the first wrong byte of a zone, and of the
+    // first of the holidays that isn't after the one before. For FOTS_CONTRADICTION it is the status of the component, such as
     // FOTS_WEEKDAY_OUT_OF_RANGE.
     [[nodiscard]] std::size_t position() const noexcept { return position_; }
 
 private:
-    static std::string message(std::int32_t status, std::size_t position)
-    {
-        if (status == FOTS_UNEXPECTED_BYTE) {
-            return "unexpected byte at " + std::to_string(position);
-        }
-        if (status == FOTS_UNEXPECTED_END) {
-            return "unexpected end at " + std::to_string(position);
-        }
-        const bool is_of_event = status == FOTS_UNCLOSED_EVENT || status == FOTS_OTHER_END;
-        if (position != SIZE_MAX && (status == FOTS_UNKNOWN_ITEM || status == FOTS_MISSING_START || is_of_event
-                || (status >= FOTS_NOT_A_ZONE_FILE && status <= FOTS_TRAILING_BYTES))) {
-            return fots_status_name(status) + (" at " + std::to_string(position));
-        }
-        if (status == FOTS_INVALID_HOLIDAYS && position != SIZE_MAX) {
-            return "holidays[" + std::to_string(position) + "] is not after holidays[" + std::to_string(position - 1) + "]";
-        }
-        if (status == FOTS_CONTRADICTION) {
-            return fots_status_name(static_cast<std::int32_t>(position)) + std::string(" contradicts the other components");
-        }
-        const bool is_component = (status >= FOTS_YEAR_OUT_OF_RANGE && status <= FOTS_TIMESTAMP_OUT_OF_RANGE)
-            || (status >= FOTS_YEARS_OUT_OF_RANGE && status <= FOTS_MINUTES_OUT_OF_RANGE) || fots_status_is_conditional(status) != 0;
-        return fots_status_name(status) + std::string(is_component ? " was not in range" : "");
-    }
-
     std::int32_t status_;
     std::size_t position_;
 };
@@ -99,7 +79,7 @@ private:
 class parse_rule_error : public error {
 public:
     parse_rule_error(std::int32_t status, std::size_t position, std::uint32_t part)
-        : error(status, position, message(status, position, part)), part_(part)
+        : error(status, position, fots_recurrence_error_text(status, part, position)), part_(part)
     {
     }
 
@@ -108,30 +88,14 @@ public:
     [[nodiscard]] std::uint32_t part() const noexcept { return part_; }
 
     // Returns the name of the part, such as "BYDAY", or "part" for 0.
-    [[nodiscard]] const char *part_name() const noexcept { return name_of(part_); }
-
-private:
-    static const char *name_of(std::uint32_t part) noexcept
+    [[nodiscard]] const char *part_name() const noexcept
     {
         constexpr const char *names[] = {"part", "FREQ", "INTERVAL", "WKST", "BYMONTH", "BYMONTHDAY", "BYDAY", "UNTIL", "COUNT", "BYSETPOS",
             "BYYEARDAY", "BYWEEKNO", "BYHOUR", "BYMINUTE", "BYSECOND"};
-        return names[part <= FOTS_RULE_BYSECOND ? part : 0];
+        return names[part_ <= FOTS_RULE_BYSECOND ? part_ : 0];
     }
 
-    static std::string message(std::int32_t status, std::size_t position, std::uint32_t part)
-    {
-        const std::string name = name_of(part);
-        std::string said = fots_status_name(status);
-        if (status == FOTS_DUPLICATE_PART) {
-            said = "duplicate " + name;
-        } else if (status == FOTS_TOO_MANY_VALUES) {
-            said += " in " + name;
-        } else if (status == FOTS_INVALID_VALUE) {
-            said += " of " + name;
-        }
-        return said + " at " + std::to_string(position);
-    }
-
+private:
     std::uint32_t part_;
 };
 
@@ -151,7 +115,7 @@ private:
     static std::string message(std::int32_t status, std::size_t position, std::uint32_t line)
     {
         constexpr const char *names[] = {"", " in DTSTART", " in RRULE", " in RDATE", " in EXDATE"};
-        const std::string place = position == SIZE_MAX ? "" : " at " + std::to_string(position);
+        const std::string place = position == SIZE_MAX ? "" : " at position " + std::to_string(position);
         return fots_status_name(status) + std::string(names[line <= FOTS_EVENT_EXDATE ? line : 0]) + place;
     }
 
@@ -172,13 +136,36 @@ template <class Result> Result value_or_throw(Result result)
     return result;
 }
 
-// Returns the result of a function that parses a string, or throws an error with its position.
-template <class Result> Result parsed_or_throw(Result result)
+// Returns the result of a function that takes components, or throws an error that has these values.
+template <class Result, class Set> Result made_or_throw(Result result, Set set)
 {
     if (result.status != FOTS_OK) {
-        throw error(result.status, result.position);
+        fots_components components = {};
+        set(components);
+        throw error(result.status, SIZE_MAX, fots_component_error_text(result.status, &components));
     }
     return result;
+}
+
+// Returns the first byte of a text, which is never null.
+inline const char *data(std::string_view text) noexcept { return text.empty() ? "" : text.data(); }
+
+// Returns the result of a function that parses a text, or throws an error with its position.
+template <class Result> Result parsed_or_throw(Result result, std::string_view text)
+{
+    if (result.status != FOTS_OK) {
+        throw error(result.status, result.position, fots_parse_error_text(result.status, result.position, data(text), text.size()));
+    }
+    return result;
+}
+
+// Returns the result of a function that parses a text by a format, or throws an error.
+template <class Result, class Format> Result parsed_or_throw(Result result, std::string_view text, const Format &format)
+{
+    if (result.status == FOTS_INSUFFICIENT_FORMAT) {
+        throw error(result.status, result.position, fots_format_error_text(result.status, format.c()));
+    }
+    return parsed_or_throw(result, text);
 }
 
 // Returns the result of a function that makes a format of a text, or throws an error that has the wrong item.
@@ -189,14 +176,14 @@ inline fots_format_result format_or_throw(fots_format_result result, std::string
         // An item of strftime ends with its first letter.
         const std::size_t last = rest[0] == '[' ? rest.find(']') : rest.find_first_not_of("-_^#:0123456789", 1);
         const std::string item(rest.substr(0, last == std::string_view::npos ? last : last + 1));
-        throw error(result.status, result.position, "unknown item '" + item + "' at " + std::to_string(result.position));
+        throw error(result.status, result.position, "unknown item \"" + item + "\" at position " + std::to_string(result.position));
     }
-    return parsed_or_throw(result);
+    return parsed_or_throw(result, text);
 }
 
-inline fots_moment moment_or_throw(fots_parse_moment_result result)
+template <class... Of> fots_moment moment_or_throw(fots_parse_moment_result result, const Of &...of)
 {
-    parsed_or_throw(result);
+    parsed_or_throw(result, of...);
     return {result.date, result.offset, result.time};
 }
 
@@ -235,9 +222,6 @@ template <class Call> std::string written(Call call)
     char bytes[FOTS_MAX_ITEMS * FOTS_MAX_ITEM_LENGTH];
     return std::string(bytes, value_or_throw(call(bytes, sizeof bytes)).length);
 }
-
-// Returns the first byte of a text, which is never null.
-inline const char *data(std::string_view text) noexcept { return text.empty() ? "" : text.data(); }
 
 // Returns the bytes of a regular file. Nothing else is opened, since a pipe would wait.
 inline std::string bytes_of_file(const std::filesystem::path &path)
@@ -362,7 +346,7 @@ public:
     // Parses hours, minutes and seconds in ISO 8601, such as "PT2H30M0.5S".
     [[nodiscard]] static Duration parse(std::string_view text)
     {
-        return Duration(detail::parsed_or_throw(fots_duration_parse(detail::data(text), text.size())).duration, {});
+        return Duration(detail::parsed_or_throw(fots_duration_parse(detail::data(text), text.size()), text).duration, {});
     }
     // Returns such a text.
     [[nodiscard]] std::string text() const { return detail::value_or_throw(fots_duration_text(value_)).bytes; }
@@ -427,27 +411,27 @@ public:
 
     [[nodiscard]] static Time from_hms(std::uint32_t hour, std::uint32_t minute, std::uint32_t second)
     {
-        return Time(detail::value_or_throw(fots_time_from_hms(hour, minute, second)).time, {});
+        return from(fots_time_from_hms(hour, minute, second), hour, minute, second, 0);
     }
     [[nodiscard]] static Time from_hms_nano(std::uint32_t hour, std::uint32_t minute, std::uint32_t second, std::uint32_t nanosecond)
     {
-        return Time(detail::value_or_throw(fots_time_from_hms_nano(hour, minute, second, nanosecond)).time, {});
+        return from(fots_time_from_hms_nano(hour, minute, second, nanosecond), hour, minute, second, nanosecond);
     }
 
     // Returns the time of day that the clocks of a zone show now.
     [[nodiscard]] static Time now(const Zone &zone);
     // Parses a time of day, such as "9:05" or "23:59:59.25".
-    [[nodiscard]] static Time parse(std::string_view text) { return Time(detail::parsed_or_throw(fots_time_parse(detail::data(text), text.size())).time, {}); }
+    [[nodiscard]] static Time parse(std::string_view text) { return Time(detail::parsed_or_throw(fots_time_parse(detail::data(text), text.size()), text).time, {}); }
     // Parses a text in all formats of ISO 8601, such as "T225959,5" or "22".
-    [[nodiscard]] static Time parse_iso(std::string_view text) { return Time(detail::parsed_or_throw(fots_time_parse_iso(detail::data(text), text.size())).time, {}); }
+    [[nodiscard]] static Time parse_iso(std::string_view text) { return Time(detail::parsed_or_throw(fots_time_parse_iso(detail::data(text), text.size()), text).time, {}); }
     // Parses the text of a value by a format, and no other text.
     [[nodiscard]] static Time parse(std::string_view text, const Format &format)
     {
-        return Time(detail::parsed_or_throw(fots_time_parse_format(detail::data(text), text.size(), format.c())).time, {});
+        return Time(detail::parsed_or_throw(fots_time_parse_format(detail::data(text), text.size(), format.c()), text, format).time, {});
     }
     [[nodiscard]] static Time parse(std::string_view text, const LenientFormat &format)
     {
-        return Time(detail::parsed_or_throw(fots_time_parse_leniently(detail::data(text), text.size(), format.c(), format.pivot())).time, {});
+        return Time(detail::parsed_or_throw(fots_time_parse_leniently(detail::data(text), text.size(), format.c(), format.pivot()), text, format).time, {});
     }
 
     [[nodiscard]] std::uint32_t hour() const { return detail::value_or_throw(fots_time_hour(value_)).number; }
@@ -480,6 +464,13 @@ public:
     [[nodiscard]] fots_time key() const noexcept { return value_; }
 
 private:
+    static Time from(fots_time_result result, std::uint32_t hour, std::uint32_t minute, std::uint32_t second, std::uint32_t nanosecond)
+    {
+        return Time(detail::made_or_throw(result, [&](fots_components &of) {
+            of.hour = hour, of.minute = minute, of.second = second, of.nanosecond = nanosecond;
+        }).time, {});
+    }
+
     fots_time value_;
 };
 
@@ -492,22 +483,23 @@ public:
     [[nodiscard]] static UtcOffset utc() { return UtcOffset(fots_offset{0}, {}); }
     [[nodiscard]] static UtcOffset from_hms(std::int32_t hours, std::int32_t minutes, std::int32_t seconds)
     {
-        return UtcOffset(detail::value_or_throw(fots_offset_from_hms(hours, minutes, seconds)).offset, {});
+        const auto set = [&](fots_components &of) { of.offset_hour = hours, of.offset_minute = minutes, of.offset_second = seconds; };
+        return UtcOffset(detail::made_or_throw(fots_offset_from_hms(hours, minutes, seconds), set).offset, {});
     }
     [[nodiscard]] static UtcOffset from_whole_seconds(std::int64_t seconds)
     {
-        return UtcOffset(detail::value_or_throw(fots_offset_from_whole_seconds(seconds)).offset, {});
+        return UtcOffset(detail::made_or_throw(fots_offset_from_whole_seconds(seconds), [&](fots_components &of) { of.seconds = seconds; }).offset, {});
     }
 
     // Parses an offset, such as "Z", "+05:30" or "-00:00:01".
     [[nodiscard]] static UtcOffset parse(std::string_view text)
     {
-        return UtcOffset(detail::parsed_or_throw(fots_offset_parse(detail::data(text), text.size())).offset, {});
+        return UtcOffset(detail::parsed_or_throw(fots_offset_parse(detail::data(text), text.size()), text).offset, {});
     }
     // Parses the text of a value by a format, and no other text.
     [[nodiscard]] static UtcOffset parse(std::string_view text, const Format &format)
     {
-        return UtcOffset(detail::parsed_or_throw(fots_offset_parse_format(detail::data(text), text.size(), format.c())).offset, {});
+        return UtcOffset(detail::parsed_or_throw(fots_offset_parse_format(detail::data(text), text.size(), format.c()), text, format).offset, {});
     }
 
     [[nodiscard]] std::int32_t whole_seconds() const noexcept { return value_.seconds; }
@@ -548,7 +540,7 @@ public:
     // Parses a period in ISO 8601, such as "P1Y2M10DT2H30M" or "-P1D".
     [[nodiscard]] static Period parse(std::string_view text)
     {
-        return Period(detail::parsed_or_throw(fots_period_parse(detail::data(text), text.size())).period, {});
+        return Period(detail::parsed_or_throw(fots_period_parse(detail::data(text), text.size()), text).period, {});
     }
     // Returns such a text.
     [[nodiscard]] std::string text() const { return detail::value_or_throw(fots_period_text(value_)).bytes; }
@@ -606,37 +598,44 @@ public:
 
     [[nodiscard]] static Date min() { return Date(fots_date{FOTS_MIN_JULIAN_DAY}, {}); }
     [[nodiscard]] static Date max() { return Date(fots_date{FOTS_MAX_JULIAN_DAY}, {}); }
-    [[nodiscard]] static Date from_julian_day(std::int64_t julian_day) { return from(fots_date_from_julian_day(julian_day)); }
+    [[nodiscard]] static Date from_julian_day(std::int64_t julian_day)
+    {
+        return from(fots_date_from_julian_day(julian_day), [&](fots_components &of) { of.julian_day = julian_day; });
+    }
     [[nodiscard]] static Date from_calendar_date(std::int32_t year, std::uint32_t month, std::uint32_t day)
     {
-        return from(fots_date_from_calendar_date(year, month, day));
+        return from(fots_date_from_calendar_date(year, month, day), [&](fots_components &of) { of.year = year, of.month = month, of.day = day; });
     }
     [[nodiscard]] static Date from_calendar_date(std::int32_t year, Month month, std::uint32_t day)
     {
         return from_calendar_date(year, static_cast<std::uint32_t>(month), day);
     }
-    [[nodiscard]] static Date from_ordinal_date(std::int32_t year, std::uint32_t ordinal) { return from(fots_date_from_ordinal_date(year, ordinal)); }
+    [[nodiscard]] static Date from_ordinal_date(std::int32_t year, std::uint32_t ordinal)
+    {
+        return from(fots_date_from_ordinal_date(year, ordinal), [&](fots_components &of) { of.year = year, of.ordinal = ordinal; });
+    }
     [[nodiscard]] static Date from_iso_week_date(std::int32_t year, std::uint32_t week, Weekday weekday)
     {
-        return from(fots_date_from_iso_week_date(year, week, static_cast<std::uint32_t>(weekday)));
+        return from(fots_date_from_iso_week_date(year, week, static_cast<std::uint32_t>(weekday)),
+            [&](fots_components &of) { of.year = year, of.week = week; });
     }
     // Return Easter Sunday of a year in western churches, and in orthodox ones.
-    [[nodiscard]] static Date easter(std::int32_t year) { return from(fots_easter(year)); }
-    [[nodiscard]] static Date julian_easter(std::int32_t year) { return from(fots_julian_easter(year)); }
+    [[nodiscard]] static Date easter(std::int32_t year) { return from(fots_easter(year), [&](fots_components &of) { of.year = year; }); }
+    [[nodiscard]] static Date julian_easter(std::int32_t year) { return from(fots_julian_easter(year), [&](fots_components &of) { of.year = year; }); }
     // Returns the date that the clocks of a zone show now.
     [[nodiscard]] static Date today(const Zone &zone);
     // Parses a calendar date, an ordinal date or an ISO week date, such as "2024-W09-4".
-    [[nodiscard]] static Date parse(std::string_view text) { return Date(detail::parsed_or_throw(fots_date_parse(detail::data(text), text.size())).date, {}); }
+    [[nodiscard]] static Date parse(std::string_view text) { return Date(detail::parsed_or_throw(fots_date_parse(detail::data(text), text.size()), text).date, {}); }
     // Parses a text in all formats of ISO 8601, such as "20240229" or "2024-W09".
-    [[nodiscard]] static Date parse_iso(std::string_view text) { return Date(detail::parsed_or_throw(fots_date_parse_iso(detail::data(text), text.size())).date, {}); }
+    [[nodiscard]] static Date parse_iso(std::string_view text) { return Date(detail::parsed_or_throw(fots_date_parse_iso(detail::data(text), text.size()), text).date, {}); }
     // Parses the text of a value by a format, and no other text.
     [[nodiscard]] static Date parse(std::string_view text, const Format &format)
     {
-        return Date(detail::parsed_or_throw(fots_date_parse_format(detail::data(text), text.size(), format.c())).date, {});
+        return Date(detail::parsed_or_throw(fots_date_parse_format(detail::data(text), text.size(), format.c()), text, format).date, {});
     }
     [[nodiscard]] static Date parse(std::string_view text, const LenientFormat &format)
     {
-        return Date(detail::parsed_or_throw(fots_date_parse_leniently(detail::data(text), text.size(), format.c(), format.pivot())).date, {});
+        return Date(detail::parsed_or_throw(fots_date_parse_leniently(detail::data(text), text.size(), format.c(), format.pivot()), text, format).date, {});
     }
 
     [[nodiscard]] std::int32_t to_julian_day() const noexcept { return value_.julian_day; }
@@ -679,10 +678,16 @@ public:
         return if_any(fots_date_prev_occurrence(value_, static_cast<std::uint32_t>(weekday)));
     }
 
-    [[nodiscard]] Date replace_year(std::int32_t year) const { return from(fots_date_replace_year(value_, year)); }
-    [[nodiscard]] Date replace_month(Month month) const { return from(fots_date_replace_month(value_, static_cast<std::uint32_t>(month))); }
-    [[nodiscard]] Date replace_day(std::uint32_t day) const { return from(fots_date_replace_day(value_, day)); }
-    [[nodiscard]] Date replace_ordinal(std::uint32_t ordinal) const { return from(fots_date_replace_ordinal(value_, ordinal)); }
+    [[nodiscard]] Date replace_year(std::int32_t year) const { return replaced(fots_date_replace_year(value_, year), &fots_components::year, year); }
+    [[nodiscard]] Date replace_month(Month month) const
+    {
+        return replaced(fots_date_replace_month(value_, static_cast<std::uint32_t>(month)), &fots_components::month, static_cast<std::int64_t>(month));
+    }
+    [[nodiscard]] Date replace_day(std::uint32_t day) const { return replaced(fots_date_replace_day(value_, day), &fots_components::day, day); }
+    [[nodiscard]] Date replace_ordinal(std::uint32_t ordinal) const
+    {
+        return replaced(fots_date_replace_ordinal(value_, ordinal), &fots_components::ordinal, ordinal);
+    }
 
     [[nodiscard]] std::optional<Date> checked_add_months(std::int32_t months) const { return if_any(fots_date_add_months(value_, months)); }
     [[nodiscard]] std::optional<Date> checked_add_years(std::int32_t years) const { return if_any(fots_date_add_years(value_, years)); }
@@ -762,7 +767,7 @@ public:
     [[nodiscard]] static Date from_sys_days(std::chrono::sys_days day)
     {
         // Days after the range stay after it, and their sum can't overflow.
-        return from_julian_day(std::min(std::int64_t{day.time_since_epoch().count()}, std::int64_t{INT32_MAX}) + unix_epoch);
+        return from_julian_day(std::min(std::int64_t{day.time_since_epoch().count()}, INT64_MAX - unix_epoch) + unix_epoch);
     }
     // Converts to a day of <chrono>.
     [[nodiscard]] std::chrono::sys_days to_sys_days() const
@@ -785,6 +790,15 @@ private:
     static constexpr std::int32_t unix_epoch = 2440588;
 
     static Date from(fots_date_result result) { return Date(detail::value_or_throw(result).date, {}); }
+    template <class Set> static Date from(fots_date_result result, Set set) { return Date(detail::made_or_throw(result, set).date, {}); }
+    Date replaced(fots_date_result result, std::int64_t fots_components::*component, std::int64_t number) const
+    {
+        return from(result, [&](fots_components &of) {
+            const fots_calendar_date_result own = fots_date_to_calendar_date(value_);
+            of.year = own.year, of.month = own.month, of.day = own.day;
+            of.*component = number;
+        });
+    }
     static Period period_of(const fots_period_result &result)
     {
         const fots_period_result found = detail::value_or_throw(result);
@@ -812,10 +826,10 @@ public:
     [[nodiscard]] static Steps parse(std::string_view text)
     {
         if constexpr (std::is_same<Value, Date>::value) {
-            const fots_parse_repeated_dates_result found = detail::parsed_or_throw(fots_repeated_dates_parse(detail::data(text), text.size()));
+            const fots_parse_repeated_dates_result found = detail::parsed_or_throw(fots_repeated_dates_parse(detail::data(text), text.size()), text);
             return Steps(Value(found.start, {}), Period(found.period, {}), found.count);
         } else {
-            const fots_parse_repeated_pairs_result found = detail::parsed_or_throw(fots_repeated_pairs_parse(detail::data(text), text.size()));
+            const fots_parse_repeated_pairs_result found = detail::parsed_or_throw(fots_repeated_pairs_parse(detail::data(text), text.size()), text);
             return Steps(Value(Date(found.start_date, {}), Time(found.start_time, {})), Period(found.period, {}), found.count);
         }
     }
@@ -878,7 +892,7 @@ public:
     // Parses an interval in ISO 8601, such as "2024-01-01/2024-02-01", "2024-01-01/P1M" or "P1M/2024-02-01".
     [[nodiscard]] static DateRange parse(std::string_view text)
     {
-        return DateRange(detail::parsed_or_throw(fots_date_interval_parse(detail::data(text), text.size())).range);
+        return DateRange(detail::parsed_or_throw(fots_date_interval_parse(detail::data(text), text.size()), text).range);
     }
 
     [[nodiscard]] Date start() const noexcept { return Date(value_.start, {}); }
@@ -998,7 +1012,8 @@ public:
             while (holidays[position - 1] < holidays[position]) {
                 ++position;
             }
-            throw error(counted.status, position);
+            throw error(counted.status, position,
+                "holidays[" + std::to_string(position) + "] is not after holidays[" + std::to_string(position - 1) + "]");
         }
         detail::value_or_throw(counted);
     }
@@ -1009,11 +1024,20 @@ public:
         std::vector<fots_date> dates(FOTS_MAX_HOLIDAYS);
         const fots_number_result found = detail::value_or_throw(
             fots_calendar_holidays(static_cast<std::uint32_t>(calendar), first.c(), last.c(), dates.data(), dates.size()));
-        dates.resize(static_cast<std::size_t>(found.number));
-        Workdays made;
-        made.holidays_ = std::move(dates);
-        detail::value_or_throw(made.count());
-        return made;
+        return without(std::move(dates), found.number);
+    }
+
+    // Takes Monday to Friday without the holidays of rules, one in each line, from one date through
+    // another. An invalid rule throws an error with the position of its word.
+    [[nodiscard]] static Workdays from_rules(std::string_view rules, Date first, Date last)
+    {
+        std::vector<fots_date> dates(FOTS_MAX_HOLIDAYS);
+        const fots_holidays_result found
+            = fots_rules_holidays(rules.data(), rules.size(), first.c(), last.c(), dates.data(), dates.size());
+        if (found.status != FOTS_OK) {
+            throw error(found.status, found.position);
+        }
+        return without(std::move(dates), found.number);
     }
 
     [[nodiscard]] bool is_workday(Date date) const { return detail::value_or_throw(with_view(fots_workdays_view_contains, date.c())).number == 1; }
@@ -1033,6 +1057,15 @@ public:
     }
 
 private:
+    // Takes Monday to Friday without the first of the dates.
+    static Workdays without(std::vector<fots_date> dates, std::int32_t number)
+    {
+        dates.resize(static_cast<std::size_t>(number));
+        Workdays made;
+        made.holidays_ = std::move(dates);
+        detail::value_or_throw(made.count());
+        return made;
+    }
     // Counts the holidays that are days of the week.
     fots_number_result count()
     {
@@ -1281,7 +1314,7 @@ inline std::ostream &operator<<(std::ostream &out, const Recurrence &recurrence)
 // Parses a date, a time of day and an offset in RFC 3339.
 [[nodiscard]] inline std::tuple<Date, Time, UtcOffset> parse_rfc3339(std::string_view text)
 {
-    const fots_parse_moment_result found = detail::parsed_or_throw(fots_moment_parse(detail::data(text), text.size()));
+    const fots_parse_moment_result found = detail::parsed_or_throw(fots_moment_parse(detail::data(text), text.size()), text);
     return {Date(found.date, {}), Time(found.time, {}), UtcOffset(found.offset, {})};
 }
 
@@ -1410,23 +1443,23 @@ public:
     // Returns what the clocks of a zone show now.
     [[nodiscard]] static PlainDateTime now(const Zone &zone);
     // Parses a date and a time of day, such as "2024-02-29 23:59:59.25" or "2024-W09-4T9:05".
-    [[nodiscard]] static PlainDateTime parse(std::string_view text) { return from(fots_pair_parse(detail::data(text), text.size())); }
+    [[nodiscard]] static PlainDateTime parse(std::string_view text) { return from(fots_pair_parse(detail::data(text), text.size()), text); }
     // Parses a text in all formats of ISO 8601, such as "20240229T2259" or "2024-02-29".
-    [[nodiscard]] static PlainDateTime parse_iso(std::string_view text) { return from(fots_pair_parse_iso(detail::data(text), text.size())); }
+    [[nodiscard]] static PlainDateTime parse_iso(std::string_view text) { return from(fots_pair_parse_iso(detail::data(text), text.size()), text); }
     // Parses the text of a value by a format, and no other text.
     [[nodiscard]] static PlainDateTime parse(std::string_view text, const Format &format)
     {
-        return from(fots_pair_parse_format(detail::data(text), text.size(), format.c()));
+        return from(fots_pair_parse_format(detail::data(text), text.size(), format.c()), text, format);
     }
     [[nodiscard]] static PlainDateTime parse(std::string_view text, const LenientFormat &format)
     {
-        return from(fots_pair_parse_leniently(detail::data(text), text.size(), format.c(), format.pivot()));
+        return from(fots_pair_parse_leniently(detail::data(text), text.size(), format.c(), format.pivot()), text, format);
     }
 
     // Parses an interval in ISO 8601, such as "2024-01-01T08:00/PT90M", and returns its ends.
     [[nodiscard]] static std::pair<PlainDateTime, PlainDateTime> parse_interval(std::string_view text)
     {
-        const fots_parse_pair_range_result found = detail::parsed_or_throw(fots_pair_interval_parse(detail::data(text), text.size()));
+        const fots_parse_pair_range_result found = detail::parsed_or_throw(fots_pair_interval_parse(detail::data(text), text.size()), text);
         return {{Date(found.start_date, {}), Time(found.start_time, {})}, {Date(found.end_date, {}), Time(found.end_time, {})}};
     }
 
@@ -1495,7 +1528,10 @@ public:
 private:
     explicit PlainDateTime(fots_moment value) noexcept : value_(value) {}
     static PlainDateTime from(fots_moment_result result) { return PlainDateTime(detail::value_or_throw(result).moment); }
-    static PlainDateTime from(fots_parse_moment_result result) { return PlainDateTime(detail::moment_or_throw(result)); }
+    template <class... Of> static PlainDateTime from(fots_parse_moment_result result, const Of &...of)
+    {
+        return PlainDateTime(detail::moment_or_throw(result, of...));
+    }
     static std::optional<PlainDateTime> if_any(fots_moment_result result)
     {
         return detail::is_in_range(result) ? std::optional<PlainDateTime>(PlainDateTime(result.moment)) : std::nullopt;
@@ -1520,29 +1556,33 @@ public:
         return from(fots_moment_new(date.c(), time.c(), offset.c()));
     }
     [[nodiscard]] static OffsetDateTime new_utc(Date date, Time time) { return new_in_offset(date, time, UtcOffset::utc()); }
-    [[nodiscard]] static OffsetDateTime from_unix_timestamp(std::int64_t seconds) { return from(fots_moment_from_unix_timestamp(seconds)); }
+    [[nodiscard]] static OffsetDateTime from_unix_timestamp(std::int64_t seconds)
+    {
+        const auto set = [&](fots_components &of) { of.timestamp = seconds; };
+        return OffsetDateTime(detail::made_or_throw(fots_moment_from_unix_timestamp(seconds), set).moment, {});
+    }
     [[nodiscard]] static OffsetDateTime from_unix_duration(Duration duration) { return from(fots_moment_from_unix_time(duration.c())); }
     // Returns the current time at UTC, by std::chrono::system_clock.
     [[nodiscard]] static OffsetDateTime now_utc() { return from_unix_duration(detail::unix_time_now()); }
     // Parses a date, a time of day and an offset, such as "2024-02-29 9:05 +01:00".
     [[nodiscard]] static OffsetDateTime parse(std::string_view text)
     {
-        return OffsetDateTime(detail::moment_or_throw(fots_offset_date_time_parse(detail::data(text), text.size())), {});
+        return OffsetDateTime(detail::moment_or_throw(fots_offset_date_time_parse(detail::data(text), text.size()), text), {});
     }
     // Parses a text in all formats of ISO 8601, such as "20240229T2259+01".
     [[nodiscard]] static OffsetDateTime parse_iso(std::string_view text)
     {
-        return OffsetDateTime(detail::moment_or_throw(fots_moment_parse_iso(detail::data(text), text.size())), {});
+        return OffsetDateTime(detail::moment_or_throw(fots_moment_parse_iso(detail::data(text), text.size()), text), {});
     }
     // Parses the text of a value by a format, and no other text.
     [[nodiscard]] static OffsetDateTime parse(std::string_view text, const Format &format)
     {
-        return OffsetDateTime(detail::moment_or_throw(fots_moment_parse_format(detail::data(text), text.size(), format.c())), {});
+        return OffsetDateTime(detail::moment_or_throw(fots_moment_parse_format(detail::data(text), text.size(), format.c()), text, format), {});
     }
     [[nodiscard]] static OffsetDateTime parse(std::string_view text, const LenientFormat &format)
     {
         const fots_parse_moment_result found = fots_moment_parse_leniently(detail::data(text), text.size(), format.c(), format.pivot());
-        return OffsetDateTime(detail::moment_or_throw(found), {});
+        return OffsetDateTime(detail::moment_or_throw(found, text, format), {});
     }
 
     [[nodiscard]] Date date() const noexcept { return Date(value_.date, {}); }
@@ -1761,7 +1801,7 @@ public:
 
 private:
     Zone(std::string bytes, const fots_zone_parts_result &found)
-        : bytes_(std::move(bytes)), parts_(detail::parsed_or_throw(found).parts)
+        : bytes_(std::move(bytes)), parts_(detail::parsed_or_throw(found, bytes_).parts)
     {
     }
 

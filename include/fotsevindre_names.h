@@ -16,14 +16,14 @@ typedef struct fots_names {
     const char *expected;
     uint32_t first;
     uint32_t length;
-    const char *names[5]; /* in lower case */
+    const char *names[20]; /* in lower case */
 } fots_names;
 
 /* A name that isn't in a table. */
 #define FOTS_NO_NUMBER UINT32_MAX
 
 /* Return the names of a fots_policy, a fots_calendar_unit of rounding and of periods, a
- * fots_rounding_mode, a fots_day_count and a fots_convention. */
+ * fots_rounding_mode, a fots_day_count, a fots_convention and a fots_calendar. */
 static inline const fots_names *fots_policy_names(void)
 {
     static const fots_names names
@@ -55,6 +55,17 @@ static inline const fots_names *fots_convention_names(void)
 {
     static const fots_names names = {"convention", "unadjusted, following, modified following, preceding or modified preceding",
         FOTS_UNADJUSTED, 5, {"unadjusted", "following", "modified following", "preceding", "modified preceding"}};
+    return &names;
+}
+
+static inline const fots_names *fots_calendar_names(void)
+{
+    static const fots_names names = {"calendar",
+        "target, us-federal, nyse, england-and-wales, de-bw, de-by, de-be, de-bb, de-hb, de-hh, de-he, de-mv, de-ni, de-nw, de-rp, de-sl, de-sn, "
+        "de-st, de-sh or de-th",
+        FOTS_TARGET, 20,
+        {"target", "us-federal", "nyse", "england-and-wales", "de-bw", "de-by", "de-be", "de-bb", "de-hb", "de-hh", "de-he", "de-mv", "de-ni",
+            "de-nw", "de-rp", "de-sl", "de-sn", "de-st", "de-sh", "de-th"}};
     return &names;
 }
 

@@ -1,8 +1,8 @@
 //! Errors as the standard library has them.
 
 use crate::error::{
-    ComponentRange, ConversionRange, FormatError, IntervalError, InvalidVariant, ParseDurationError, ParseError, ParseEventError,
-    ParseIntervalError, ParseRuleError, ParseSetError, UnsupportedItem, ZoneError,
+    ComponentRange, ConversionRange, FormatError, IntervalError, InvalidVariant, NamesError, ParseDurationError, ParseError,
+    ParseEventError, ParseHolidayRuleError, ParseIntervalError, ParseRuleError, ParseSetError, UnsupportedItem, ZoneError,
 };
 use crate::format;
 use core::error::Error;
@@ -13,9 +13,11 @@ impl Error for ConversionRange {}
 impl Error for FormatError {}
 impl Error for IntervalError {}
 impl Error for InvalidVariant {}
+impl Error for NamesError<'_> {}
 impl Error for ParseDurationError {}
 impl Error for ParseError {}
 impl Error for ParseEventError {}
+impl Error for ParseHolidayRuleError {}
 impl Error for ParseIntervalError {}
 impl Error for ParseRuleError {}
 impl Error for ParseSetError {}

@@ -130,6 +130,7 @@ const fn number(digits: &str) -> u32 {
 pub mod error {
     pub use crate::cal_duration::{DurationComponent, ParseDurationError};
     pub use crate::cal_format::FormatError;
+    pub use crate::cal_holiday_text::{ParseHolidayRuleError, ParseHolidayRuleErrorKind};
     pub use crate::cal_ics::{ParseEventError, ParseEventErrorKind};
     pub use crate::cal_interval::{IntervalComponent, IntervalError, ParseIntervalError};
     pub use crate::cal_recurrence::{ParseRuleError, ParseRuleErrorKind, ParseSetError, ParseSetErrorKind};
@@ -139,6 +140,7 @@ pub mod error {
     pub use crate::cal_units::error::{Component, ComponentRange, ConversionRange, InvalidVariant};
     pub use crate::cal_zone::LocalTimeError;
     pub use crate::formats::UnsupportedItem;
+    pub use crate::names::NamesError;
     #[cfg(feature = "std")]
     pub use crate::std_zones::NamedZoneError;
     pub use crate::values::TooManyValues;
@@ -196,7 +198,7 @@ pub mod iter {
 /// ```
 pub mod names {
     pub use crate::cal_names::{Names, languages, table};
-    pub use crate::languages::NamedDateFormat;
+    pub use crate::languages::{NamedFormat, NamesError};
 }
 
 /// Recurrences of RFC 5545: rules of days and of times of day, sets, and their strings.
@@ -213,6 +215,7 @@ pub mod recurrence {
 /// Rules of days, working days, holidays, periods and day counts. Functions on one date are methods
 /// of [`Date`].
 pub mod schedule {
+    pub use crate::cal_holiday_text::parse_holiday_rules;
     pub use crate::cal_holidays::{CALENDARS, HolidayDay, HolidayRule, calendar_rules, holidays_between};
     pub use crate::cal_schedule::{
         ByDay, CalendarUnit, Convention, DateRange, DayCount, Frequency, Pattern, Period, PeriodUnit, Rule, RuleDays, Steps,

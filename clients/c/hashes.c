@@ -110,6 +110,24 @@ static fots_moment any_fots_moment(void)
     return moment;
 }
 
+static fots_components any_fots_components(void)
+{
+    fots_components components;
+    memset(&components, 0, sizeof components);
+    components.year = number(-1000001, 1000001);
+    components.month = number(0, 13);
+    components.day = number(0, 32);
+    components.ordinal = number(0, 367);
+    components.week = number(0, 54);
+    components.julian_day = number(FOTS_MIN_JULIAN_DAY - 1, FOTS_MAX_JULIAN_DAY + 1);
+    components.hour = components.offset_hour = number(-26, 26);
+    components.minute = components.second = components.offset_minute = components.offset_second = number(-60, 60);
+    components.millisecond = components.microsecond = components.nanosecond = number(-1, 1000000000);
+    components.seconds = number(-93600, 93600);
+    components.timestamp = number(INT64_C(-31619087596801), INT64_C(31494784780800));
+    return components;
+}
+
 /* ---- texts, and what is made from them */
 
 static const char *const texts[] = {"2024-02-29", "-004713-11-24", "2024-060", "2024-W09-4", "J2460370", "J-12", "@1709247599.25", "@-1",
@@ -135,7 +153,8 @@ static const char *const events[] = {"SUMMARY:Rent\r\nDTSTART;VALUE=DATE:2024013
     "DTSTART:20240101T090000Z\nRRULE:FREQ=WEEKLY;BYDAY=MO,TH;UNTIL=20241231T235959Z\nBEGIN:VALARM\nDTSTART:1\nEND:VALARM\nDTEND:20240101T100000Z\n",
     "DTSTART:20240101T090000\nRDATE:20240105T090000,20240103T090000\nsummary;LANGUAGE=en:Talk\n", "DTSTART:20240101\nRRULE:FREQ=HOURLY\n", "RRULE:FREQ=DAILY\nUID:1\n", "DTSTART;TZID=A:20240101T090000\nEXDATE;TZID=B:20240101T090000\n"};
 static const char *const properties[] = {"SUMMARY", "dtend", "UID", "DTSTART", "RRULE"};
-static const char *const iso_texts[] = {"20240229", "2024-060", "2024060", "2024-W09", "2024W094", "T232050,5", "2320", "23", "20240229T235959", "2024-02-29 22:59:59.25+00", "19850412T101530+0400", "1985-04-12t23:20:50.52z", "+0020240229"};
+static const char *const rules[] = {"01-01 SA-1 SU+1\neaster-2 2000..\n05-lastMO\n11-4TH\n12-25 1999..2009", "11-WE>=16\njulian-easter+1 # Monday\r\n2024-12-27\n02-29", "2024-easter+39\n\n 06-5FR ..2030 FR+3"};
+static const char *const iso_texts[] = {"20240229", "2024-060", "2024060", "2024-W09", "2024W094", "T232050,5", "2320", "23", "20240229T235959", "2024-02-29 22:59:59.25+00", "19850412T101530+0400", "1985-04-12t23:20:50.52z", "+0020240229", "2024-060T22:59:59,1234567890000000000000000000000Z"};
 
 static char drawn_text[256];
 
@@ -185,6 +204,7 @@ static size_t any_iso_text(void) { return text_of(iso_texts, COUNT(iso_texts)); 
 static size_t any_calendar_text(void) { return text_of(calendars, COUNT(calendars)); }
 static size_t any_event(void) { return text_of(events, COUNT(events)); }
 static size_t any_property(void) { return text_of(properties, COUNT(properties)); }
+static size_t any_rules_text(void) { return text_of(rules, COUNT(rules)); }
 static size_t any_zone_text(void) { return text_of(zones, COUNT(zones)); }
 
 static fots_format any_fots_format(void)

@@ -536,6 +536,7 @@ static void texts_of_iso(void)
     check(late.status == FOTS_HOUR_OUT_OF_RANGE && late.time == FOTS_NO_TIME, "the hour 24", late.status, (long long)late.time);
     const fots_parse_time_result many = fots_time_parse_iso("23:20:50.1234567890001", 22);
     check(many.status == FOTS_UNEXPECTED_BYTE && many.position == 21, "more than a nanosecond", many.status, (long long)many.position);
+    is_moment(fots_moment_parse_iso("1985-04-12T23:20:50.5200000000000000000000Z", 43), day, 84050520000000, offset_at(0), "22 digits of a fraction");
     is_moment(fots_moment_parse_iso("1985-04-12T23:20:50.52Z", 23), day, 84050520000000, offset_at(0), "a moment of RFC 3339");
     is_moment(fots_moment_parse_iso("2024-02-29 22:59:59.25+00", 25), date_of(2024, 2, 29), 82799250000000, offset_at(0), "a moment of PostgreSQL");
     is_moment(fots_moment_parse_iso("19850412T101530+0400", 20), day, 36930000000000, offset_at(14400), "a moment in the basic format");

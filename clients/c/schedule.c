@@ -210,6 +210,45 @@ static fots_workdays week_of(uint32_t weekmask, const fots_date *holidays, size_
     return fots_workdays_new(weekmask, holidays, length).workdays;
 }
 
+/* Returns the holidays of rules in 2024, in an array with room for `room`. */
+static fots_holidays_result rules_of_2024(const char *rules, fots_date *days, size_t room)
+{
+    return fots_rules_holidays(rules, strlen(rules), day(2024, 1, 1), day(2024, 12, 31), days, room);
+}
+
+static void fails_at(fots_holidays_result found, int32_t status, size_t position, const char *what)
+{
+    check(found.status == status && found.position == position && found.number == INT32_MIN, what, found.status, (long long)found.position);
+}
+
+/* Compares the holidays of rules with published days, and the errors with their positions. */
+static void holidays_of_rules(void)
+{
+    static fots_date days[FOTS_MAX_HOLIDAYS];
+    static char long_text[6 * (FOTS_MAX_HOLIDAYS + 1) + 1];
+    const fots_date year[] = {day(2024, 1, 1), day(2024, 3, 29), day(2024, 5, 5), day(2024, 5, 27), day(2024, 11, 20), day(2024, 11, 28),
+        day(2024, 12, 25), day(2024, 12, 27)};
+    const char rules[] = "# A bank\r\n01-01\neaster-2\n julian-easter # orthodox\n05-lastMO\n11-WE>=16 2000..\n11-4TH\n12-25 SA-1 SU+1\n"
+                         "12-26 ..2023\n2024-12-27\n";
+    const fots_holidays_result found = rules_of_2024(rules, days, 8);
+    check(found.status == FOTS_OK && found.number == 8 && found.position == SIZE_MAX, "rules", found.status, found.number);
+    check(memcmp(days, year, sizeof year) == 0, "the days of rules", 0, 0);
+    fails_at(rules_of_2024(rules, days, 7), FOTS_TOO_MANY_HOLIDAYS, SIZE_MAX, "no room for rules");
+    fails_at(rules_of_2024("12-25\n02-30", days, 8), FOTS_INVALID_HOLIDAY_RULE, 6, "30 February");
+    fails_at(rules_of_2024("12-25 1999.. x", days, 8), FOTS_INVALID_HOLIDAY_RULE, 13, "an unknown word");
+    check(rules_of_2024("", days, 0).number == 0, "no rules", 0, 0);
+    check(fots_rules_holidays("01-01 SA-1", 10, day(2021, 12, 1), day(2021, 12, 31), days, 1).number == 1
+            && days[0].julian_day == day(2021, 12, 31).julian_day, "New Year in December", 0, 0);
+    fails_at(fots_rules_holidays("12-25", 5, date_at(INT32_MIN), date_at(INT32_MIN), days, 8), FOTS_INVALID_DATE, SIZE_MAX, "no first date");
+    fails_at(fots_rules_holidays("12-25", 5, day(2024, 1, 1), date_at(INT32_MAX), days, 8), FOTS_INVALID_DATE, SIZE_MAX, "no last date");
+    fails_at(fots_rules_holidays("x", 1, date_at(INT32_MIN), date_at(INT32_MIN), days, 8), FOTS_INVALID_HOLIDAY_RULE, 0, "rules before dates");
+    for (size_t rule = 0; rule <= FOTS_MAX_HOLIDAYS; rule++) {
+        memcpy(long_text + 6 * rule, "12-25\n", 6);
+    }
+    check(fots_rules_holidays(long_text, 6 * FOTS_MAX_HOLIDAYS, day(2024, 1, 1), day(2024, 12, 31), days, 1).number == 1, "many rules", 0, 0);
+    fails_at(rules_of_2024(long_text, days, 8), FOTS_TOO_MANY_HOLIDAYS, 6 * FOTS_MAX_HOLIDAYS, "a rule too many");
+}
+
 static void workdays(void)
 {
     fots_date holidays[10];
@@ -264,6 +303,7 @@ static void workdays(void)
     check(fots_calendar_holidays(0, date_at(INT32_MIN), day(2024, 1, 1), many, 1).status == FOTS_INVALID_DATE, "no first date", 0, 0);
     check(fots_calendar_holidays(0, day(2024, 1, 1), date_at(INT32_MAX), many, 1).status == FOTS_INVALID_DATE, "no last date", 0, 0);
     check(fots_calendar_holidays(0, day(2024, 1, 2), day(2024, 1, 1), many, 0).number == 0, "no days", 0, 0);
+    holidays_of_rules();
 
     /* Compares random weeks and moves with a count of one day at a time. */
     for (int turn = 0; turn < DRAWN; turn++) {
@@ -1207,9 +1247,10 @@ static void invalid_dates(void)
 /* Each name has its number, and back. */
 static void names(void)
 {
-    const fots_names *const tables[] = {fots_policy_names(), fots_unit_names(), fots_rounding_mode_names(), fots_day_count_names(), fots_convention_names()};
+    const fots_names *const tables[] = {fots_policy_names(), fots_unit_names(), fots_rounding_mode_names(), fots_day_count_names(), fots_convention_names(),
+        fots_calendar_names()};
     for (size_t at = 0; at < sizeof tables / sizeof tables[0]; at++) {
-        for (uint32_t number = 0; number < 8; number++) {
+        for (uint32_t number = 0; number < 24; number++) {
             const char *const name = fots_name_of(tables[at], number);
             check(!name || fots_number_named(tables[at], name, strlen(name)) == number, tables[at]->what, number, 0);
             check(!name || strstr(tables[at]->expected, name), "an expected name", (long long)at, number);
@@ -1219,6 +1260,7 @@ static void names(void)
     check(fots_number_named(tables[0], "later", 5) == FOTS_LATER && fots_number_named(tables[0], "laterx", 6) == FOTS_NO_NUMBER, "policies", 0, 0);
     check(fots_number_named(tables[1], "quarter", 7) == FOTS_QUARTER && fots_number_named(tables[2], "half even", 9) == FOTS_HALF_EVEN, "units and modes", 0, 0);
     check(fots_number_named(tables[3], "30e/360", 7) == FOTS_THIRTY_E_360 && fots_number_named(tables[4], "preceding", 9) == FOTS_PRECEDING, "day counts and conventions", 0, 0);
+    check(fots_number_named(tables[5], "nyse", 4) == FOTS_NYSE && fots_number_named(tables[5], "de-th", 5) == FOTS_DE_TH, "calendars", 0, 0);
 }
 
 int main(void)

@@ -70,7 +70,7 @@ void dates()
 {
     const Date day = Date::from_calendar_date(2024, Month::February, 29);
     check(Date::easter(2024) == Date::parse("2024-03-31") && Date::julian_easter(2024) == Date::parse("2024-05-05"), "Easter");
-    throws([] { return Date::easter(1000000); }, FOTS_YEAR_OUT_OF_RANGE, "year was not in range", "Easter after the range");
+    throws([] { return Date::easter(1000000); }, FOTS_YEAR_OUT_OF_RANGE, "year 1000000 is out of range -999999 to 999999", "Easter after the range");
     check(day == Date::from_ordinal_date(2024, 60) && day == Date::from_iso_week_date(2024, 9, Weekday::Thursday), "made thrice");
     check(day == Date::from_julian_day(2460370) && day == Date::parse("2024-W09-4") && day == Date(day.c()), "the same day");
     check(day < Date::max() && day > Date::min() && day <= day && day >= day && !(day != day), "the order of dates");
@@ -105,25 +105,28 @@ void dates()
 
 void errors()
 {
-    throws([] { return Date::from_calendar_date(2023, 2, 29); }, FOTS_DAY_OUT_OF_RANGE, "day was not in range", "29 February of 2023");
-    throws([] { return Date::parse("2024-02-3"); }, FOTS_UNEXPECTED_END, "unexpected end at 9", "a text that ends too early");
-    throws([] { return Date::parse("2024x"); }, FOTS_UNEXPECTED_BYTE, "unexpected byte at 4", "a wrong byte");
-    throws([] { return Date::parse(""); }, FOTS_UNEXPECTED_END, "unexpected end at 0", "no text");
-    throws([] { return Date::parse(std::string_view()); }, FOTS_UNEXPECTED_END, "unexpected end at 0", "no text at all");
-    throws([] { return Time::parse("9:05x"); }, FOTS_UNEXPECTED_BYTE, "unexpected byte at 4", "a time with a letter");
-    throws([] { return Time::parse("24:00"); }, FOTS_HOUR_OUT_OF_RANGE, "hour was not in range", "24:00");
-    throws([] { return UtcOffset::parse("+01"); }, FOTS_UNEXPECTED_END, "unexpected end at 3", "an offset without minutes");
-    throws([] { return PlainDateTime::parse("2024-02-29"); }, FOTS_UNEXPECTED_END, "unexpected end at 10", "a date without a time");
-    throws([] { return PlainDateTime::parse("2023-02-29T9:05"); }, FOTS_DAY_OUT_OF_RANGE, "day was not in range", "29 February with a time");
-    throws([] { return OffsetDateTime::parse("2024-02-29T9:05"); }, FOTS_UNEXPECTED_END, "unexpected end at 15", "a time without an offset");
-    throws([] { return Date::max() + Duration::days(1); }, FOTS_RESULT_OUT_OF_RANGE, "result out of range", "a day after the last one");
-    throws([] { return Date(fots_date{FOTS_NO_VALUE}); }, FOTS_INVALID_DATE, "invalid date", "no date");
-    throws([] { return Time::from_hms(24, 0, 0); }, FOTS_HOUR_OUT_OF_RANGE, "hour was not in range", "hour 24");
-    throws([] { return Time(FOTS_NO_TIME); }, FOTS_INVALID_TIME, "invalid time", "no time");
-    throws([] { return UtcOffset::from_hms(26, 0, 0); }, FOTS_OFFSET_HOUR_OUT_OF_RANGE, "offset hour was not in range", "26 hours");
-    throws([] { return UtcOffset(fots_offset{FOTS_NO_VALUE}); }, FOTS_INVALID_OFFSET, "invalid offset", "no offset");
-    throws([] { return Duration(fots_duration{1, -1}); }, FOTS_INVALID_DURATION, "invalid duration", "no duration");
-    throws([] { return Duration::seconds(1) / 0; }, FOTS_RESULT_OUT_OF_RANGE, "result out of range", "a second by 0");
+    throws([] { return Date::from_calendar_date(2023, 2, 29); }, FOTS_DAY_OUT_OF_RANGE, "day 29 is out of range 1 to 28 (February 2023)",
+        "29 February of 2023");
+    throws([] { return Date::parse("2024-02-3"); }, FOTS_UNEXPECTED_END, "unexpected end at position 9", "a text that ends too early");
+    throws([] { return Date::parse("2024x"); }, FOTS_UNEXPECTED_BYTE, "unexpected \"x\" at position 4", "a wrong byte");
+    throws([] { return Date::parse(""); }, FOTS_UNEXPECTED_END, "unexpected end at position 0", "no text");
+    throws([] { return Date::parse(std::string_view()); }, FOTS_UNEXPECTED_END, "unexpected end at position 0", "no text at all");
+    throws([] { return Time::parse("9:05x"); }, FOTS_UNEXPECTED_BYTE, "unexpected \"x\" at position 4", "a time with a letter");
+    throws([] { return Time::parse("24:00"); }, FOTS_HOUR_OUT_OF_RANGE, "hour is out of range", "24:00");
+    throws([] { return UtcOffset::parse("+01"); }, FOTS_UNEXPECTED_END, "unexpected end at position 3", "an offset without minutes");
+    throws([] { return PlainDateTime::parse("2024-02-29"); }, FOTS_UNEXPECTED_END, "unexpected end at position 10", "a date without a time");
+    throws([] { return PlainDateTime::parse("2023-02-29T9:05"); }, FOTS_DAY_OUT_OF_RANGE, "day is out of range", "29 February with a time");
+    throws([] { return OffsetDateTime::parse("2024-02-29T9:05"); }, FOTS_UNEXPECTED_END, "unexpected end at position 15", "a time without an offset");
+    throws([] { return Date::max() + Duration::days(1); }, FOTS_RESULT_OUT_OF_RANGE, "the result is out of range, or does not exist",
+        "a day after the last one");
+    throws([] { return Date(fots_date{FOTS_NO_VALUE}); }, FOTS_INVALID_DATE, "invalid date; expected a Julian day from -363521074 to 366963559", "no date");
+    throws([] { return Time::from_hms(24, 0, 0); }, FOTS_HOUR_OUT_OF_RANGE, "hour 24 is out of range 0 to 23", "hour 24");
+    throws([] { return Time(FOTS_NO_TIME); }, FOTS_INVALID_TIME, "invalid time; expected 0 to 86399999999999 nanoseconds since midnight", "no time");
+    throws([] { return UtcOffset::from_hms(26, 0, 0); }, FOTS_OFFSET_HOUR_OUT_OF_RANGE, "offset hour 26 is out of range -25 to 25", "26 hours");
+    throws([] { return UtcOffset(fots_offset{FOTS_NO_VALUE}); }, FOTS_INVALID_OFFSET, "invalid offset; expected -93599 to 93599 seconds", "no offset");
+    throws([] { return Duration(fots_duration{1, -1}); }, FOTS_INVALID_DURATION, "invalid duration; expected -999999999 to 999999999 ns, signed like the seconds",
+        "no duration");
+    throws([] { return Duration::seconds(1) / 0; }, FOTS_RESULT_OUT_OF_RANGE, "the result is out of range, or does not exist", "a second by 0");
     try {
         static_cast<void>(Date::from_calendar_date(2023, 2, 29));
     } catch (const error &thrown) {
@@ -188,10 +191,12 @@ void moments()
     check(first.checked_add(Duration::seconds(INT64_MAX)) == std::nullopt, "past the last moment");
     check(first.saturating_add(Duration::seconds(INT64_MAX)) == last && last.saturating_sub(Duration::seconds(INT64_MAX)) == first, "clamped");
     check(last.checked_sub(Duration::days(1)) == last - Duration::days(1), "a day before");
-    throws([&] { return later.to_utc(); }, FOTS_RESULT_OUT_OF_RANGE, "result out of range", "no date at UTC");
-    throws([&] { return first - Duration::nanoseconds(1); }, FOTS_RESULT_OUT_OF_RANGE, "result out of range", "before the first");
-    throws([] { return OffsetDateTime::from_unix_timestamp(INT64_MAX); }, FOTS_TIMESTAMP_OUT_OF_RANGE, "timestamp was not in range", "no timestamp");
-    throws([] { OffsetDateTime(fots_moment{{0}, {0}, FOTS_NO_TIME}); }, FOTS_INVALID_MOMENT, "invalid moment", "no moment");
+    throws([&] { return later.to_utc(); }, FOTS_RESULT_OUT_OF_RANGE, "the result is out of range, or does not exist", "no date at UTC");
+    throws([&] { return first - Duration::nanoseconds(1); }, FOTS_RESULT_OUT_OF_RANGE, "the result is out of range, or does not exist", "before the first");
+    throws([] { return OffsetDateTime::from_unix_timestamp(INT64_MAX); },
+        FOTS_TIMESTAMP_OUT_OF_RANGE, "timestamp 9223372036854775807 is out of range -31619087596800 to 31494784780799", "no timestamp");
+    throws([] { OffsetDateTime(fots_moment{{0}, {0}, FOTS_NO_TIME}); }, FOTS_INVALID_MOMENT, "invalid moment; expected a valid date, time and offset",
+        "no moment");
 }
 
 void schedule()
@@ -211,7 +216,8 @@ void schedule()
     check(march.overlaps(later) && march.intersection(later) == DateRange(later.start(), march.end()), "common days");
     const DateRange touching(leap, march.start());
     check(!march.overlaps(touching) && march.intersection(touching) == std::nullopt && touching != march, "no common days");
-    throws([&] { return DateRange(march.end(), march.start()); }, FOTS_INVALID_RANGE, "invalid range", "an end before the start");
+    throws([&] { return DateRange(march.end(), march.start()); }, FOTS_INVALID_RANGE, "invalid range; expected two dates, and no end before the start",
+        "an end before the start");
     check(leap.first_of_month() == Date::parse("2024-02-01") && leap.last_of_month() == leap, "the ends of the month");
     check(leap.first_of_quarter() == Date::parse("2024-01-01") && leap.last_of_quarter() == Date::parse("2024-03-31")
         && leap.quarter() == 1, "the quarter");
@@ -223,7 +229,8 @@ void schedule()
     check(leap.on_or_after(Weekday::Monday) == Date::parse("2024-03-04") && leap.on_or_before(Weekday::Thursday) == leap, "a weekday");
     const YearFraction fraction = Date::parse("2003-11-01").day_count(Date::parse("2004-05-01"), DayCount::ActualActual);
     check(fraction.numerator == 61 * 366 + 121 * 365 && fraction.denominator == 133590, "the memorandum of the ISDA");
-    throws([] { return Date::nth_weekday_of_month(2024, Month::November, Weekday::Thursday, 5); }, FOTS_WEEKDAY_OUT_OF_RANGE, "weekday was not in range", "a fifth");
+    throws([] { return Date::nth_weekday_of_month(2024, Month::November, Weekday::Thursday, 5); }, FOTS_WEEKDAY_OUT_OF_RANGE, "weekday is out of range",
+        "a fifth");
 }
 
 void workdays()
@@ -240,8 +247,13 @@ void workdays()
     check(Workdays(std::array<bool, 7>{}, {}).next_workday(friday) == std::nullopt, "no working day");
     const Workdays target = Workdays::of(Calendar::Target, Date::parse("2024-01-01"), Date::parse("2024-12-31"));
     check(target.next_workday(Date::parse("2024-03-28")) == Date::parse("2024-04-02"), "after Maundy Thursday");
+    const Workdays bank = Workdays::from_rules("easter-2\n# Christmas\n12-25 SA-1 SU+1\n", Date::parse("2020-01-01"), Date::parse("2024-12-31"));
+    check(bank.next_workday(Date::parse("2024-03-28")) == Date::parse("2024-04-01"), "after Good Friday");
+    check(!bank.is_workday(Date::parse("2021-12-24")) && bank.is_workday(Date::parse("2021-12-27")), "a Christmas on Saturday");
+    throws([] { return Workdays::from_rules("12-25\n12-32", Date::parse("2024-01-01"), Date::parse("2024-12-31")); }, FOTS_INVALID_HOLIDAY_RULE,
+        "invalid rule of a holiday at position 6; expected a day, years or a move", "32 December");
     throws([] { return Workdays::of(Calendar::UsFederal, Date::parse("1971-01-01"), Date::parse("2099-12-31")); }, FOTS_TOO_MANY_HOLIDAYS,
-        "too many holidays", "the holidays of 129 years");
+        "too many holidays; expected at most 1024", "the holidays of 129 years");
     throws([&] { return Workdays({labor_day, labor_day}); }, FOTS_INVALID_HOLIDAYS, "holidays[1] is not after holidays[0]", "a holiday twice");
     throws([&] { return Workdays({friday, labor_day, tuesday, labor_day}); }, FOTS_INVALID_HOLIDAYS, "holidays[3] is not after holidays[2]", "holidays out of order");
 }
@@ -283,22 +295,22 @@ void recurrences()
     for (const std::size_t length : std::initializer_list<std::size_t>{FOTS_MAX_VALUES + 1, 64, 100000}) {
         Rule many(Date::parse("1997-08-05"), Frequency::Weekly);
         many.months.assign(length, Month::August);
-        throws([&] { return many.first(); }, FOTS_TOO_MANY_PARTS, "too many parts", "months");
+        throws([&] { return many.first(); }, FOTS_TOO_MANY_PARTS, "too many values in a list of a rule; expected at most 62", "months");
         many.months.resize(FOTS_MAX_VALUES, Month::August);
         many.month_days.assign(length, 5);
-        throws([&] { return many.contains(many.start); }, FOTS_TOO_MANY_PARTS, "too many parts", "days of the month");
+        throws([&] { return many.contains(many.start); }, FOTS_TOO_MANY_PARTS, "too many values in a list of a rule; expected at most 62", "days of the month");
         many.month_days.resize(FOTS_MAX_VALUES);
         many.weekdays.assign(length, Weekday::Tuesday);
-        throws([&] { return many.next_after(many.start); }, FOTS_TOO_MANY_PARTS, "too many parts", "weekdays");
+        throws([&] { return many.next_after(many.start); }, FOTS_TOO_MANY_PARTS, "too many values in a list of a rule; expected at most 62", "weekdays");
         many.weekdays.resize(FOTS_MAX_VALUES, Weekday::Tuesday);
         many.weeks.assign(length, 32);
-        throws([&] { return many.first(); }, FOTS_TOO_MANY_PARTS, "too many parts", "weeks");
+        throws([&] { return many.first(); }, FOTS_TOO_MANY_PARTS, "too many values in a list of a rule; expected at most 62", "weeks");
         many.weeks.resize(FOTS_MAX_VALUES);
         many.year_days.assign(length, 217);
-        throws([&] { return many.first(); }, FOTS_TOO_MANY_PARTS, "too many parts", "days of the year");
+        throws([&] { return many.first(); }, FOTS_TOO_MANY_PARTS, "too many values in a list of a rule; expected at most 62", "days of the year");
         many.year_days.resize(FOTS_MAX_VALUES);
         many.set_positions.assign(length, 1);
-        throws([&] { return many.first(); }, FOTS_TOO_MANY_PARTS, "too many parts", "positions");
+        throws([&] { return many.first(); }, FOTS_TOO_MANY_PARTS, "too many values in a list of a rule; expected at most 62", "positions");
         many.set_positions.resize(FOTS_MAX_VALUES);
         check(many.first() == many.start, "62 values");
     }
@@ -310,10 +322,10 @@ void recurrences()
     check(fridays.first_days(9) == dates({"2023-12-25", "2024-02-01", "2024-02-23", "2024-02-29", "2024-03-29", "2024-04-26", "2024-06-28"}), "RDATE, EXDATE");
     check(fridays.contains(fridays.dates[1]) && !fridays.contains(fridays.exceptions[1]), "a day and an exception");
     fridays.dates.assign(FOTS_MAX_DATES + 1, fridays.start);
-    throws([&] { return fridays.first(); }, FOTS_TOO_MANY_DATES, "too many dates", "dates");
+    throws([&] { return fridays.first(); }, FOTS_TOO_MANY_DATES, "too many dates or exceptions of a rule; expected at most 1024", "dates");
     fridays.dates.clear();
     fridays.exceptions.assign(FOTS_MAX_DATES + 1, fridays.start);
-    throws([&] { return fridays.first(); }, FOTS_TOO_MANY_DATES, "too many dates", "exceptions");
+    throws([&] { return fridays.first(); }, FOTS_TOO_MANY_DATES, "too many dates or exceptions of a rule; expected at most 1024", "exceptions");
     Rule third(Date::parse("1997-09-04"), Frequency::Monthly);
     third.weekdays = {Weekday::Tuesday, Weekday::Wednesday, Weekday::Thursday};
     third.set_positions = {3};
@@ -356,14 +368,14 @@ void recurrences()
     std::ostringstream printed;
     printed << by_text;
     check(printed.str() == by_text.text() && by_text.text() == "FREQ=MONTHLY;COUNT=6;BYDAY=-2MO", "printed");
-    throws([] { return Recurrence::parse("FREQ=DAILY;UNTIL=20241231;COUNT=3"); }, FOTS_DUPLICATE_PART, "duplicate COUNT at 26", "two ends");
-    throws([] { return Recurrence::parse(""); }, FOTS_UNKNOWN_PART, "unknown part at 0", "no text");
+    throws([] { return Recurrence::parse("FREQ=DAILY;UNTIL=20241231;COUNT=3"); }, FOTS_DUPLICATE_PART, "duplicate COUNT at position 26", "two ends");
+    throws([] { return Recurrence::parse(""); }, FOTS_UNKNOWN_PART, "unknown part at position 0", "no text");
     try {
         static_cast<void>(Recurrence::parse("FREQ=DAILY;BYDAY=XX"));
         check(false, "no weekday");
     } catch (const parse_rule_error &thrown) {
         check(thrown.part() == FOTS_RULE_BYDAY && thrown.position() == 11 && thrown.status() == FOTS_INVALID_VALUE, "the part at fault");
-        check(thrown.part_name() == std::string("BYDAY") && thrown.what() == std::string("invalid value of BYDAY at 11"), "its name");
+        check(thrown.part_name() == std::string("BYDAY") && thrown.what() == std::string("invalid value of BYDAY at position 11"), "its name");
     }
     const std::string &kept = Recurrence::parse("freq=daily").text();
     check(kept == "FREQ=DAILY", "the text of a temporary");
@@ -402,17 +414,19 @@ void zones()
     check(berlin.date_time(in_fold, Policy::Later) == OffsetDateTime::from_unix_timestamp(1729992600), "the second");
     check(OffsetDateTime::from_unix_timestamp(1729989000).in_zone(berlin).local() == in_fold, "in a zone");
     check(OffsetDateTime::from_unix_timestamp(1711846800).format(Format("%H:%M %Z"), berlin) == "03:00 CEST", "an abbreviation");
-    throws([&] { return OffsetDateTime::from_unix_timestamp(0).format(Format("%Z")); }, FOTS_UNSUPPORTED_ITEM, "unsupported item", "no zone");
-    throws([&] { return berlin.date_time(in_gap, Policy::Reject); }, FOTS_SKIPPED_TIME, "skipped time", "in a gap");
-    throws([&] { return berlin.date_time(in_fold, Policy::Reject); }, FOTS_REPEATED_TIME, "repeated time", "in a fold");
+    throws([&] { return OffsetDateTime::from_unix_timestamp(0).format(Format("%Z")); },
+        FOTS_UNSUPPORTED_ITEM, "the format shows something that the value doesn't have", "no zone");
+    throws([&] { return berlin.date_time(in_gap, Policy::Reject); }, FOTS_SKIPPED_TIME, "the clocks of the zone skip the date and time", "in a gap");
+    throws([&] { return berlin.date_time(in_fold, Policy::Reject); }, FOTS_REPEATED_TIME, "the clocks of the zone show the date and time twice", "in a fold");
     check(berlin.offsets({1711846799, 1711846800}) == std::vector<std::int32_t>{3600, 7200} && berlin.offsets({}).empty(), "a column of offsets");
     const InstantColumn instants = berlin.instants({1711852200, 1729996200, 1719801000});
     check(instants.seconds == std::vector<std::int64_t>{1711848600, 1729989000, 1719793800} && instants.errors == 0, "a column of instants");
     const InstantColumn rejected = berlin.instants({1711852200, 1729996200, 1719801000}, Policy::Reject);
     check(rejected.statuses == std::vector<std::uint8_t>{FOTS_SKIPPED_TIME, FOTS_REPEATED_TIME, FOTS_OK} && rejected.errors == 2, "rejected");
     check(rejected.seconds[2] == 1719793800 && berlin.instants({}).errors == 0, "the others");
-    throws([] { return Zone::from_posix("CET"); }, FOTS_INVALID_POSIX_OFFSET, "invalid POSIX offset at 3", "no offset");
-    throws([] { return Zone::from_bytes("TZif"); }, FOTS_UNEXPECTED_END, "unexpected end at 4", "no header");
+    throws([] { return Zone::from_posix("CET"); }, FOTS_INVALID_POSIX_OFFSET, "invalid POSIX offset at position 3; expected an offset of at most 24 hours",
+        "no offset");
+    throws([] { return Zone::from_bytes("TZif"); }, FOTS_UNEXPECTED_END, "unexpected end at position 4", "no header");
 }
 
 // The instants are those of GNU date, and the moves those of Temporal.
@@ -426,7 +440,8 @@ void zoned()
     check(ZonedDateTime::from_unix_duration(Duration::seconds(1711846800), berlin) == start && &start.zone() == &berlin, "at an instant");
     check(start.unix_timestamp() == 1711846800 && start.in_zone(utc) == start && start.in_zone(utc).time() == Time::from_hms(1, 0, 0), "another zone");
     check(ZonedDateTime::from_local(in_gap, berlin).time() == Time::from_hms(3, 30, 0), "in a gap");
-    throws([&] { return ZonedDateTime::from_local(in_gap, berlin, Policy::Reject); }, FOTS_SKIPPED_TIME, "skipped time", "rejected");
+    throws([&] { return ZonedDateTime::from_local(in_gap, berlin, Policy::Reject); }, FOTS_SKIPPED_TIME, "the clocks of the zone skip the date and time",
+        "rejected");
     const ZonedDateTime second = ZonedDateTime::from_local(in_fold, berlin, Policy::Later);
     check(second.unix_timestamp() == 1729992600 && second.with_time(Time::from_hms(2, 45, 0)) - second == Duration::minutes(15), "in a fold");
     check(start - Duration::minutes(30) < start && (start - Duration::minutes(30)).time() == Time::from_hms(1, 30, 0), "half an hour earlier");
@@ -460,14 +475,16 @@ void rounding()
     check(local.round(Duration::minutes(30), RoundingMode::HalfCeil).time() == Time::from_hms(3, 30, 0), "a local date-time");
     check(local.assume_utc().round(Duration::hours(24), RoundingMode::Ceil).date() == Date::parse("1995-12-08"), "a date-time at an offset");
     check(Duration::seconds(-90).round(Duration::minutes(1), RoundingMode::HalfEven) == Duration::minutes(-2), "a duration");
-    throws([&] { return time.round(Duration::minutes(7), RoundingMode::Ceil); }, FOTS_INVALID_ROUNDING_UNIT, "invalid rounding unit", "7 minutes");
+    throws([&] { return time.round(Duration::minutes(7), RoundingMode::Ceil); },
+        FOTS_INVALID_ROUNDING_UNIT, "invalid rounding unit; expected a positive duration, which divides 24 h for times of day", "7 minutes");
     const Zone angeles = Zone::from_posix("PST8PDT,M4.1.0,M10.5.0"), berlin = Zone::from_posix("CET-1CEST,M3.5.0,M10.5.0/3");
     const ZonedDateTime zoned = ZonedDateTime::from_local(local, angeles);
     check(zoned.round(Duration::hours(1), RoundingMode::HalfCeil).local().time() == Time::from_hms(3, 0, 0), "in a zone to an hour");
     check(zoned.round(Duration::minutes(30), RoundingMode::HalfCeil).local().time() == Time::from_hms(3, 30, 0), "in a zone to half an hour");
     const ZonedDateTime half = ZonedDateTime::from_local({Date::parse("2024-03-31"), Time::from_hms(12, 30, 0)}, berlin);
     check(half.round(Duration::hours(24), RoundingMode::HalfCeil) == berlin.start_of_day(Date::parse("2024-04-01")), "half of a day of 23 hours");
-    throws([&] { return half.round(Duration::hours(48), RoundingMode::Ceil); }, FOTS_INVALID_ROUNDING_UNIT, "invalid rounding unit", "two days");
+    throws([&] { return half.round(Duration::hours(48), RoundingMode::Ceil); },
+        FOTS_INVALID_ROUNDING_UNIT, "invalid rounding unit; expected a positive duration, which divides 24 h for times of day", "two days");
 }
 
 // Rows as for the single calls, no rows, and columns of other lengths.
@@ -531,9 +548,12 @@ void periods()
         shifts.push_back(step);
     }
     check(shifts.size() == 3 && shifts[1] == PlainDateTime::parse("2024-02-29T09:00") && shifts[2] == PlainDateTime::parse("2024-03-31T09:00"), "repeated date-times");
-    throws([] { return DateRange::parse("2024-02-01/2024-01-01"); }, FOTS_END_BEFORE_START, "end before start", "an end before the start");
-    throws([] { return Steps<Date>::parse("R0/2024-01-31/P1M"); }, FOTS_COUNT_OUT_OF_RANGE, "count out of range", "no occurrence");
-    throws([] { return Steps<PlainDateTime>::parse("R2/P1M/2024-01-31T09:00"); }, FOTS_MISSING_START, "missing start", "no start");
+    throws([] { return DateRange::parse("2024-02-01/2024-01-01"); }, FOTS_END_BEFORE_START, "the end of the interval is before its start",
+        "an end before the start");
+    throws([] { return Steps<Date>::parse("R0/2024-01-31/P1M"); }, FOTS_COUNT_OUT_OF_RANGE, "count out of range; expected 1 to 4294967295 repetitions",
+        "no occurrence");
+    throws([] { return Steps<PlainDateTime>::parse("R2/P1M/2024-01-31T09:00"); }, FOTS_MISSING_START, "missing start; expected the start of the interval to repeat",
+        "no start");
     const PlainDateTime night(january, Time::from_hms(23, 30, 0));
     check(night.checked_add_period(Period(0, 1, 0, 0, Duration::hours(2))) == PlainDateTime(Date::parse("2024-03-01"), Time::from_hms(1, 30, 0)), "a pair");
     check(night.period_until({Date::parse("2024-03-01"), Time(0)}, CalendarUnit::Month) == Period(0, 1, 0, 0, Duration::minutes(30)), "the period between pairs");
@@ -560,10 +580,11 @@ void periods()
     check(is_rejected, "steps of nothing");
     check(Period::parse("P1Y2M3W4DT5H") == Period(1, 2, 3, 4, Duration::hours(5)) && all.text() == "P1Y2M3W4DT5H", "a period in text");
     check(Duration::parse("-PT90M") == Duration::minutes(-90) && Duration::minutes(-90).text() == "-PT1H30M", "a duration in text");
-    throws([] { return Period::parse("P1"); }, FOTS_UNEXPECTED_END, "unexpected end at 2", "a period that ends too early");
-    throws([] { return Period::parse("P2147483648D"); }, FOTS_DAYS_OUT_OF_RANGE, "days was not in range", "too many days");
-    throws([] { return Period(1, -1, 0, 0); }, FOTS_INVALID_PERIOD, "invalid period", "two signs");
-    throws([&] { return january.checked_add_period(Period::from_duration(Duration::hours(1))); }, FOTS_PERIOD_HAS_DURATION, "period has a duration", "a date and a duration");
+    throws([] { return Period::parse("P1"); }, FOTS_UNEXPECTED_END, "unexpected end at position 2", "a period that ends too early");
+    throws([] { return Period::parse("P2147483648D"); }, FOTS_DAYS_OUT_OF_RANGE, "days are out of range", "too many days");
+    throws([] { return Period(1, -1, 0, 0); }, FOTS_INVALID_PERIOD, "invalid period; expected parts of one sign and a valid duration", "two signs");
+    throws([&] { return january.checked_add_period(Period::from_duration(Duration::hours(1))); },
+        FOTS_PERIOD_HAS_DURATION, "a date has no time of day, so a period of it has no duration", "a date and a duration");
 }
 
 // Zones by name, if the system has files.
@@ -615,18 +636,22 @@ void formats()
     check(OffsetDateTime::parse("29/feb/2024:23:59:59 +0530", LenientFormat(Format("%d/%b/%Y:%T %z"))) == night, "one at an offset");
     check(Date::parse_iso("2024W094") == day && Date::parse_iso("20240229") == day && Time::parse_iso("T232050,5") == Time::parse("23:20:50.5"), "texts of ISO 8601");
     check(PlainDateTime::parse_iso("20240229T235959") == night.local() && OffsetDateTime::parse_iso("20240229T235959+0530") == night, "date-times of ISO 8601");
-    throws([] { return Date::parse_iso("198504-12"); }, FOTS_UNEXPECTED_BYTE, "unexpected byte at 6", "two formats of ISO 8601");
-    throws([] { return Date::parse("20240229", LenientFormat(Format("%Y%m%d"))); }, FOTS_INSUFFICIENT_FORMAT, "insufficient format", "no space between numbers");
-    throws([] { return Date::parse("29.02.2024", Format("%d/%m/%Y")); }, FOTS_UNEXPECTED_BYTE, "unexpected byte at 2", "a wrong byte");
+    check(Time::parse_iso("T232050,5" + std::string(39, '0')) == Time::parse("23:20:50.5"), "40 digits of a fraction");
+    throws([] { return Date::parse_iso("198504-12"); }, FOTS_UNEXPECTED_BYTE, "unexpected \"-\" at position 6", "two formats of ISO 8601");
+    throws([] { return Date::parse("20240229", LenientFormat(Format("%Y%m%d"))); }, FOTS_INSUFFICIENT_FORMAT, "the texts of a format don't determine such a value",
+        "no space between numbers");
+    throws([] { return Date::parse("29.02.2024", Format("%d/%m/%Y")); }, FOTS_UNEXPECTED_BYTE, "unexpected \".\" at position 2", "a wrong byte");
     throws([] { return Date::parse("Wed 2024-02-29", Format("%a %F")); }, FOTS_CONTRADICTION, "weekday contradicts the other components",
         "a wrong weekday");
-    throws([] { return Date::parse("02", Format("%m")); }, FOTS_INSUFFICIENT_FORMAT, "insufficient format", "a month only");
-    throws([] { return Format("ab%"); }, FOTS_UNKNOWN_ITEM, "unknown item '%' at 2", "no item");
-    throws([] { return Format("%F %-Q!"); }, FOTS_UNKNOWN_ITEM, "unknown item '%-Q' at 3", "a wrong letter");
-    throws([] { return Format::from_description("[day] [wekday]"); }, FOTS_UNKNOWN_ITEM, "unknown item '[wekday]' at 6", "a wrong component");
-    throws([] { return Format("a\xff"); }, FOTS_UNEXPECTED_BYTE, "unexpected byte at 1", "no UTF-8");
-    throws([] { return Format(std::string(65, 'a')); }, FOTS_TOO_MANY_ITEMS, "too many items", "65 items");
-    throws([day] { return day.format(Format("%H")); }, FOTS_UNSUPPORTED_ITEM, "unsupported item", "the hour of a date");
+    throws([] { return Date::parse("02", Format("%m")); }, FOTS_INSUFFICIENT_FORMAT, "the texts of a format don't determine such a value", "a month only");
+    throws([] { return Date::parse("2/29/24", Format("%-m/%-d/%y")); }, FOTS_INSUFFICIENT_FORMAT, "\"%y\" has no century: use %Y or a pivot", "two digits");
+    throws([] { return Time::parse("10:30", Format("%I:%M")); }, FOTS_INSUFFICIENT_FORMAT, "\"%I\" has no half of the day: use %H or add %p", "no half");
+    throws([] { return Format("ab%"); }, FOTS_UNKNOWN_ITEM, "unknown item \"%\" at position 2", "no item");
+    throws([] { return Format("%F %-Q!"); }, FOTS_UNKNOWN_ITEM, "unknown item \"%-Q\" at position 3", "a wrong letter");
+    throws([] { return Format::from_description("[day] [wekday]"); }, FOTS_UNKNOWN_ITEM, "unknown item \"[wekday]\" at position 6", "a wrong component");
+    throws([] { return Format("a\xff"); }, FOTS_UNEXPECTED_BYTE, "unexpected byte 0xFF at position 1", "no UTF-8");
+    throws([] { return Format(std::string(65, 'a')); }, FOTS_TOO_MANY_ITEMS, "too many items in a format; expected at most 64", "65 items");
+    throws([day] { return day.format(Format("%H")); }, FOTS_UNSUPPORTED_ITEM, "the format shows something that the value doesn't have", "the hour of a date");
 }
 
 #if __cplusplus >= 202002L
@@ -639,9 +664,10 @@ void days_of_chrono()
     check(Date::from_sys_days(sys_days{}) == Date::parse("1970-01-01"), "the first day of Unix time");
     check(Date::from_sys_days(Date::max().to_sys_days()) == Date::max()
         && Date::from_sys_days(Date::min().to_sys_days()) == Date::min(), "the ends");
-    throws([] { return Date::from_sys_days(Date::max().to_sys_days() + days(1)); }, FOTS_JULIAN_DAY_OUT_OF_RANGE, "julian_day was not in range",
-        "past the last day");
-    throws([] { return Date::from_sys_days(sys_days::max()); }, FOTS_JULIAN_DAY_OUT_OF_RANGE, "julian_day was not in range", "the last day of chrono");
+    throws([] { return Date::from_sys_days(Date::max().to_sys_days() + days(1)); }, FOTS_JULIAN_DAY_OUT_OF_RANGE,
+        "julian day 366963560 is out of range -363521074 to 366963559", "past the last day");
+    throws([] { return Date::from_sys_days(sys_days::max()); }, FOTS_JULIAN_DAY_OUT_OF_RANGE,
+        "julian day 9223372036854775807 is out of range -363521074 to 366963559", "the last day of chrono");
     // Every 89th day of the years of chrono, compared with chrono.
     for (sys_days day = sys_days(year::min() / January / 1); day <= sys_days(year::max() / December / 31); day += days(89)) {
         const year_month_day calendar(day);
@@ -685,7 +711,8 @@ void times_of_day()
     check(nights.next_moments(berlin, at("2024-01-01", 0, 0).assume_utc(), 2, cursor) == std::vector<OffsetDateTime>{moments[0], moments[1]}
         && nights.next_moments(berlin, moments[1], 2, cursor) == std::vector<OffsetDateTime>{moments[2]}, "pages in Berlin");
     nights.dates.assign(FOTS_MAX_DATES + 1, nights.start);
-    throws([&] { return nights.readings_from(nights.start, 1); }, FOTS_TOO_MANY_DATES, "too many dates", "too many readings");
+    throws([&] { return nights.readings_from(nights.start, 1); }, FOTS_TOO_MANY_DATES, "too many dates or exceptions of a rule; expected at most 1024",
+        "too many readings");
 }
 
 // Events of RFC 5545 and of other calendars; clients/c/events.c has more of them.
@@ -711,15 +738,17 @@ void events_of_files()
     check(events("").empty() && events(std::string_view()).empty() && found[0].days_from(Date::max(), 0).empty(), "no events and no days");
     throws([&] { return found[0].readings_from(at("1997-11-02", 0, 0), 1); }, FOTS_WRONG_KIND, "wrong kind of value in DTSTART", "readings of dates");
     throws([&] { return found[2].days_from(Date::min(), 1); }, FOTS_WRONG_KIND, "wrong kind of value in DTSTART", "days of times");
-    throws([] { return events("BEGIN:VEVENT\nEND:VEVENT\nX:1\nBEGIN:VEVENT\n"); }, FOTS_UNCLOSED_EVENT, "unclosed event at 28", "an event without an end");
-    throws([] { return events("BEGIN:VEVENT\nEND:VEVENT\nBEGIN:VEVENT\nEND:VTODO"); }, FOTS_OTHER_END, "other end of an event at 37", "another end");
-    throws([] { return Event("UID:1\n").kind(); }, FOTS_MISSING_START, "missing start at 6", "no DTSTART");
+    throws([] { return events("BEGIN:VEVENT\nEND:VEVENT\nX:1\nBEGIN:VEVENT\n"); }, FOTS_UNCLOSED_EVENT, "unclosed event at position 28; expected a line END:VEVENT",
+        "an event without an end");
+    throws([] { return events("BEGIN:VEVENT\nEND:VEVENT\nBEGIN:VEVENT\nEND:VTODO"); }, FOTS_OTHER_END, "other end of an event at position 37; expected END:VEVENT",
+        "another end");
+    throws([] { return Event("UID:1\n").kind(); }, FOTS_MISSING_START, "missing start at position 6", "no DTSTART");
     try {
         static_cast<void>(Event("DTSTART:20240101\nRDATE:x\n").zone());
         check(false, "an invalid RDATE");
     } catch (const parse_event_error &thrown) {
         check(thrown.status() == FOTS_INVALID_VALUE && thrown.line() == FOTS_EVENT_RDATE && thrown.position() == 17, "an invalid RDATE");
-        check(thrown.what() == std::string("invalid value in RDATE at 17"), "the message of an invalid RDATE");
+        check(thrown.what() == std::string("invalid value in RDATE at position 17"), "the message of an invalid RDATE");
     }
 }
 

@@ -95,6 +95,8 @@ CREATE FUNCTION cal_start_of(date, unit text) RETURNS date
 CREATE FUNCTION cal_end_of(date, unit text) RETURNS date
     AS 'MODULE_PATHNAME' LANGUAGE C IMMUTABLE STRICT PARALLEL SAFE;
 
+CREATE FUNCTION cal_holidays(rules text, first date DEFAULT '1990-01-01', last date DEFAULT '2059-12-31') RETURNS date[]
+    AS 'MODULE_PATHNAME' LANGUAGE C IMMUTABLE STRICT PARALLEL SAFE;
 CREATE FUNCTION cal_workdays(start date, stop date, holidays date[] DEFAULT '{}', weekmask integer DEFAULT 31) RETURNS integer
     AS 'MODULE_PATHNAME' LANGUAGE C IMMUTABLE STRICT PARALLEL SAFE;
 CREATE FUNCTION cal_add_workdays(date, days integer, holidays date[] DEFAULT '{}', weekmask integer DEFAULT 31) RETURNS date

@@ -19,14 +19,9 @@ static int code_of(int32 status)
     }
 }
 
-static const char *out_of_range(int32 status)
-{
-    return sql_is_component(status) ? " out of range" : "";
-}
-
 void fail(const char *what, int32 status)
 {
-    ereport(ERROR, (errcode(code_of(status)), errmsg("%s: %s%s", what, fots_status_name(status), out_of_range(status))));
+    ereport(ERROR, (errcode(code_of(status)), errmsg("%s: %s", what, fots_error_text(status).bytes)));
 }
 
 void reason_of(char bytes[SQL_REASON_BYTES], const text *value, int32 status, size_t position)

@@ -1,6 +1,7 @@
 /* Functions of working days. */
 #include "values.h"
 
+#include "catalog/pg_type.h"
 #include "utils/array.h"
 #include "utils/memutils.h"
 
@@ -132,4 +133,21 @@ Datum cal_adjust(PG_FUNCTION_ARGS)
     const uint32 convention = GET_NUMBER(fots_convention_names(), 1);
     RETURN_INFINITE_DATE(0);
     PG_RETURN_DATEADT(from_date("adjust", fots_workdays_view_adjust(workdays(fcinfo, 2), GET_DATE(0), convention)));
+}
+
+PG_FUNCTION_INFO_V1(cal_holidays);
+Datum cal_holidays(PG_FUNCTION_ARGS)
+{
+    const text *const value = PG_GETARG_TEXT_PP(0);
+    fots_date days[FOTS_MAX_HOLIDAYS];
+    Datum dates[FOTS_MAX_HOLIDAYS];
+    const fots_holidays_result found
+        = sql_holidays(VARDATA_ANY(value), (size_t)VARSIZE_ANY_EXHDR(value), GET_DATE(1), GET_DATE(2), days);
+    if (found.status != FOTS_OK) {
+        fail_text("holidays", value, found.status, found.position);
+    }
+    for (int at = 0; at < found.number; at++) {
+        dates[at] = DateADTGetDatum(from_date("holidays", (fots_date_result){FOTS_OK, days[at]}));
+    }
+    PG_RETURN_ARRAYTYPE_P(construct_array(dates, found.number, DATEOID, sizeof(DateADT), true, TYPALIGN_INT));
 }

@@ -40,19 +40,17 @@ static inline enum sql_error sql_error_of(int32_t status)
     }
 }
 
-#define SQL_REASON_BYTES 96
+#define SQL_REASON_BYTES sizeof(((fots_sentence *)0)->bytes)
 
-/* Writes why a string isn't valid, such as "day out of range". `character` is the one at the position,
- * counted from 1, or 0 if the error has no position. */
+/* Writes why a string isn't valid, such as "day is out of range". `character` is the one at the
+ * position, counted from 1, or 0 if the error has no position. */
 static inline void sql_reason(char bytes[SQL_REASON_BYTES], int32_t status, size_t position, size_t character)
 {
-    const char *const name = fots_status_name(status);
-    if (status == FOTS_CONTRADICTION) {
-        snprintf(bytes, SQL_REASON_BYTES, "%s contradicts the other components", fots_status_name((int32_t)position));
-    } else if (character > 0) {
-        snprintf(bytes, SQL_REASON_BYTES, "%s at character %llu", name, (unsigned long long)character);
+    if (status == FOTS_CONTRADICTION || character == 0) {
+        const fots_sentence sentence = fots_parse_error_text(status, status == FOTS_CONTRADICTION ? position : SIZE_MAX, "", 0);
+        memcpy(bytes, sentence.bytes, sizeof sentence.bytes);
     } else {
-        snprintf(bytes, SQL_REASON_BYTES, "%s%s", name, sql_is_component(status) ? " out of range" : "");
+        snprintf(bytes, SQL_REASON_BYTES, "%s at character %llu", fots_status_name(status), (unsigned long long)character);
     }
 }
 

@@ -1,4 +1,4 @@
-/* Functions that return rows: series by a period, and recurrences. Their arguments are hidden columns.
+/* Functions that return rows: series by a period, recurrences and holidays. Their arguments are hidden columns.
  *
  * A step that finds no row yet is shown as a row of NULLs. SQLite drops it, since it compares the
  * first argument itself, and between two rows a program can stop the query. */
@@ -7,12 +7,13 @@ SQLITE_EXTENSION_INIT3
 
 #include <string.h>
 
+#include "../sql/holidays.h"
 #include "../sql/series.h"
 #include "fotsevindre_zones.h"
 
 #define ARGUMENTS 7
 
-enum kind { SERIES, DAYS, TIMES };
+enum kind { SERIES, DAYS, TIMES, HOLIDAYS };
 
 typedef struct table_kind {
     const char *name;
@@ -33,6 +34,7 @@ static const table_kind kinds[] = {
     {"cal_times_zoned",
         "CREATE TABLE x(instant, local TEXT, rule HIDDEN, start HIDDEN, zone HIDDEN, first HIDDEN, last HIDDEN, rdates HIDDEN, exdates HIDDEN)",
         TIMES, SQL_INSTANT, 2, 3},
+    {"cal_holidays", "CREATE TABLE x(day TEXT, rules HIDDEN, first HIDDEN, last HIDDEN)", HOLIDAYS, SQL_DATE, 1, 3},
 };
 
 typedef struct table {
@@ -44,13 +46,16 @@ typedef struct table {
 typedef struct cursor {
     sqlite3_vtab_cursor base;
     sqlite3_value *arguments[ARGUMENTS]; /* or NULL */
-    fots_moment *dates; /* of a recurrence, or NULL */
+    fots_moment *dates; /* of a recurrence or holidays, or NULL */
     enum sql_step step;
     sqlite3_int64 rowid;
     fots_moment row;
     union {
         sql_series series;
         sql_recurrence recurrence;
+        struct {
+            int next, length;
+        } holidays;
     } rows;
 } cursor;
 
@@ -302,15 +307,52 @@ static int begin_recurrence(cursor *one, const table_kind *kind)
     return add_dates(one, 4 + has_zone);
 }
 
+static int begin_holidays(cursor *one)
+{
+    const sql_text text = sql_text_of(one->arguments[0]);
+    fots_date days[FOTS_MAX_HOLIDAYS];
+    fots_holidays_result found;
+    fots_moment first, last;
+    int at;
+    if (read_moment(one, 1, SQL_DATE, &first) != SQLITE_OK || read_moment(one, 2, SQL_DATE, &last) != SQLITE_OK) {
+        return SQLITE_ERROR;
+    }
+    found = sql_holidays(text.bytes, text.length, first.date, last.date, days);
+    if (found.status != FOTS_OK) {
+        return fail(one, sql_text_message("holidays", text, found.status, found.position));
+    }
+    one->dates = sqlite3_malloc64(((size_t)found.number + 1) * sizeof *one->dates);
+    if (!one->dates) {
+        return SQLITE_NOMEM;
+    }
+    for (at = 0; at < found.number; at++) {
+        one->dates[at] = (fots_moment){days[at], {0}, 0};
+    }
+    one->rows.holidays.next = 0;
+    one->rows.holidays.length = found.number;
+    return SQLITE_OK;
+}
+
 /* ---- rows */
+
+static enum sql_step next_holiday(cursor *one)
+{
+    if (one->rows.holidays.next == one->rows.holidays.length) {
+        return SQL_END;
+    }
+    one->row = one->dates[one->rows.holidays.next++];
+    return SQL_ROW;
+}
 
 static int next(sqlite3_vtab_cursor *base)
 {
     cursor *const one = (cursor *)base;
     const table_kind *const kind = ((table *)base->pVtab)->kind;
-    int32_t status;
+    int32_t status = FOTS_OK;
     one->rowid += 1;
-    if (kind->kind == SERIES) {
+    if (kind->kind == HOLIDAYS) {
+        one->step = next_holiday(one);
+    } else if (kind->kind == SERIES) {
         one->step = sql_series_step(&one->rows.series, &one->row);
         status = one->rows.series.status;
     } else {
@@ -341,7 +383,7 @@ static int filter(sqlite3_vtab_cursor *base, int bits, const char *unused, int c
             }
         }
     }
-    status = kind->kind == SERIES ? begin_series(one, kind->form) : begin_recurrence(one, kind);
+    status = kind->kind == HOLIDAYS ? begin_holidays(one) : kind->kind == SERIES ? begin_series(one, kind->form) : begin_recurrence(one, kind);
     return status == SQLITE_OK ? next(base) : status;
 }
 

@@ -11,7 +11,7 @@ SQLITE_EXTENSION_INIT3
 
 char *sql_message(const char *what, int32_t status)
 {
-    return sqlite3_mprintf("%s: %s%s", what, fots_status_name(status), sql_is_component(status) ? " out of range" : "");
+    return sqlite3_mprintf("%s: %s", what, fots_error_text(status).bytes);
 }
 
 void sql_text_reason(char bytes[SQL_REASON_BYTES], sql_text text, int32_t status, size_t position)

@@ -94,6 +94,7 @@ const HIDDEN: &[(&str, &[&str])] = &[
         ],
     ),
     ("Date", &["from_month_index_clamped", "from_month_number_clamped"]),
+    ("Sentence", &["push", "push_number", "push_position"]),
     ("Text", &["push_to"]),
     ("Values", &["from_slice", "push"]),
     ("ParseError", &["unexpected"]),
@@ -114,7 +115,8 @@ const HIDDEN: &[(&str, &[&str])] = &[
     ("", &["scan_positive_number", "push_interval", "push_end", "push_list", "push_week_start"]),
     ("", &["date_from_numbers", "time_from_numbers", "plain_from_numbers", "moment_from_numbers"]),
     ("", &["push_fraction", "scan_more_decimals"]),
-    ("", &["print", "scan", "parse_date"]),
+    ("", &["name_at", "print", "scan"]),
+    ("", &["parse_date", "parse_time", "parse_date_time", "parse_offset_date_time"]),
     ("", &["has_room", "values_of", "put", "split", "insert_date"]),
 ];
 

@@ -19,8 +19,9 @@ use strip::{Edits, Fault, Options, Source};
 use zones::Zones;
 
 /// The libraries, as modules of the crate.
-const CRATES: [&str; 22] = [
+const CRATES: [&str; 24] = [
     "cal_units",
+    "cal_errors",
     "cal_span",
     "cal_clock",
     "cal_date",
@@ -40,6 +41,7 @@ const CRATES: [&str; 22] = [
     "cal_holidays",
     "cal_tzif",
     "cal_recurrence",
+    "cal_holiday_text",
     "cal_ics",
     "cal_c",
 ];

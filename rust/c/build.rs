@@ -10,8 +10,9 @@ use std::path::{Path, PathBuf};
 use std::process::ExitCode;
 
 /// The libraries, as modules of the crate.
-const CRATES: [&str; 20] = [
+const CRATES: [&str; 22] = [
     "cal_units",
+    "cal_errors",
     "cal_span",
     "cal_clock",
     "cal_date",
@@ -29,6 +30,7 @@ const CRATES: [&str; 20] = [
     "cal_interval",
     "cal_rounding",
     "cal_recurrence",
+    "cal_holiday_text",
     "cal_ics",
     "cal_c",
 ];

@@ -18,6 +18,7 @@ use cal_time::{Date, Month, Time, UtcOffset};
 use cal_zone::{Policy, Zone};
 use caldate_answers::reading::reader::Reader;
 use caldate_answers::reading::value_format::ValueFormat;
+use caldate_answers::reading::yearless::AssumedYear;
 use caldate_answers::reading::{DateOrder, Reading};
 use caldate_answers::request::*;
 use caldate_args::args::arguments::{BUFFER_BYTES, join};
@@ -227,7 +228,10 @@ fn filter_text(filter: &Filter<'_>) -> String {
     let readers: Vec<String> = filter.readers.as_slice().iter().map(reader_text).collect();
     parts.push(format!("read={}", readers.join(",")));
     parts.push(format!("offset={}", filter.assumptions.offset.whole_seconds()));
-    parts.push(format!("year={}", String::from_utf8_lossy(&filter.assumptions.year)));
+    parts.push(match filter.assumptions.year {
+        AssumedYear::Is(year) => format!("year={year:04}"),
+        AssumedYear::Near(date) => format!("year near {date}"),
+    });
     if let Some(clock) = &filter.clock {
         parts.push(format!("zone={} {}", zone_text(&clock.zone), policy_name(clock.policy)));
     }
@@ -287,10 +291,40 @@ fn reader_text(reader: &Reader) -> String {
 
 fn value_format_text(format: &ValueFormat) -> String {
     match format {
-        ValueFormat::Dates(format) => format!("date:{}", printed(format.as_format())),
-        ValueFormat::Moments(format) => format!("moment:{}", printed(format.as_format())),
-        ValueFormat::DateTimes(format) => format!("local:{}", printed(format.as_format())),
+        ValueFormat::Dates(_) => format!("date:{}", printed(format.as_format())),
+        ValueFormat::Moments(_) => format!("moment:{}", printed(format.as_format())),
+        ValueFormat::DateTimes(_) => format!("local:{}", printed(format.as_format())),
+        ValueFormat::Lenient(_) => {
+            let text = printed(format.as_format());
+            format!("lenient {}:{text} from {}", kind_read(format, &text), first_year(format))
+        }
     }
+}
+
+/// Returns what the format reads: a date, a moment, or a moment at any offset that is assumed.
+fn kind_read(format: &ValueFormat, text: &str) -> &'static str {
+    let other = UtcOffset::from_hms(2, 0, 0).unwrap_or(UtcOffset::UTC);
+    match format.read(other, text.as_bytes()) {
+        Some(DateOrMoment::Date(_, _)) => "date",
+        Some(DateOrMoment::Moment(_, moment)) if moment.offset() == other => "local",
+        Some(DateOrMoment::Moment(_, _)) => "moment",
+        None => "none",
+    }
+}
+
+/// Returns the first year from 0 to 9999 whose strings the format reads so.
+fn first_year(format: &ValueFormat) -> i32 {
+    let mut buffer = [0; 2048];
+    let offset = UtcOffset::from_hms(1, 0, 0).unwrap_or(UtcOffset::UTC);
+    let first = (0..10_000).find(|year| {
+        let date = Date::from_ordinal_date(*year, 60).ok().unwrap_or(Date::MIN);
+        let moment = PlainDateTime::new(date, start().time()).assume_offset(offset);
+        let length = format.as_format().print_offset_date_time(moment, &mut buffer).unwrap_or(0);
+        let read = format.read(offset, &buffer[..length]);
+        matches!(read, Some(DateOrMoment::Date(_, date)) if date.year() == *year)
+            || matches!(read, Some(DateOrMoment::Moment(_, moment)) if moment.date().year() == *year)
+    });
+    first.unwrap_or(-1)
 }
 
 /// Returns what the format prints of a moment.

@@ -12,6 +12,7 @@ fn main() -> ExitCode {
     program::write(
         &[
             "cal_units",
+            "cal_errors",
             "cal_span",
             "cal_clock",
             "cal_date",
@@ -31,6 +32,7 @@ fn main() -> ExitCode {
             "cal_holidays",
             "cal_tzif",
             "cal_recurrence",
+            "cal_holiday_text",
             "cal_ics",
             "caldate_lines",
             "caldate_answers",

@@ -1,8 +1,8 @@
 //! Names of languages. The expected values are from glibc's locales.
 
 use fotsevindre::format::Format;
-use fotsevindre::names::{Names, table};
-use fotsevindre::{Date, Month, Weekday};
+use fotsevindre::names::{Names, NamesError, table};
+use fotsevindre::{Date, Month, PlainDateTime, Time, UtcOffset, Weekday};
 
 const CODES: [&str; 12] = ["ar", "de", "en", "es", "fr", "it", "ja", "pl", "pt", "ru", "tr", "zh"];
 
@@ -101,34 +101,96 @@ const FORMATS: [&str; 20] = [
     "%B.%-d.%Y",
 ];
 
+/// Formats of times of day with the half of the day.
+const TIME_FORMATS: [&str; 6] = ["%I:%M %p", "%-I:%M%p", "%p%-I:%M", "%-I%p%M", "%p %I.%M.%S", "%I:%M:%S%.f%p"];
+
+const DATE_TIME_FORMATS: [&str; 6] =
+    ["%A, %-d %B %Y %T", "%A%F %R", "%a%H%M%d%b%Y", "%-d %B %Y %-I:%M %p", "%F%p%I:%M%A", "%B%A%-d. %Y %R"];
+
+const OFFSET_DATE_TIME_FORMATS: [&str; 5] = ["%a, %d %b %Y %T %z", "%A%s%:z", "%s%A%z", "%a%z%s", "%F %I:%M %p%:z%a"];
+
+/// Returns the formats with which the names are refused. In each of the others, each value that is
+/// printed is parsed, and no string without its last byte has the same value.
+macro_rules! refused {
+    ($formats:expr, $for_values:ident, $names:expr, $values:expr) => {{
+        let mut refused = Vec::new();
+        for format in $formats {
+            let Some(values) = Format::new(format).unwrap().$for_values() else {
+                continue;
+            };
+            let Ok(named) = values.with_names(&$names) else {
+                refused.push(format);
+                continue;
+            };
+            for value in $values {
+                let mut buffer = [0; 200];
+                let length = named.print(value, &mut buffer).unwrap();
+                assert_eq!(named.parse(&buffer[..length]), Ok(value), "{format} {:?}", $names.months);
+                assert!(named.parse(&buffer[..length - 1]).ok() != Some(value), "{format} {:?}", $names.months);
+            }
+        }
+        refused
+    }};
+}
+
+/// Returns each day of 2024, at another minute of the day.
+fn date_times() -> Vec<PlainDateTime> {
+    (1..=366)
+        .map(|day: u16| {
+            let date = Date::from_ordinal_date(2024, day).unwrap();
+            PlainDateTime::new(date, Time::from_hms((day % 24) as u8, (day % 60) as u8, 0).unwrap())
+        })
+        .collect()
+}
+
 #[test]
 fn each_name_reads_back_in_formats() {
     for code in CODES {
         let names = Names::of_language(code).unwrap();
-        let mut refused = Vec::new();
-        for format in FORMATS {
-            let Some(dates) = Format::new(format).unwrap().for_dates() else {
-                continue;
-            };
-            let Some(named) = dates.with_names(&names) else {
-                refused.push(format);
-                continue;
-            };
-            let mut date = Date::from_ordinal_date(2024, 1).unwrap();
-            for _ in 0..366 {
-                let mut buffer = [0; 200];
-                let length = named.print(date, &mut buffer).unwrap();
-                assert_eq!(named.parse(&buffer[..length]), Ok(date), "{code} {format}");
-                assert!(named.parse(&buffer[..length - 1]).ok() != Some(date), "{code} {format}");
-                date = date.next_day().unwrap();
-            }
-        }
-        // A month that begins with a digit, and a Turkish weekday that begins another one.
-        let expected: &[&str] = match code {
-            "ja" => &["%-d%B %Y"],
-            "tr" => &["%A%F"],
-            _ => &[],
-        };
+        let refused = refused!(FORMATS, for_dates, names, date_times().into_iter().map(PlainDateTime::date));
+        // Months that begin with a digit.
+        let expected: &[&str] = if code == "ja" { &["%-d%B %Y"] } else { &[] };
         assert_eq!(refused, expected, "{code}");
     }
+}
+
+#[test]
+fn each_name_of_a_time_reads_back_in_formats() {
+    let offset = UtcOffset::from_hms(-5, -30, 0).unwrap();
+    for code in CODES {
+        let names = Names::of_language(code).unwrap();
+        // Without names for the halves of the day, 7 in the morning is 7 in the evening.
+        let has_periods = ["ar", "en", "ja", "tr", "zh"].contains(&code);
+        let is_expected = |format: &&str| !has_periods && format.contains("%p");
+        let times = date_times().into_iter().map(PlainDateTime::time);
+        let refused = refused!(TIME_FORMATS, for_times, names, times.clone());
+        assert_eq!(refused, TIME_FORMATS.into_iter().filter(is_expected).collect::<Vec<_>>(), "{code}");
+        let refused = refused!(DATE_TIME_FORMATS, for_date_times, names, date_times());
+        assert_eq!(refused, DATE_TIME_FORMATS.into_iter().filter(is_expected).collect::<Vec<_>>(), "{code}");
+        let moments = date_times().into_iter().map(|local| local.assume_offset(offset));
+        let refused = refused!(OFFSET_DATE_TIME_FORMATS, for_offset_date_times, names, moments.clone());
+        assert_eq!(refused, OFFSET_DATE_TIME_FORMATS.into_iter().filter(is_expected).collect::<Vec<_>>(), "{code}");
+    }
+}
+
+/// Returns why a format for dates is refused with names.
+fn refusal<'n>(format: &str, names: &Names<'n>) -> NamesError<'n> {
+    Format::new(format).unwrap().for_dates().unwrap().with_names(names).unwrap_err()
+}
+
+#[test]
+fn a_refused_format_has_a_reason() {
+    let turkish = Names::of_language("tr").unwrap();
+    let pazar = refusal("%Atesi %F", &turkish);
+    assert_eq!(pazar, NamesError::AmbiguousNames { item: 0, name: "Pazar", other: "Pazartesi" });
+    assert_eq!(pazar.to_string(), "\"Pazar\" of item 0 can go on to \"Pazartesi\"");
+    let cuma = refusal("%F %Artesi", &turkish);
+    assert_eq!(cuma, NamesError::AmbiguousNames { item: 6, name: "Cuma", other: "Cumartesi" });
+    let japanese = refusal("%-d%B %Y", &Names::of_language("ja").unwrap());
+    assert_eq!(japanese, NamesError::AmbiguousNumber { item: 0, byte: b'1' });
+    assert_eq!(japanese.to_string(), "item 0 can go on with '1'");
+    let french = Format::new("%I:%M %p").unwrap().for_times().unwrap();
+    let french = french.with_names(&Names::of_language("fr").unwrap()).unwrap_err();
+    assert_eq!(french, NamesError::AmbiguousNames { item: 4, name: "", other: "" });
+    assert_eq!(french.to_string(), "two names of item 4 are \"\"");
 }

@@ -345,6 +345,25 @@ NEW(offset, const State *state, state->offset)
 NEW(duration, const State *state, state->duration)
 NEW(period, const State *state, state->period)
 
+static PyObject *new_sentence(const State *Py_UNUSED(state), fots_sentence sentence)
+{
+    return PyUnicode_FromStringAndSize(sentence.bytes, (Py_ssize_t)sentence.length);
+}
+
+/* Returns the sentence of a component with a value, in a year and a month. */
+static fots_sentence core_component_text(int32_t status, int64_t value, int64_t year, int64_t month)
+{
+    int64_t values[sizeof(fots_components) / sizeof value];
+    fots_components components;
+    for (size_t index = 0; index < sizeof values / sizeof value; index++) {
+        values[index] = value;
+    }
+    memcpy(&components, values, sizeof components);
+    components.year = status == FOTS_YEAR_OUT_OF_RANGE ? value : year;
+    components.month = status == FOTS_MONTH_OUT_OF_RANGE ? value : month;
+    return fots_component_error_text(status, &components);
+}
+
 /* Returns the year, the Month and the day, quicker than Py_BuildValue. */
 static PyObject *tuple_of(const State *state, fots_calendar_date_result date)
 {

@@ -70,6 +70,23 @@ static PyObject *core_calendar_holidays(PyObject *self, PyObject *const *given, 
         list_of_date(state, holidays, (size_t)result.number);
 }
 
+/* Returns the holidays of rules from one day through another. */
+static PyObject *core_rules_holidays(PyObject *self, PyObject *const *given, Py_ssize_t count)
+{
+    const State *state = state_of_module(self);
+    fots_date first, last, holidays[FOTS_MAX_HOLIDAYS];
+    Text text = {NULL, NULL, 0};
+    if (!is_count("rules_holidays", count, 3) || !to_date(state, given[1], &first) ||
+        !to_date(state, given[2], &last) || !to_text(state, given[0], &text)) {
+        return NULL;
+    }
+    fots_holidays_result result = fots_rules_holidays(text.start, text.length, first, last,
+        holidays, FOTS_MAX_HOLIDAYS);
+    size_t position = release(&text, result.status, result.position);
+    return result.status ? raise_position(state, result.status, position, 0) :
+        list_of_date(state, holidays, (size_t)result.number);
+}
+
 /* Converts a cursor, which is a tuple of its numbers. */
 static int to_cursor(PyObject *tuple, fots_recurrence_cursor *cursor)
 {

@@ -276,6 +276,8 @@ def status_error(status: int, position: int | None = None, part: int = 0) -> Exc
             return ParseRuleError(position, kind, PARTS[part - 1] if part else None)
         if 49 <= status <= 63:
             return ZoneError(position, NAMES[status])
+        if status == 90:
+            return ValueError(f"{NAMES[status]} at {position}")
     message = _MESSAGES.get(status, f"unknown status {status}")
     return OverflowError(message) if status in (1, 7) else ValueError(message)
 

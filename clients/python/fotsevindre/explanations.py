@@ -7,15 +7,10 @@ import string
 from typing import Any, Callable
 
 from . import _core, errors
-from ._core import Date
-from .messages import CALLS
+from .messages import CALLS, NAMES
 
-# The minimum and the maximum of the components that depend on no other, and of an hour of %I.
-_RANGES = {
-    "year": (-999999, 999999), "month": (1, 12), "hour": (0, 23), "minute": (0, 59), "second": (0, 59),
-    "millisecond": (0, 999), "microsecond": (0, 999_999), "nanosecond": (0, 999_999_999), "weekday": (1, 7), "offset hour": (-25, 25),
-    "offset minute": (-59, 59), "offset second": (-59, 59), "julian_day": (-363521074, 366963559),
-}
+# The statuses of components, and the range of an hour of %I.
+_STATUSES = {name: status for status, name in NAMES.items()}
 _HALF_DAY = (1, 12)
 # The names of arguments that differ from the names of the components.
 _ARGUMENTS = {"offset hour": "hours", "offset minute": "minutes", "offset second": "seconds"}
@@ -44,8 +39,6 @@ _REMEDIES = [
     (r"%[-_0^#]*y", r"%[-_0^#]*[YCGsFc]", '"%y" has no century: use %Y or a pivot'),
     (r"%[-_0^#]*[Il]", r"%[-_0^#]*[pP]", '"%I" has no half of the day: use %H or add %p'),
 ]
-
-Component = Callable[[str], int]
 
 
 def arguments(call: int, given: tuple[Any, ...]) -> tuple[str, dict[str, Any]]:
@@ -80,17 +73,6 @@ def _read(given: dict[str, Any]) -> dict[str, int]:
     return {name: int(one) for name, one in found.items()}
 
 
-def _range_of(name: str, component: Component) -> tuple[int, int, str]:
-    """Returns the minimum and the maximum of a component, and the month or the year that has them."""
-    if name == "day":
-        year, month = component("year"), component("month")
-        return 1, _core.days_in_year_month(year, month), f" ({Date(year, month, 1).strftime('%B')} {year})"
-    if name in ("ordinal", "week"):
-        year = component("year")
-        return 1, _core.days_in_year(year) if name == "ordinal" else _core.weeks_in_year(year), f" ({year})"
-    return *_RANGES[name], ""
-
-
 def of_component(name: str, owner: Any, method: str, given: dict[str, Any]) -> str | None:
     """Returns the sentence of a component that is out of range: one of the arguments, of the string, or
     of the value in which a method replaces it."""
@@ -102,13 +84,22 @@ def of_component(name: str, owner: Any, method: str, given: dict[str, Any]) -> s
         key = _ARGUMENTS.get(name, name)
         return operator.index(found[key] if key in found or "text" in given else getattr(owner, key))
 
-    value, (low, high, where) = component(name), _range_of(name, component)
+    value = component(name)
+    year = component("year") if name in ("day", "ordinal", "week") else 0
+    month = component("month") if name == "day" else 0
+    words: str = _core.component_text(_STATUSES[name], value, year, month)
     if name == "hour" and re.search(r"%[-_0]*[Il]", str(getattr(given.get("format"), "_text", given.get("format")))):
-        low, high = _HALF_DAY
+        return _outside(name, value, *_HALF_DAY)
     if name == "offset hour" and method == "parse_rfc3339":
-        low, high = -23, 23
-    # Some methods take a part of the range, of which this knows nothing.
-    return None if low <= value <= high else f"{name.replace('_', ' ')} {value} is out of range {low} to {high}{where}"
+        return _outside(name, value, -23, 23)
+    # Some methods take a part of the range, of which this knows nothing. C has numbers of 64 bits.
+    near = max(-2**63, min(value, 2**63 - 1))
+    return words.replace(str(near), str(value), 1) if " is out of range " in words else None
+
+
+def _outside(name: str, value: int, low: int, high: int) -> str | None:
+    """Returns the sentence of a component that is out of a range."""
+    return None if low <= value <= high else f"{name} {value} is out of range {low} to {high}"
 
 
 def _digits(digits: list[str]) -> list[str]:

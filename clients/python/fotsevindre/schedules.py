@@ -221,6 +221,18 @@ class Workdays(_core.Workdays):
         return super().__new__(cls, weekmask, julian_days.tobytes())
 
     @staticmethod
+    def from_rules(rules: str, first: Date = Date(1990, 1, 1), last: Date = Date(2059, 12, 31)
+                   ) -> Workdays:
+        """Monday to Friday without the holidays of rules from one date through another. Each line has
+        a rule, such as `12-25 SA-1 SU+1` or `easter-2`. An invalid rule raises `ValueError`, and so do
+        more than 1024 holidays.
+
+        >>> Workdays.from_rules("easter-2\\n2024-04-01").add_workdays(Date(2024, 3, 28), 1)
+        Date(2024, 4, 2)
+        """
+        return Workdays(holidays=_core.rules_holidays(rules, first, last))
+
+    @staticmethod
     def of(calendar: str, first: Date = Date(1990, 1, 1), last: Date = Date(2059, 12, 31)
            ) -> Workdays:
         """Monday to Friday without the holidays of a calendar from one date through another. It is

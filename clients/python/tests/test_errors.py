@@ -70,6 +70,7 @@ STRINGS = [
     (lambda: Date.parse("2023-02-2\n"), 'expected a digit at position 9, found "\\n"'),
     (lambda: Date.parse("2023-02-2\ud800"), 'expected a digit at position 9, found "\\ud800"'),
     (lambda: OffsetDateTime.parse_iso("2024-02-29T22:59:59.1234567899Z"), 'expected "0", "-", "+", " " or "Z" at position 29, found "9"'),
+    (lambda: Time.parse_iso("225959,5" + "0" * 20 + "1"), 'expected "0" or the end at position 28, found "1"'),
     (lambda: UtcOffset.parse("1:00"), 'expected "-", "+" or "Z" at position 0, found "1"'),
     (lambda: SignedDuration.parse("PT1X"), 'expected a digit, ".", ",", "H", "M" or "S" at position 3, found "X"'),
     (lambda: Date.strptime("29 xeb 2024", "%d %b %Y"), 'expected "A", "D", "F", "J", "M", "N", "O" or "S" at position 3, found "x"'),

@@ -287,6 +287,26 @@ class Months(unittest.TestCase):
         self.assertRaises(TypeError, Workdays.of, 1)
         self.assertRaises(TypeError, Workdays.of, "nyse", "2024-01-01")
 
+    def test_rules_of_holidays(self):
+        """The published holidays of Saxony in 2021 and of the United States, by rules."""
+        year = day(2021, 1, 1), day(2021, 12, 31)
+        saxony = """# Saxony\r
+            01-01\neaster-2\neaster+1\n05-01\neaster+39\neaster+50\n10-03\n10-31
+            11-WE>=16 1995..   # Buß- und Bettag
+            12-25\n12-26"""
+        self.assertEqual(Workdays.from_rules(saxony, *year), Workdays.of("de-sn", *year))
+        states = Workdays.from_rules("01-01 SA-1 SU+1\n11-4th\n05-lastmo", *year)
+        self.assertEqual([str(holiday)[5:] for holiday in states.holidays], "01-01 05-31 11-25 12-31".split())
+        self.assertEqual(Workdays.from_rules("", *year), Workdays())
+        for rules, position in (("12-25\n13-25", 6), ("12-25 # \u00df\n12-25 SA", 16), ("12-25 2009..1999", 6), ("\udc80", 0)):
+            with self.assertRaises(ValueError) as refused:
+                Workdays.from_rules(rules)
+            self.assertEqual(str(refused.exception), f"invalid rule of a holiday at {position}")
+        self.assertRaisesRegex(ValueError, "too many holidays", Workdays.from_rules, "12-25", Date.MIN, Date.MAX)
+        self.assertRaisesRegex(ValueError, "too many holidays", Workdays.from_rules, "12-25\n" * 1025)
+        self.assertRaises(TypeError, Workdays.from_rules, b"12-25")
+        self.assertRaises(TypeError, Workdays.from_rules, "12-25", "2024-01-01")
+
     def test_weekdays(self):
         self.assertEqual(Date.nth_weekday_of_month(2024, Month.November, Weekday.Thursday, 4), day(2024, 11, 28))
         fridays = [26, 23, 29, 26, 31, 28, 26, 30, 27, 25, 29, 27]

@@ -198,7 +198,7 @@ class Columns(unittest.TestCase):
 
 DATE = r"(?P<year>[+-][0-9]{4,6}(?=-)|[0-9]{4})(?P<hyphen>-?)" \
     r"(?:W(?P<week>[0-9]{2})(?:(?P=hyphen)(?P<weekday>[1-7]))?|(?P<month>[0-9]{2})(?P=hyphen)(?P<day>[0-9]{2})|(?P<ordinal>[0-9]{3}))"
-FRACTION = r"(?:[.,](?P<fraction>[0-9]{1,9}|[0-9]{9}0{1,9}))?"
+FRACTION = r"(?:[.,](?P<fraction>[0-9]{1,9}|[0-9]{9}0+))?"
 CLOCK = rf"[Tt ](?P<hour>[0-9]{{2}})(?:(?P<colon>:?)(?P<minute>[0-9]{{2}})(?:(?P=colon)(?P<second>[0-9]{{2}}){FRACTION})?)?"
 SHIFT = r" ?(?:[Zz]|(?P<sign>[+-])(?P<hours>[0-9]{2})(?:(?P<colons>:?)(?P<minutes>[0-9]{2})(?:(?P=colons)(?P<seconds>[0-9]{2}))?)?)"
 DATES, INSTANTS = re.compile(DATE), re.compile(DATE + CLOCK + SHIFT)
@@ -253,7 +253,7 @@ def drawn_instant(draw):
 
     time, colon = clock(draw.choice([":", ""]), 25), draw.choice([":", ""])
     if draw.random() < 0.5:
-        time += draw.choice(".,") + str(draw.randrange(10**draw.randint(1, 9))) + "0" * draw.choice([0, 0, 0, 9, 10])
+        time += draw.choice(".,") + str(draw.randrange(10**draw.randint(1, 9))).ljust(draw.choice([0, draw.randint(1, 40)]), "0")
     return drawn_date(draw) + draw.choice("TTt ") + time + draw.choice(["", "", " "]) + draw.choice(["Z", "z", "", draw.choice("+-") + clock(colon, 27)])
 
 

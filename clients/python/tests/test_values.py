@@ -910,6 +910,7 @@ class Columns(Cases):
             if sys.version_info >= (3, 11):
                 self.assertEqual(datetime.date.fromisoformat(text), datetime.date(1985, 4, day))
         self.assertEqual(Time.parse_iso("T232050,5"), Time.parse("23:20:50.5"))
+        self.assertEqual(Time.parse_iso("T232050,5" + "0" * 39), Time.parse("23:20:50.5"))
         self.assertEqual(str(PlainDateTime.parse_iso("19850412T1015")), "1985-04-12T10:15:00")
         self.assertEqual(str(OffsetDateTime.parse_iso("2024-02-29 22:59:59.25+00")), "2024-02-29T22:59:59.250000+00:00")
         with self.assertRaisesRegex(fotsevindre.ParseError, '^expected a digit at position 6, found "-"$'):

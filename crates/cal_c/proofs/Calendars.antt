@@ -1,14 +1,20 @@
 -- Lists of holidays that have room.
-use Rattle.std.proofs.Common.{◌≡◌, ℕ, ◌<◌, ◌≤◌, List, length, inl, inr, ℤ, pos, sym, ap, ◌∙◌, arith, Option, Some, None, true, false}
-use Rattle.std.specs.Prelude.{◌↔◌, IfSome, IfNone, IsNone, min}
+use Rattle.std.proofs.Common.{◌≡◌, ℕ, ◌≤◌, List, length, inl, inr, ℤ, pos, sym, ap, ◌∙◌, Option, Some, None}
+use Rattle.std.specs.Prelude.{◌↔◌, IfSome, IsNone, Result, Ok, Err, min}
 use Rattle.std.proofs.Common.{Bor}
 use Rattle.std.proofs.lemmas.Bool.{cases_lt}
 use Rattle.cal_holidays.specs.Holidays.{AreHolidays, AreMore, IsHoliday}
 use Rattle.cal_holidays.proofs.HolidayLists.{holidays-one, no_more}
-use Rattle.cal_c.specs.Calendars.{AreListed}
-use Rattle.cal_c.specs.Results.{number_ok}
-use Rattle.cal_c.specs.Values.{max_dates}
+use Rattle.cal_holiday_text.specs.declared.error.ParseHolidayRuleError.{ParseHolidayRuleError}
+use Rattle.cal_c.specs.Calendars.{holidays_result, AreListed, AreListedBetween, AreListedOf}
+use Rattle.cal_c.specs.Results.{number_error, number_ok}
+use Rattle.cal_c.specs.Texts.{no_position}
+use Rattle.cal_c.specs.Values.{day_of, max_dates}
+use Rattle.cal_c.proofs.DateRanges.{stable_number}
+use Rattle.cal_c.proofs.Stable.{need-one}
 use Rattle.cal_c.specs.declared.results.NumberResult.{NumberResult}
+use Rattle.cal_c.specs.declared.schedule.holiday_rules.HolidaysResult.{HolidaysResult}
+use Rattle.cal_c.specs.declared.status.TheConstants.{INVALID_DATE}
 use Rattle.cal_holidays.specs.declared.holiday_rule.HolidayRule.{HolidayRule}
 
 pub few : (rules : List HolidayRule) (first last most : ℕ) (xs : List ℕ) → AreHolidays rules first last xs → ¬ AreMore (IsHoliday rules first last) most → length xs ≤ most
@@ -36,3 +42,15 @@ one_number rules first last written r s f g =
             these.result_is ∙ ap (λ days. number_ok (pos (length days))) (holidays-one rules first last these.days are.days these.are are.are) ∙ sym are.result_is
       ]
     ]
+
+one_between : (rules : List HolidayRule) (first last : ℤ) (written : List ℤ) (r s : NumberResult)
+    → AreListedBetween rules first last written r → AreListedBetween rules first last written s → r ≡ s
+one_between rules first last written r s =
+    need-one r s (number_error INVALID_DATE) (stable_number r s)
+    (need-one r s (number_error INVALID_DATE) (stable_number r s) (one_number rules (day_of first) (day_of last) written r s))
+
+pub one_of_text : (parsed : Result (List HolidayRule) ParseHolidayRuleError) (first last : ℤ) (written : List ℤ) (r s : HolidaysResult)
+    → AreListedOf parsed first last written r → AreListedOf parsed first last written s → r ≡ s
+one_of_text (Ok rules) first last written r s (n, listed, is) (m, others, same) =
+    is ∙ ap (λ q. holidays_result q no_position) (one_between rules first last written n m listed others) ∙ sym same
+one_of_text (Err e) first last written r s h k = h ∙ sym k

@@ -1,5 +1,5 @@
 -- The format `%Y-%m-%d` as numbers, and the text of a date by it.
-use Rattle.std.proofs.Common.{◌≡◌, ℕ, ◌<◌, ◌≤◌, ◌/◌, ◌%◌, List, [], ◌∷◌, ◌++◌, length, take, drop, map, get_or, refl, sym, ap, subst, ◌∙◌, arith}
+use Rattle.std.proofs.Common.{◌≡◌, ℕ, ◌<◌, ◌≤◌, ◌/◌, ◌%◌, List, [], ◌∷◌, ◌++◌, length, take, drop, map, get_or, refl, sym, ap, subst, ◌∙◌, arith, lit≤}
 use Rattle.std.proofs.lemmas.Bool.Decides.{nat_tests}
 use Rattle.std.proofs.Math.Seq.{take-append_seam}
 use Rattle.std.specs.Prelude.{pos, unsigned_abs, codes, Bool, true, false, not, ◌&&◌, ◌==◌, IsTrue, IfSome, Option, Some, None, Result, Ok, Err}
@@ -12,50 +12,56 @@ use Rattle.cal_time.specs.Laws.{digits_at_least-two, digits_at_least-four}
 use Rattle.cal_format.specs.declared.item.Component.{Component}
 use Rattle.cal_format.specs.declared.item.Item.{Item}
 use Rattle.cal_format.specs.declared.item.Item.TheVariants as item
+use Rattle.cal_format.specs.declared.item.Name.{Name}
+use Rattle.cal_format.specs.declared.item.Name.TheVariants as name
+use Rattle.cal_format.specs.declared.item.Padding.{Padding}
 use Rattle.cal_format.specs.declared.item.Padding.TheVariants as padding
 use Rattle.cal_format.specs.Laws.{iso_items, iso_items-text}
 use Rattle.cal_format.specs.Moment.{moment_of_date}
 use Rattle.cal_format.specs.Reading.{index}
 use Rattle.cal_format.proofs.Apart.{index-one}
-use Rattle.cal_c.specs.Formats.{item_parts, parts}
+use Rattle.cal_c.specs.Formats.{item_parts, name_number, padding_kind, parts}
 use Rattle.cal_c.specs.OnePass.{IsItemOf, AreItemsOf, IsFormatOf, PrintsItems}
 use Rattle.cal_c.specs.declared.formats.format_parts.FormatItem.{FormatItem}
 use Rattle.cal_c.specs.declared.formats.format_parts.FormatParts.{FormatParts}
 
--- Only one item has the numbers of a byte, and only one those of a component padded with zeros.
+-- The kinds of numbers with a padding.
+pub padding-kinds : (p : Padding) → (1 ≤ padding_kind p) × (padding_kind p ≤ 3)
+padding-kinds padding.Zero = (lit≤ tt, lit≤ tt)
+padding-kinds _ = (lit≤ tt, lit≤ tt)
+
+padding-one : (p q : Padding) → padding_kind p ≡ padding_kind q → q ≡ p
+padding-one padding.Zero padding.Zero e = refl
+padding-one padding.Space padding.Space e = refl
+padding-one padding.None padding.None e = refl
+padding-one _ _ e = absurd (omega (arith, e))
+
+-- Only one item has the numbers of a byte, of a component with a padding, or of a name.
 pub byte-one : (b : ℕ) (i : Item) → parts 0 b ≡ item_parts i → i ≡ item.Literal b
 byte-one b (item.Literal c) e = ap item.Literal (sym (ap (λ p. p.value) e))
-byte-one b (item.Number c padding.Zero) e = absurd (omega (arith, ap (λ p. p.kind) e))
-byte-one b (item.Number c padding.Space) e = absurd (omega (arith, ap (λ p. p.kind) e))
-byte-one b (item.Number c padding.None) e = absurd (omega (arith, ap (λ p. p.kind) e))
-byte-one b (item.Name k) e = absurd (omega (arith, ap (λ p. p.kind) e))
-byte-one b item.Fraction e = absurd (omega (arith, ap (λ p. p.kind) e))
-byte-one b item.Decimals e = absurd (omega (arith, ap (λ p. p.kind) e))
-byte-one b item.OffsetSign e = absurd (omega (arith, ap (λ p. p.kind) e))
-byte-one b item.TimestampSign e = absurd (omega (arith, ap (λ p. p.kind) e))
-byte-one b item.TimestampMinus e = absurd (omega (arith, ap (λ p. p.kind) e))
-byte-one b item.OffsetMinus e = absurd (omega (arith, ap (λ p. p.kind) e))
-byte-one b (item.Signed c padding.Zero) e = absurd (omega (arith, ap (λ p. p.kind) e))
-byte-one b (item.Signed c padding.Space) e = absurd (omega (arith, ap (λ p. p.kind) e))
-byte-one b (item.Signed c padding.None) e = absurd (omega (arith, ap (λ p. p.kind) e))
-byte-one b item.Abbreviation e = absurd (omega (arith, ap (λ p. p.kind) e))
+byte-one b (item.Number c p) e = absurd (omega (arith, ap (λ p. p.kind) e, padding-kinds p))
+byte-one b (item.Signed c p) e = absurd (omega (arith, ap (λ p. p.kind) e, padding-kinds p))
+byte-one b _ e = absurd (omega (arith, ap (λ p. p.kind) e))
 
-pub number-one : (c : Component) (i : Item) → parts 1 (index c) ≡ item_parts i → i ≡ item.Number c padding.Zero
-number-one c (item.Literal b) e = absurd (omega (arith, ap (λ p. p.kind) e))
-number-one c (item.Number d padding.Zero) e = ap (λ x. item.Number x padding.Zero) (index-one d c (sym (ap (λ p. p.value) e)))
-number-one c (item.Number d padding.Space) e = absurd (omega (arith, ap (λ p. p.kind) e))
-number-one c (item.Number d padding.None) e = absurd (omega (arith, ap (λ p. p.kind) e))
-number-one c (item.Name k) e = absurd (omega (arith, ap (λ p. p.kind) e))
-number-one c item.Fraction e = absurd (omega (arith, ap (λ p. p.kind) e))
-number-one c item.Decimals e = absurd (omega (arith, ap (λ p. p.kind) e))
-number-one c item.OffsetSign e = absurd (omega (arith, ap (λ p. p.kind) e))
-number-one c item.TimestampSign e = absurd (omega (arith, ap (λ p. p.kind) e))
-number-one c item.TimestampMinus e = absurd (omega (arith, ap (λ p. p.kind) e))
-number-one c item.OffsetMinus e = absurd (omega (arith, ap (λ p. p.kind) e))
-number-one c (item.Signed d padding.Zero) e = absurd (omega (arith, ap (λ p. p.kind) e))
-number-one c (item.Signed d padding.Space) e = absurd (omega (arith, ap (λ p. p.kind) e))
-number-one c (item.Signed d padding.None) e = absurd (omega (arith, ap (λ p. p.kind) e))
-number-one c item.Abbreviation e = absurd (omega (arith, ap (λ p. p.kind) e))
+pub number-one : (c : Component) (p : Padding) (i : Item) → parts (padding_kind p) (index c) ≡ item_parts i → i ≡ item.Number c p
+number-one c p (item.Number d q) e = λ j. item.Number (index-one d c (sym (ap (λ x. x.value) e)) j) (padding-one p q (ap (λ x. x.kind) e) j)
+number-one c p (item.Signed d q) e = absurd (omega (arith, ap (λ x. x.kind) e, padding-kinds p, padding-kinds q))
+number-one c p _ e = absurd (omega (arith, ap (λ x. x.kind) e, padding-kinds p))
+
+name_number-one : (k l : Name) → name_number k ≡ name_number l → l ≡ k
+name_number-one name.Month name.Month e = refl
+name_number-one name.ShortMonth name.ShortMonth e = refl
+name_number-one name.Weekday name.Weekday e = refl
+name_number-one name.ShortWeekday name.ShortWeekday e = refl
+name_number-one name.Period name.Period e = refl
+name_number-one name.LowerPeriod name.LowerPeriod e = refl
+name_number-one _ _ e = absurd (omega (arith, e))
+
+pub name-one : (k : Name) (i : Item) → parts 4 (name_number k) ≡ item_parts i → i ≡ item.Name k
+name-one k (item.Name l) e = ap item.Name (name_number-one k l (ap (λ p. p.value) e))
+name-one k (item.Number d p) e = absurd (omega (arith, ap (λ x. x.kind) e, padding-kinds p))
+name-one k (item.Signed d p) e = absurd (omega (arith, ap (λ x. x.kind) e, padding-kinds p))
+name-one k _ e = absurd (omega (arith, ap (λ x. x.kind) e))
 
 -- These numbers are only this item.
 abbrev pub IsOnly : Item → FormatItem → Type 0
@@ -105,7 +111,7 @@ six-only a b c d e f [] n g h i j k l = absurd (omega arith)
 six-only a b c d e f (p ∷ ps) n g h i j k l = more-only a _ p _ g (five-only b c d e f ps (omega arith) h i j k l)
 
 -- ---- the text of a date of the years 0 to 9999
-plain : (y : ℕ) → y ≤ 9_999 → sign_text (pos y) ≡ []
+pub plain : (y : ℕ) → y ≤ 9_999 → sign_text (pos y) ≡ []
 plain y few = grind (arith, nat_tests)
 
 four : (y : ℕ) → y ≤ 9_999 → digits_at_least 4 y ≡ two_digits (y / 100) ++ two_digits (y % 100)

@@ -1,19 +1,18 @@
 -- The items of numbers, one after the other.
-use Rattle.std.proofs.Common.{◌≡◌, ℕ, ◌-◌, ◌<◌, ◌≤◌, List, [], ◌∷◌, ◌++◌, length, map, take, drop, get_or, refl, sym, ap, ◌∙◌, subst, arith, append_assoc, append-nil, length-append}
+use Rattle.std.proofs.Common.{◌≡◌, ℕ, ◌-◌, ◌<◌, ◌≤◌, List, [], ◌∷◌, ◌++◌, length, map, take, drop, get_or, refl, sym, ap, ◌∙◌, subst, arith, append_assoc, length-append}
 use Rattle.std.proofs.lemmas.List.{take_all, length-map}
-use Rattle.std.specs.Prelude.{Bool, true, false, ◌&&◌, ◌||◌, nat_lt, IsTrue}
+use Rattle.std.specs.Prelude.{Bool, true, false, ◌&&◌, ◌||◌, nat_lt, IsTrue, Option, IfSome}
 use Rattle.cal_format.specs.declared.fields.Fields.{Fields}
 use Rattle.cal_format.specs.declared.item.Item.{Item}
 use Rattle.cal_format.specs.declared.item.Item.TheVariants as item
-use Rattle.cal_format.specs.declared.item.Name.{Name}
-use Rattle.cal_format.specs.declared.item.Padding.TheVariants as padding
 use Rattle.cal_format.specs.declared.moment.Moment.{Moment}
 use Rattle.cal_format.specs.Reading.{is_apart, begins_apart, shows_within, show_within}
 use Rattle.cal_format.specs.Text.{item_text, text_of}
+use Rattle.cal_format.proofs.Forms.{mapped}
 use Rattle.cal_format.proofs.OnePass.{first-or, none-has}
 use Rattle.cal_c.specs.Formats.{item_parts, parts}
 use Rattle.cal_c.specs.OnePass.{IsItemOf, AreItemsOf, IsFormatOf, ScansItems, PrintsItem, PrintsItems}
-use Rattle.cal_c.proofs.IsoDates.{byte-one}
+use Rattle.cal_c.proofs.IsoDates.{byte-one, padding-kinds}
 use Rattle.cal_c.specs.declared.formats.format_parts.FormatItem.{FormatItem}
 use Rattle.cal_c.specs.declared.formats.format_parts.FormatParts.{FormatParts}
 
@@ -51,29 +50,26 @@ none-scanned f text [] low = record { items = []; parts_are = refl; every = ever
     every (i ∷ others) e = absurd (omega (arith, ap length e))
 
 -- The items begin with one that no digit begins.
-pub begins-first : (ps : List FormatItem) (i : Item) → 1 ≤ length ps → get_or ps 0 (parts 0 0) ≡ item_parts i → ((j : Item) → item_parts i ≡ item_parts j → IsTrue (is_apart j)) → (items : List Item) → ps ≡ map item_parts items
-    → IsTrue (begins_apart items)
-begins-first [] i some e apart items f = absurd (omega (arith, some))
-begins-first (p ∷ ps) i some e apart [] f = refl
-begins-first (p ∷ ps) i some e apart (j ∷ items) f = first-or (is_apart j) _ (apart j (sym e ∙ ap (λ l. get_or l 0 (parts 0 0)) f))
+pub begins-first : (ps : List FormatItem) → 1 ≤ length ps → ((j : Item) → get_or ps 0 (parts 0 0) ≡ item_parts j → IsTrue (is_apart j)) → (items : List Item) → ps ≡ map item_parts items → IsTrue (begins_apart items)
+begins-first [] some apart items f = absurd (omega (arith, some))
+begins-first (p ∷ ps) some apart [] f = refl
+begins-first (p ∷ ps) some apart (j ∷ items) f = first-or (is_apart j) _ (apart j (ap (λ l. get_or l 0 (parts 0 0)) f))
 
-pub byte-apart : (b : ℕ) → IsTrue (nat_lt b 48 || nat_lt 57 b) → (j : Item) → item_parts (item.Literal b) ≡ item_parts j → IsTrue (is_apart j)
-byte-apart b h j e = subst (λ i. IsTrue (is_apart i)) (sym (byte-one b j e)) h
+pub byte-apart : (p : FormatItem) → p.kind ≡ 0 → IsTrue (nat_lt p.value 48 || nat_lt 57 p.value) → (j : Item) → p ≡ item_parts j → IsTrue (is_apart j)
+byte-apart p kind h j e = subst (λ i. IsTrue (is_apart i)) (sym (byte-one p.value j (ap (λ k. parts k p.value) (sym kind) ∙ e))) h
 
-pub name-apart : (k : Name) (j : Item) → item_parts (item.Name k) ≡ item_parts j → IsTrue (is_apart j)
-name-apart k (item.Name l) e = refl
-name-apart k (item.Signed d p) e = refl
-name-apart k item.OffsetSign e = refl
-name-apart k item.TimestampSign e = refl
-name-apart k (item.Literal b) e = absurd (omega (arith, ap (λ p. p.kind) e))
-name-apart k (item.Number d padding.Zero) e = absurd (omega (arith, ap (λ p. p.kind) e))
-name-apart k (item.Number d padding.Space) e = absurd (omega (arith, ap (λ p. p.kind) e))
-name-apart k (item.Number d padding.None) e = absurd (omega (arith, ap (λ p. p.kind) e))
-name-apart k item.Fraction e = absurd (omega (arith, ap (λ p. p.kind) e))
-name-apart k item.Decimals e = absurd (omega (arith, ap (λ p. p.kind) e))
-name-apart k item.TimestampMinus e = absurd (omega (arith, ap (λ p. p.kind) e))
-name-apart k item.OffsetMinus e = absurd (omega (arith, ap (λ p. p.kind) e))
-name-apart k item.Abbreviation e = absurd (omega (arith, ap (λ p. p.kind) e))
+pub name-apart : (p : FormatItem) → p.kind ≡ 4 → (j : Item) → p ≡ item_parts j → IsTrue (is_apart j)
+name-apart p kind (item.Name k) e = refl
+name-apart p kind (item.Number d q) e = absurd (omega (arith, kind, ap (λ x. x.kind) e, padding-kinds q))
+name-apart p kind (item.Signed d q) e = refl
+name-apart p kind item.OffsetSign e = refl
+name-apart p kind item.TimestampSign e = refl
+name-apart p kind _ e = absurd (omega (arith, kind, ap (λ x. x.kind) e))
+
+-- What was printed of an item is of these numbers.
+pub prints-only : (low high : ℕ) (v : Moment) (old new : List ℕ) (at : ℕ) (p : FormatItem) (i : Item) (r : Option ℕ) → p ≡ item_parts i → ((j : Item) → item_parts i ≡ item_parts j → j ≡ i)
+    → IfSome r (λ end. PrintsItem low high v old new at end i) → IfSome r (λ end. IsItemOf p (PrintsItem low high v old new at end))
+prints-only low high v old new at p i r is one = mapped (λ end. PrintsItem low high v old new at end i) _ r (λ end prints. only-item (PrintsItem low high v old new at end) p i is one prints)
 
 pub format-of : (f : FormatParts) (ps : List FormatItem) (P Q : List Item → Type 0) → f.length ≤ 64 → ps ≡ take f.length f.items → length ps ≡ f.length → AreItemsOf ps P → ((items : List Item) → P items → Q items)
     → IsFormatOf f Q

@@ -1,11 +1,10 @@
 -- Values by the numbers of a string.
 use Rattle.std.proofs.Common.{◌≡◌, ℕ, ◌+◌, ◌-◌, ◌<◌, ◌≤◌, List, [], ◌∷◌, ◌++◌, get_or, refl, sym, ap, ◌∙◌, arith, lit≤, append-nil}
-use Rattle.std.proofs.lemmas.Bool.Decides.{nat_tests}
-use Rattle.std.specs.Prelude.{Bool, true, false, ◌&&◌, ◌==◌, IsTrue, ℤ, pos, unsigned_abs, Result, Ok}
+use Rattle.std.specs.Prelude.{Bool, true, false, ◌==◌, IsTrue, pos, unsigned_abs, Result, Ok}
 use borrow.Author.Tests.{eq-eqb}
 use Rattle.cal_time.specs.Date.{IsDate, weekday_at}
 use Rattle.cal_time.specs.DateText.{digits_at_least, sign_text}
-use Rattle.cal_time.specs.IsoWeekDate.{HasIsoWeekDate, iso_year_at, iso_week_at}
+use Rattle.cal_time.specs.IsoWeekDate.{HasIsoWeekDate, iso_year_at}
 use Rattle.cal_time.specs.Time.{IsTime, hour_of, minute_of, second_of, nanosecond_of, time_of}
 use Rattle.cal_text.specs.Shape.{ParsesDigits}
 use Rattle.cal_text.proofs.ReadDigits.{one_digit, printed}
@@ -22,7 +21,8 @@ use Rattle.cal_format.proofs.Moments as moments
 use Rattle.cal_format.proofs.Own.{has-own}
 use Rattle.cal_format.proofs.Times.{time-parts}
 use Rattle.cal_format.proofs.Uniques.{one-numbers}
-use Rattle.cal_c.proofs.IsoDates.{ok-one}
+use Rattle.cal_c.proofs.IsoDates.{ok-one, plain}
+use Rattle.cal_c.proofs.OnePass.{both-true}
 use Rattle.cal_c.specs.OnePass.{week_items, clock_items, second_text}
 
 -- ---- a moment and the numbers of a string
@@ -78,9 +78,6 @@ clock-text b t u v w x h m s hour p minute q end =
     ∙ ap (λ l. digits_at_least 2 m ++ l) (q ∙ ap (λ l. second_text b s ++ l) end ∙ append-nil (second_text b s))))
 
 -- ---- a week date
-plain : (y : ℕ) → y < 10_000 → sign_text (pos y) ≡ []
-plain y few = grind (arith, nat_tests)
-
 one : (g d : ℕ) → d < 10 → g ≡ 48 + d → digits_at_least 1 d ++ [] ≡ g ∷ []
 one g d less e = sym (printed (g ∷ []) [] 1 d (lit≤ tt) (lit≤ tt) (one_digit d (g ∷ []) [] less (ap (λ b. b ∷ []) e))).1
 
@@ -102,7 +99,7 @@ week-read r text y w g d n e few low byte some most each date has is =
     weekday = omega (arith, has.2)
 
     held : AreHeld (moment_of_date n) week_items
-    held = ((omega (arith, year), ap sign_text has.0 ∙ plain y few), (tt, (tt, ((omega (arith, has.1), refl), (tt, ((omega (arith, weekday), refl), tt))))))
+    held = ((omega (arith, year), ap sign_text has.0 ∙ plain y (omega (arith, few))), (tt, (tt, ((omega (arith, has.1), refl), (tt, ((omega (arith, weekday), refl), tt))))))
 
     own : numbers_of week_items (moment_of_date n) ≡ y ∷ 0 ∷ 0 ∷ w ∷ 0 ∷ d ∷ []
     own = λ j. year j ∷ 0 ∷ 0 ∷ has.1 j ∷ 0 ∷ weekday j ∷ []
@@ -134,10 +131,6 @@ second-read text h m s t e hours minutes seconds is =
     let c : second_of u ≡ s = ap (λ l. get_or l 4 0) same in
     let d : nanosecond_of u ≡ 0 = same_test (nanosecond_of u) 0 holds in
     sym (time-parts u time) ∙ (λ j. time_of (a j) (b j) (c j) (d j)) ∙ sym is)
-
-both-true : (a b : Bool) → IsTrue a → IsTrue b → IsTrue (a && b)
-both-true true b h k = k
-both-true false b h k = cc
 
 minute-read : (text : List ℕ) (h m t : ℕ) → text ≡ digits_at_least 2 h ++ 58 ∷ (digits_at_least 2 m ++ []) → h ≤ 23 → m ≤ 59 → t ≡ time_of h m 0 0 → IsOneTime (clock_items false) t text
 minute-read text h m t e hours minutes is =

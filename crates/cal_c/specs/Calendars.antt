@@ -1,13 +1,18 @@
--- Holidays of known calendars, written to an array.
-use Rattle.std.specs.Prelude.{◌≡◌, ◌⊎◌, ℕ, ◌≤◌, ℤ, pos, List, Some, length, map, min, slice_get, take}
+-- Holidays of known calendars and of rules, written to an array.
+use Rattle.std.specs.Prelude.{◌≡◌, ◌⊎◌, ℕ, ◌≤◌, ℤ, pos, List, Some, Result, Ok, Err, length, map, min, slice_get, take}
 use Rattle.cal_time.specs.Date.{julian_day_at}
 use Rattle.cal_holidays.specs.Calendars.{calendars}
 use Rattle.cal_holidays.specs.Holidays.{AreHolidays, AreMore, IsHoliday}
 use Rattle.cal_holidays.specs.declared.holiday_rule.HolidayRule.{HolidayRule}
+use Rattle.cal_holiday_text.specs.declared.error.ParseHolidayRuleError.{ParseHolidayRuleError}
+use Rattle.cal_holiday_text.specs.declared.error.ParseHolidayRuleErrorKind.{ParseHolidayRuleErrorKind}
+use Rattle.cal_holiday_text.specs.declared.error.ParseHolidayRuleErrorKind.TheVariants.{Invalid, TooMany}
 use Rattle.cal_c.specs.Results.{number_error, number_ok}
-use Rattle.cal_c.specs.Values.{max_dates}
+use Rattle.cal_c.specs.Texts.{no_position}
+use Rattle.cal_c.specs.Values.{need◌else◌then◌, day_of, max_dates, IsJulianDay}
 use Rattle.cal_c.specs.declared.results.NumberResult.{NumberResult}
-use Rattle.cal_c.specs.declared.status.TheConstants.{TOO_MANY_HOLIDAYS}
+use Rattle.cal_c.specs.declared.schedule.holiday_rules.HolidaysResult.{HolidaysResult}
+use Rattle.cal_c.specs.declared.status.TheConstants.{INVALID_DATE, INVALID_HOLIDAY_RULE, TOO_MANY_HOLIDAYS}
 
 -- A calendar has this number.
 abbrev pub IsCalendar : ℕ → Type 0
@@ -26,3 +31,22 @@ pub record AreWritten (rules : List HolidayRule) (first last : ℕ) (written : L
 abbrev pub AreListed : List HolidayRule → ℕ → ℕ → List ℤ → NumberResult → Type 0
 AreListed rules first last written r =
     (AreMore (IsHoliday rules first last) (min (length written) max_dates) × (r ≡ number_error TOO_MANY_HOLIDAYS)) ⊎ AreWritten rules first last written r
+
+-- The days are Julian days of dates, or one of them is invalid.
+abbrev pub AreListedBetween : List HolidayRule → ℤ → ℤ → List ℤ → NumberResult → Type 0
+AreListedBetween rules first last written r =
+    need IsJulianDay first else r ≡ number_error INVALID_DATE then
+    need IsJulianDay last else r ≡ number_error INVALID_DATE then AreListed rules (day_of first) (day_of last) written r
+
+-- A number of holidays, or its error, with a position.
+abbrev pub holidays_result : NumberResult → ℕ → HolidaysResult
+holidays_result r at = record { status = r.status; number = r.number; position = at }
+
+abbrev pub rule_status : ParseHolidayRuleErrorKind → ℤ
+rule_status Invalid = INVALID_HOLIDAY_RULE
+rule_status TooMany = TOO_MANY_HOLIDAYS
+
+-- The holidays of the rules of a text, or the position and the status of its first error.
+abbrev pub AreListedOf : Result (List HolidayRule) ParseHolidayRuleError → ℤ → ℤ → List ℤ → HolidaysResult → Type 0
+AreListedOf (Ok rules) first last written r = (n : NumberResult) × AreListedBetween rules first last written n × (r ≡ holidays_result n no_position)
+AreListedOf (Err e) first last written r = r ≡ holidays_result (number_error (rule_status e.reason)) e.position

@@ -34,3 +34,4 @@ pub mod OnePass
 pub mod TextSets
 pub mod Calendars
 pub mod Events
+pub mod Errors

@@ -69,6 +69,7 @@ mod cycle;
 mod date;
 mod day_number;
 mod duration;
+mod errors;
 mod formats;
 mod laws;
 mod moment;

@@ -6,6 +6,7 @@ mod date_list;
 pub mod date_ranges;
 mod easter;
 mod events;
+mod holiday_rules;
 pub mod laws;
 mod months;
 pub mod pair_periods;

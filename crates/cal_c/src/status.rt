@@ -254,6 +254,9 @@ pub const OTHER_ZONE: i32 = 88;
 /// A line of an event has a value of another kind than the call reads, such as a date.
 pub const WRONG_KIND: i32 = 89;
 
+/// A word of a rule of a holiday is invalid.
+pub const INVALID_HOLIDAY_RULE: i32 = 90;
+
 /// Returns the status of an error, by its component.
 pub fn error_status(error: ComponentRange) -> i32
     ensures { result ≡ component_status error.component }

@@ -1,3 +1,4 @@
 mod OneAnswer
 mod OneFormatAnswer
+mod OneNamedAnswer
 mod OneTextAnswer

@@ -94,44 +94,68 @@ number_error-one items numbers (UnexpectedByte p) f a b = absurd a
 number_error-one items numbers (UnexpectedEnd p) f a b = absurd a
 
 -- ---- the error of a text
--- The text has numbers, which are not those of a value.
-abbrev HasNumberError : List Item → List ℕ → ParseError → Type 0
-HasNumberError items text e = (numbers : List ℕ) × HasNumbers items numbers text × IsNumberRejection items numbers e
+-- A text has the numbers of one value at most, and then it has the form.
+pub record IsOneForm (IsForm : List ℕ → Type 0) (Has : List ℕ → List ℕ → Type 0) : Type 0 where
+  pub one : (ns ms text : List ℕ) → Has ns text → Has ms text → ns ≡ ms
+  pub formed : (ns text : List ℕ) → Has ns text → IsForm text
 
-both_numbers : (items : List Item) (text : List ℕ) (e f : ParseError) → IsTrue (are_apart items) → HasNumberError items text e → HasNumberError items text f → e ≡ f
-both_numbers items text e f apart a b =
-    let same : a.0 ≡ b.0 = one-numbers items a.0 b.0 text apart a.1 b.1 in
+-- The text has numbers, which are not those of a value.
+abbrev pub HasNumberError : (List ℕ → List ℕ → Type 0) → List Item → List ℕ → ParseError → Type 0
+HasNumberError Has items text e = (numbers : List ℕ) × Has numbers text × IsNumberRejection items numbers e
+
+-- The error of a text: it stops matching the form, or its numbers are not those of a value.
+abbrev pub IsFormError : (List ℕ → Type 0) → (List ℕ → List ℕ → Type 0) → List Item → List ℕ → ParseError → Type 0
+IsFormError IsForm Has items text (UnexpectedByte p) = IsPosition IsForm text p × (p < length text)
+IsFormError IsForm Has items text (UnexpectedEnd p) = IsPosition IsForm text p × (p ≡ length text) × ¬ IsForm text
+IsFormError IsForm Has items text e = HasNumberError Has items text e
+
+both_numbers : (IsForm : List ℕ → Type 0) (Has : List ℕ → List ℕ → Type 0) (items : List Item) (text : List ℕ) (e f : ParseError) → IsOneForm IsForm Has → HasNumberError Has items text e → HasNumberError Has items text f → e ≡ f
+both_numbers IsForm Has items text e f form a b =
+    let same : a.0 ≡ b.0 = form.one a.0 b.0 text a.1 b.1 in
     number_error-one items b.0 e f (subst (λ numbers. IsNumberRejection items numbers e) same a.2) b.2
 
 -- A text that has the form doesn't stop before its end.
-no-byte : (items : List Item) (text : List ℕ) (p : ℕ) (e : ParseError) → IsTrue (are_apart items) → IsPosition (HasForm items) text p → p < length text → HasNumberError items text e → ⊥
-no-byte items text p e apart at less b =
-    at.no_further less (record { more = drop (p + 1) text; text = subst (HasForm items) (sym (take-append-drop (p + 1) text)) (has-form items b.0 text apart b.1) })
+no-byte : (IsForm : List ℕ → Type 0) (text : List ℕ) (p : ℕ) → IsForm text → IsPosition IsForm text p → p < length text → ⊥
+no-byte IsForm text p form at less = at.no_further less (record { more = drop (p + 1) text; text = subst IsForm (sym (take-append-drop (p + 1) text)) form })
 
-no-end : (items : List Item) (text : List ℕ) (e : ParseError) → IsTrue (are_apart items) → ¬ HasForm items text → HasNumberError items text e → ⊥
-no-end items text e apart none b = none (has-form items b.0 text apart b.1)
-
-error-one : (items : List Item) (text : List ℕ) (e f : ParseError) → IsTrue (are_apart items) → IsRejection items text e → IsRejection items text f → e ≡ f
-error-one items text (UnexpectedByte p) (UnexpectedByte q) apart a b = ap UnexpectedByte (one_position (HasForm items) text p q a.0 b.0)
-error-one items text (UnexpectedByte p) (UnexpectedEnd q) apart a b = absurd (omega (arith, one_position (HasForm items) text p q a.0 b.0, a.1, b.1))
-error-one items text (UnexpectedEnd p) (UnexpectedByte q) apart a b = absurd (omega (arith, one_position (HasForm items) text p q a.0 b.0, a.1, b.1))
-error-one items text (UnexpectedEnd p) (UnexpectedEnd q) apart a b = ap UnexpectedEnd (a.1 ∙ sym b.1)
-error-one items text (UnexpectedByte p) (OutOfRange y) apart a b = absurd (no-byte items text p (OutOfRange y) apart a.0 a.1 b)
-error-one items text (UnexpectedByte p) (Contradiction d) apart a b = absurd (no-byte items text p (Contradiction d) apart a.0 a.1 b)
-error-one items text (UnexpectedEnd p) (OutOfRange y) apart a b = absurd (no-end items text (OutOfRange y) apart a.2 b)
-error-one items text (UnexpectedEnd p) (Contradiction d) apart a b = absurd (no-end items text (Contradiction d) apart a.2 b)
-error-one items text (OutOfRange x) (UnexpectedByte q) apart a b = absurd (no-byte items text q (OutOfRange x) apart b.0 b.1 a)
-error-one items text (OutOfRange x) (UnexpectedEnd q) apart a b = absurd (no-end items text (OutOfRange x) apart b.2 a)
-error-one items text (Contradiction c) (UnexpectedByte q) apart a b = absurd (no-byte items text q (Contradiction c) apart b.0 b.1 a)
-error-one items text (Contradiction c) (UnexpectedEnd q) apart a b = absurd (no-end items text (Contradiction c) apart b.2 a)
-error-one items text (OutOfRange x) (OutOfRange y) apart a b = both_numbers items text (OutOfRange x) (OutOfRange y) apart a b
-error-one items text (OutOfRange x) (Contradiction d) apart a b = both_numbers items text (OutOfRange x) (Contradiction d) apart a b
-error-one items text (Contradiction c) (OutOfRange y) apart a b = both_numbers items text (Contradiction c) (OutOfRange y) apart a b
-error-one items text (Contradiction c) (Contradiction d) apart a b = both_numbers items text (Contradiction c) (Contradiction d) apart a b
+error-one : (IsForm : List ℕ → Type 0) (Has : List ℕ → List ℕ → Type 0) (items : List Item) (text : List ℕ) (e f : ParseError) → IsOneForm IsForm Has → IsFormError IsForm Has items text e → IsFormError IsForm Has items text f → e ≡ f
+error-one IsForm Has items text (UnexpectedByte p) (UnexpectedByte q) form a b = ap UnexpectedByte (one_position IsForm text p q a.0 b.0)
+error-one IsForm Has items text (UnexpectedByte p) (UnexpectedEnd q) form a b = absurd (omega (arith, one_position IsForm text p q a.0 b.0, a.1, b.1))
+error-one IsForm Has items text (UnexpectedEnd p) (UnexpectedByte q) form a b = absurd (omega (arith, one_position IsForm text p q a.0 b.0, a.1, b.1))
+error-one IsForm Has items text (UnexpectedEnd p) (UnexpectedEnd q) form a b = ap UnexpectedEnd (a.1 ∙ sym b.1)
+error-one IsForm Has items text (UnexpectedByte p) (OutOfRange y) form a b = absurd (no-byte IsForm text p (form.formed b.0 text b.1) a.0 a.1)
+error-one IsForm Has items text (UnexpectedByte p) (Contradiction d) form a b = absurd (no-byte IsForm text p (form.formed b.0 text b.1) a.0 a.1)
+error-one IsForm Has items text (UnexpectedEnd p) (OutOfRange y) form a b = absurd (a.2 (form.formed b.0 text b.1))
+error-one IsForm Has items text (UnexpectedEnd p) (Contradiction d) form a b = absurd (a.2 (form.formed b.0 text b.1))
+error-one IsForm Has items text (OutOfRange x) (UnexpectedByte q) form a b = absurd (no-byte IsForm text q (form.formed a.0 text a.1) b.0 b.1)
+error-one IsForm Has items text (OutOfRange x) (UnexpectedEnd q) form a b = absurd (b.2 (form.formed a.0 text a.1))
+error-one IsForm Has items text (Contradiction c) (UnexpectedByte q) form a b = absurd (no-byte IsForm text q (form.formed a.0 text a.1) b.0 b.1)
+error-one IsForm Has items text (Contradiction c) (UnexpectedEnd q) form a b = absurd (b.2 (form.formed a.0 text a.1))
+error-one IsForm Has items text (OutOfRange x) (OutOfRange y) form a b = both_numbers IsForm Has items text (OutOfRange x) (OutOfRange y) form a b
+error-one IsForm Has items text (OutOfRange x) (Contradiction d) form a b = both_numbers IsForm Has items text (OutOfRange x) (Contradiction d) form a b
+error-one IsForm Has items text (Contradiction c) (OutOfRange y) form a b = both_numbers IsForm Has items text (Contradiction c) (OutOfRange y) form a b
+error-one IsForm Has items text (Contradiction c) (Contradiction d) form a b = both_numbers IsForm Has items text (Contradiction c) (Contradiction d) form a b
 
 -- the clauses of a parser leave one answer
+pub one-answer-of : {V : Type 0} (Is : V → Type 0) (IsForm : List ℕ → Type 0) (Has : List ℕ → List ℕ → Type 0) (items : List Item) (text : List ℕ) (r s : Result V ParseError) → IsOneForm IsForm Has → IfOk r Is → IfOk s Is
+    → ((v : V) → Is v → r ≡ Ok v) → ((v : V) → Is v → s ≡ Ok v) → IfErr r (IsFormError IsForm Has items text) → IfErr s (IsFormError IsForm Has items text) → r ≡ s
+one-answer-of Is IsForm Has items text (Ok v) s form has other here there error errors = sym (there v has)
+one-answer-of Is IsForm Has items text (Err e) (Ok w) form has other here there error errors = absurd (no-result e w (here w other))
+one-answer-of Is IsForm Has items text (Err e) (Err f) form has other here there error errors = ap Err (error-one IsForm Has items text e f form error errors)
+
+form-error : (items : List Item) (text : List ℕ) (e : ParseError) → IsRejection items text e → IsFormError (HasForm items) (λ numbers. HasNumbers items numbers) items text e
+form-error items text (UnexpectedByte p) h = h
+form-error items text (UnexpectedEnd p) h = h
+form-error items text (OutOfRange why) h = h
+form-error items text (Contradiction c) h = h
+
+pub error-of : {V : Type 0} (P Q : ParseError → Type 0) (r : Result V ParseError) → ((e : ParseError) → P e → Q e) → IfErr r P → IfErr r Q
+error-of P Q (Ok v) f h = tt
+error-of P Q (Err e) f h = f e h
+
 pub one-answer : {V : Type 0} (Is : V → Type 0) (items : List Item) (text : List ℕ) (r s : Result V ParseError) → IsTrue (are_apart items) → IfOk r Is → IfOk s Is
     → ((v : V) → Is v → r ≡ Ok v) → ((v : V) → Is v → s ≡ Ok v) → IfErr r (IsRejection items text) → IfErr s (IsRejection items text) → r ≡ s
-one-answer Is items text (Ok v) s apart has other here there error errors = sym (there v has)
-one-answer Is items text (Err e) (Ok w) apart has other here there error errors = absurd (no-result e w (here w other))
-one-answer Is items text (Err e) (Err f) apart has other here there error errors = ap Err (error-one items text e f apart error errors)
+one-answer Is items text r s apart has other here there error errors =
+    let IsError = IsFormError (HasForm items) (λ numbers. HasNumbers items numbers) items text in
+    one-answer-of Is (HasForm items) (λ numbers. HasNumbers items numbers) items text r s (record { one = λ ns ms bytes a b. one-numbers items ns ms bytes apart a b; formed = λ ns bytes h. has-form items ns bytes apart h }) has other here there
+    (error-of (IsRejection items text) IsError r (form-error items text) error) (error-of (IsRejection items text) IsError s (form-error items text) errors)

@@ -5,6 +5,7 @@ use Rattle.std.proofs.lemmas.Fmt.{decimal_by_steps, length-decimal-le}
 use Rattle.std.proofs.lemmas.List.{length-replicate, take-replicate}
 use Rattle.std.proofs.lemmas.List.Sums.{fold-append}
 use Rattle.cal_time.specs.Laws.{digits_at_least-two, digits_at_least-four, length-decimals}
+use Rattle.cal_units.proofs.Digits.{digits_at_least-three, decimal-one, decimal-two}
 use Rattle.cal_format.specs.declared.item.Padding.{Padding}
 use Rattle.cal_format.specs.declared.item.Padding.TheVariants as padding
 use Rattle.cal_format.specs.declared.item.Component.{Component}
@@ -13,7 +14,9 @@ use Rattle.cal_format.specs.Moment.{width, most_digits, width_of}
 use Rattle.cal_format.specs.Text.{padded}
 use Rattle.cal_format.proofs.Ends.{AreDigits}
 
-pub ruleset digits = (digits_at_least-two, digits_at_least-four)
+pub ruleset digits = (digits_at_least-two, digits_at_least-three, digits_at_least-four)
+
+pub ruleset short_numbers = (decimal-one, decimal-two)
 
 -- ---- the number that digits spell
 -- A digit after a number. A space counts as 0.

@@ -1,10 +1,11 @@
 -- A text with numbers has the form of its items.
-use Rattle.std.proofs.Common.{◌≡◌, ◌≢◌, ℕ, zero, suc, ◌+◌, ◌-◌, ◌<◌, ◌≤◌, ◌^◌, List, [], ◌∷◌, ◌++◌, length, get_or, replicate, refl, ap, ◌∙◌, arith, inl, inr, lit≤}
-use Rattle.std.specs.Prelude.{Bool, true, false, IsTrue, decimal, codes, ◌==◌, if◌then◌else◌}
+use Rattle.std.proofs.Common.{◌≡◌, ◌≢◌, ℕ, zero, suc, ◌+◌, ◌-◌, ◌<◌, ◌≤◌, ◌^◌, List, [], ◌∷◌, ◌++◌, length, take, drop, get_or, replicate, refl, sym, ap, ◌∙◌, arith, inl, inr, lit≤}
+use Rattle.std.specs.Prelude.{Bool, true, false, IsTrue, decimal, codes, ◌==◌, ◌||◌, ◌&&◌, if◌then◌else◌}
 use Rattle.std.proofs.lemmas.Bool.{cases_eq, cases_lt}
+use Rattle.std.proofs.lemmas.List.{take_all}
 use Rattle.std.proofs.lemmas.Fmt.{decimal_digit, first_decimal, decimal_nonempty, length-decimal-le}
 use Rattle.cal_text.specs.Shape.{Shape, ByteRange, Branch, Digits, UpTo, Number, Sign, unmatched_bytes}
-use Rattle.cal_text.proofs.Stops.{unmatched_bytes-in, unmatched_bytes-branch_in, unmatched_bytes-branch_out, unmatched_bytes-branch_end, unmatched_bytes-done}
+use Rattle.cal_text.proofs.Stops.{in_or_out, unmatched_bytes-in, unmatched_bytes-branch_in, unmatched_bytes-branch_out, unmatched_bytes-branch_end, unmatched_bytes-done}
 use Rattle.cal_time.specs.declared.Month.{Month}
 use Rattle.cal_time.specs.declared.Month.TheVariants.{January}
 use Rattle.cal_time.specs.declared.Weekday.{Weekday}
@@ -21,12 +22,12 @@ use Rattle.cal_format.specs.declared.item.Name.{Name}
 use Rattle.cal_format.specs.declared.item.Name.TheVariants as name
 use Rattle.cal_format.specs.declared.item.Padding.{Padding}
 use Rattle.cal_format.specs.declared.item.Padding.TheVariants as padding
-use Rattle.cal_format.specs.Form.{AfterSpaces, Decimal, Padded, Decimals, MonthName, WeekdayName, PeriodName, NameShape, ItemShape, shape_of, numbered_name, numbered_item, numbered_text, IsNumber, AreNumbers, HasNumbers}
+use Rattle.cal_format.specs.Form.{AfterSpaces, Decimal, Padded, Decimals, MonthName, WeekdayName, TwoLetters, PeriodName, NameShape, ItemShape, shape_of, numbered_name, numbered_item, numbered_text, IsNumber, AreNumbers, HasNumbers}
 use Rattle.cal_format.specs.Moment.{width, most_digits, width_of}
 use Rattle.cal_format.specs.Names.{short_month, short_weekday}
 use Rattle.cal_format.specs.Reading.{ends_before, are_apart}
 use Rattle.cal_format.specs.Text.{padded, fraction_text}
-use Rattle.cal_format.proofs.Apart.{both_tests, numbers-ended}
+use Rattle.cal_format.proofs.Apart.{both_tests, either_test, same_test, numbers-ended}
 use Rattle.cal_format.proofs.Digits.{AreDigits-decimal, AreDigits-zeros, length-zeros, small-width, width-some, small-digits, digits-some}
 use Rattle.cal_format.proofs.Ends.{AreDigits, BeginsApart, BeginsPastPoint, BeginsPastMinus, IsEnded}
 use Rattle.cal_format.proofs.FormDecimals.{tail-last, one-high, more-after, none-last}
@@ -183,6 +184,22 @@ lower_period-each : (b : Bool) (f : Shape) (rest : List ℕ) → unmatched_bytes
 unfolding unmatched_bytes PeriodName
 lower_period-each true f rest = refl
 lower_period-each false f rest = refl
+
+-- Two letters at the front of a text.
+pub letters-front : (a b last : ℕ) (f : Shape) (text : List ℕ) → 2 ≤ length text → IsTrue (((get_or text 0 0 == b) || (get_or text 0 0 == a)) && (get_or text 1 0 == last))
+    → unmatched_bytes (TwoLetters a b last f) text ≡ unmatched_bytes f (take (length text - 2) (drop 2 text))
+letters-front a b last f [] some h = absurd (omega (arith, some))
+letters-front a b last f (x ∷ []) some h = absurd (omega (arith, some))
+letters-front a b last f (x ∷ y ∷ rest) some h =
+    let both = both_tests ((x == b) || (x == a)) (y == last) h in
+    let end : unmatched_bytes (ByteRange last 0 f) (y ∷ rest) ≡ unmatched_bytes f rest = unmatched_bytes-in last 0 f y rest (omega (arith, same_test y last both.1), omega (arith, same_test y last both.1)) in
+    let last_is = λ (e : unmatched_bytes (TwoLetters a b last f) (x ∷ y ∷ rest) ≡ unmatched_bytes (ByteRange last 0 f) (y ∷ rest)). e ∙ end ∙ ap (unmatched_bytes f) (sym (take_all (length (x ∷ y ∷ rest) - 2) rest (omega arith))) in
+    elim (in_or_out a 0 x) as (λ _. unmatched_bytes (TwoLetters a b last f) (x ∷ y ∷ rest) ≡ unmatched_bytes f (take (length (x ∷ y ∷ rest) - 2) rest)) [
+      | inl here ↦ last_is (unmatched_bytes-branch_in a 0 (ByteRange last 0 f) (ByteRange b 0 (ByteRange last 0 f)) x (y ∷ rest) here)
+      | inr out ↦
+          let second : x ≡ b = elim (either_test (x == b) (x == a) both.0) as (λ _. x ≡ b) [ inl e ↦ same_test x b e | inr e ↦ absurd (out (omega (arith, same_test x a e), omega (arith, same_test x a e))) ] in
+          last_is (unmatched_bytes-branch_out a 0 (ByteRange last 0 f) (ByteRange b 0 (ByteRange last 0 f)) x (y ∷ rest) out ∙ unmatched_bytes-in b 0 (ByteRange last 0 f) x (y ∷ rest) (omega (arith, second), omega (arith, second)))
+    ]
 
 sign-each : (b : Bool) (f : Shape) (rest : List ℕ) → unmatched_bytes (Sign f) ((if b then codes "-" else codes "+") ++ rest) ≡ unmatched_bytes f rest
 unfolding unmatched_bytes

@@ -86,10 +86,14 @@ WeekdayName long f =
     (Branch 70 0 (Letters (codes "ri") (codes "day") long f)
     (Byte 83 (Branch 97 0 (Letters (codes "t") (codes "urday") long f) (Letters (codes "un") (codes "day") long f))))))
 
+-- Two letters, of which the first is one of two.
+abbrev pub TwoLetters : ℕ → ℕ → ℕ → Shape → Shape
+TwoLetters first other last f = Branch first 0 (Byte last f) (Byte other (Byte last f))
+
 -- AM or PM, in upper or lower case.
 unfoldable pub PeriodName : Bool → Shape → Shape
-PeriodName true f = Branch 65 0 (Byte 77 f) (Byte 80 (Byte 77 f))
-PeriodName false f = Branch 97 0 (Byte 109 f) (Byte 112 (Byte 109 f))
+PeriodName true f = TwoLetters 65 80 77 f
+PeriodName false f = TwoLetters 97 112 109 f
 
 -- A name of this kind.
 abbrev pub NameShape : Name → Shape → Shape

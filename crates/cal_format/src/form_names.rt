@@ -1,7 +1,7 @@
 //! The form of names.
-ghost use Rattle.std.specs.Prelude.{◌≡◌, ◌<◌, ◌≤◌, ◌∷◌, ◌++◌, IfSome, if◌then◌else◌, false, true};
+ghost use Rattle.std.specs.Prelude.{◌≡◌, ◌<◌, ◌≤◌, ◌∷◌, ◌++◌, ◌==◌, IfSome, if◌then◌else◌, false, true};
 ghost use Rattle.cal_text.specs.Shape.{Scans};
-ghost use Rattle.cal_format.specs.Form.{Word, Letters, MonthName, WeekdayName, PeriodName, NameShape, month_text, weekday_text, period_text, numbered_name, IsNameNumber};
+ghost use Rattle.cal_format.specs.Form.{Word, Letters, MonthName, WeekdayName, TwoLetters, NameShape, month_text, weekday_text, numbered_name, IsNameNumber};
 
 use crate::item::Name;
 use cal_text::Scanner;
@@ -18,6 +18,7 @@ macro_rules! after_byte {
 
 /// Parses a name. Returns the number of its month or weekday, from 1, or 0 before noon and
 /// 1 from noon on.
+#[tactic(auto, unfolding(crate::specs::Form::PeriodName))]
 pub(crate) fn scan_name(scanner: &mut Scanner, name: Name) -> Option<u64>
     ensures scans { Scans (NameShape name) scanner.old.rest.now scanner.new.rest.now result }
     ensures value { IfSome result (λ n.
@@ -29,8 +30,8 @@ pub(crate) fn scan_name(scanner: &mut Scanner, name: Name) -> Option<u64>
         Name::ShortMonth => scan_short_month(scanner),
         Name::Weekday => scan_weekday(scanner, true),
         Name::ShortWeekday => scan_weekday(scanner, false),
-        Name::Period => scan_period(scanner),
-        Name::LowerPeriod => scan_lower_period(scanner),
+        Name::Period => scan_period(scanner, b'A', b'P', b'M'),
+        Name::LowerPeriod => scan_period(scanner, b'a', b'p', b'm'),
     }
 }
 
@@ -108,35 +109,27 @@ fn scan_weekday(scanner: &mut Scanner, is_long: bool) -> Option<u64>
     scan_letters(scanner, b"un", b"day", is_long, 7)
 }
 
-#[tactic(auto, unfolding(crate::specs::Form::PeriodName))]
-fn scan_period(scanner: &mut Scanner) -> Option<u64>
-    ensures scans { Scans (PeriodName true) scanner.old.rest.now scanner.new.rest.now result }
+/// Parses the two letters of a half of the day without a branch on the first one, and returns 0 for
+/// `am` and 1 for `pm`. The other way finds the wrong byte.
+fn scan_period(scanner: &mut Scanner, am: u8, pm: u8, last: u8) -> Option<u64>
+    ensures scans { Scans (TwoLetters am pm last) scanner.old.rest.now scanner.new.rest.now result }
     ensures value { IfSome result (λ n.
-        scanner.old.rest.now ≡ period_text true n ++ scanner.new.rest.now) }
+        scanner.old.rest.now ≡ (if n == 0 then am else pm) ∷ last ∷ scanner.new.rest.now) }
     ensures range { IfSome result (λ n. n < 2) }
 {
-    if let Some(()) = scanner.byte(b'A') {
-        scanner.byte(b'M')?;
+    if let [first, second, others @ ..] = scanner.rest {
+        let is_pm = *first == pm;
+        if (is_pm | (*first == am)) & (*second == last) {
+            scanner.rest = others;
+            return Some(u64::from(is_pm));
+        }
+    }
+    if let Some(()) = scanner.byte(am) {
+        scanner.byte(last)?;
         return Some(0);
     }
-    scanner.byte(b'P')?;
-    scanner.byte(b'M')?;
-    Some(1)
-}
-
-#[tactic(auto, unfolding(crate::specs::Form::PeriodName))]
-fn scan_lower_period(scanner: &mut Scanner) -> Option<u64>
-    ensures scans { Scans (PeriodName false) scanner.old.rest.now scanner.new.rest.now result }
-    ensures value { IfSome result (λ n.
-        scanner.old.rest.now ≡ period_text false n ++ scanner.new.rest.now) }
-    ensures range { IfSome result (λ n. n < 2) }
-{
-    if let Some(()) = scanner.byte(b'a') {
-        scanner.byte(b'm')?;
-        return Some(0);
-    }
-    scanner.byte(b'p')?;
-    scanner.byte(b'm')?;
+    scanner.byte(pm)?;
+    scanner.byte(last)?;
     Some(1)
 }
 

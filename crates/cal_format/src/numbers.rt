@@ -15,9 +15,9 @@ use crate::format::Format;
 use crate::item::{Item, Name};
 use crate::moment::Moment;
 use crate::parsing::moment_of_numbers;
-use cal_datetime::PlainDateTime;
+use cal_datetime::{OffsetDateTime, PlainDateTime};
 use cal_text::Scanner;
-use cal_time::Date;
+use cal_time::{Date, Time};
 
 impl Item {
     /// Parses the item at the front of a text, and returns its number. A literal and an
@@ -75,10 +75,27 @@ impl Moment {
         self.date
     }
 
+    /// Returns the time of day. A moment without a time of day has midnight.
+    pub fn time(&self) -> Time
+        ensures { result ≡ self.now.time }
+    {
+        self.time
+    }
+
     /// Returns the date and the time of day. A moment without a time of day has midnight.
     pub fn date_time(&self) -> PlainDateTime
         ensures { result ≡ date_time self.now.date self.now.time }
     {
         PlainDateTime::new(self.date, self.time)
+    }
+
+    /// Returns the date and the time of day at the offset. A moment without an offset has UTC.
+    pub fn offset_date_time(&self) -> OffsetDateTime
+        ensures { result ≡ record {
+          local = date_time self.now.date self.now.time;
+          offset = self.now.offset;
+        } }
+    {
+        OffsetDateTime::new_in_offset(self.date, self.time, self.offset)
     }
 }

@@ -1,6 +1,6 @@
 //! The texts that a format prints.
-ghost use Rattle.std.specs.Prelude.{◌≡◌, ℕ, ◌+◌, ◌-◌, ◌<◌, ◌≤◌, ◌/◌, ◌%◌, ◌^◌, ◌++◌, ◌∷◌, [], ◌↔◌, IsSome, IfSome, IfNone, codes, if◌then◌else◌, int_lt, length, pos, take, drop, decimal, replicate, unsigned_abs};
-ghost use Rattle.cal_time.specs.Time.{nanosecond_of};
+ghost use Rattle.std.specs.Prelude.{◌≡◌, ℕ, ◌+◌, ◌-◌, ◌<◌, ◌≤◌, ◌/◌, ◌%◌, ◌^◌, ◌++◌, ◌∷◌, [], ◌↔◌, IsSome, IfSome, IfNone, codes, if◌then◌else◌, int_lt, nat_lt, length, pos, take, drop, decimal, replicate, unsigned_abs};
+ghost use Rattle.cal_time.specs.Time.{hour_of, nanosecond_of};
 ghost use Rattle.cal_time.specs.UtcOffset.{sign as offset_sign};
 ghost use Rattle.cal_time.specs.Digits.{decimals};
 ghost use Rattle.cal_time.specs.DateText.{digits_at_least, sign_text};
@@ -170,6 +170,9 @@ fn put_padded(number: u64, width: u8, pad: Padding, buffer: &mut [u8], at: usize
 {
     match pad {
         Padding::Zero if width == 2 && number < 100 => put(buffer, at, &two_digits(number as u8)),
+        Padding::Zero if width == 3 && number < 1_000 => {
+            put(buffer, at, &three_digits(number as u16))
+        }
         Padding::Zero if width == 4 && number < 10_000 => {
             put(buffer, at, &four_digits(number as u16))
         }
@@ -206,9 +209,26 @@ fn put_fill(byte: u8, count: usize, buffer: &mut [u8], at: usize) -> Option<usiz
     put(buffer, at, &filler[..count])
 }
 
+/// Writes the digits of a number without padding.
+#[inline(always)]
+#[tactic(auto, using(crate::proofs::Digits::short_numbers, crate::proofs::Digits::digits))]
+fn put_decimal(number: u64, buffer: &mut [u8], at: usize) -> Option<usize>
+    requires { at ≤ length buffer.old }
+    ensures { Writes (decimal number) at buffer.old buffer.new result }
+{
+    // One or two digits take a shorter way.
+    if number < 10 {
+        return put(buffer, at, &[b'0' + number as u8]);
+    }
+    if number < 100 {
+        return put(buffer, at, &two_digits(number as u8));
+    }
+    put_long_decimal(number, buffer, at)
+}
+
 #[tactic(auto, using(crate::proofs::Digits::short_decimals))]
 #[inline(never)]
-fn put_decimal(number: u64, buffer: &mut [u8], at: usize) -> Option<usize>
+fn put_long_decimal(number: u64, buffer: &mut [u8], at: usize) -> Option<usize>
     requires { at ≤ length buffer.old }
     ensures { Writes (decimal number) at buffer.old buffer.new result }
 {
@@ -228,21 +248,22 @@ fn print_name(name: Name, moment: &Moment, buffer: &mut [u8], at: usize) -> Opti
         Name::ShortMonth => put(buffer, at, &moment.month().name().as_bytes()[..3]),
         Name::Weekday => put(buffer, at, moment.weekday().name().as_bytes()),
         Name::ShortWeekday => put(buffer, at, &moment.weekday().name().as_bytes()[..3]),
-        Name::Period => {
-            if moment.time.hour() < 12 {
-                put(buffer, at, b"AM")
-            } else {
-                put(buffer, at, b"PM")
-            }
-        }
-        Name::LowerPeriod => {
-            if moment.time.hour() < 12 {
-                put(buffer, at, b"am")
-            } else {
-                put(buffer, at, b"pm")
-            }
-        }
+        Name::Period => put(buffer, at, &half_of_day(moment, b'A', b'P', b'M')),
+        Name::LowerPeriod => put(buffer, at, &half_of_day(moment, b'a', b'p', b'm')),
     }
+}
+
+/// Returns the two letters of the half of the day. The choice of the first one needs no branch.
+#[inline(always)]
+fn half_of_day(moment: &Moment, before_noon: u8, after_noon: u8, last: u8) -> [u8; 2]
+    ensures { result ≡ (if nat_lt (hour_of moment.now.time) 12 then before_noon else after_noon) ∷ last ∷ [] }
+{
+    let first = if moment.time.hour() < 12 {
+        before_noon
+    } else {
+        after_noon
+    };
+    [first, last]
 }
 
 #[inline(never)]
@@ -309,6 +330,18 @@ fn two_digits(number: u8) -> [u8; 2]
     ensures { result ≡ digits_at_least 2 number }
 {
     [b'0' + number / 10, b'0' + number % 10]
+}
+
+/// Returns the three digits of a number below 1000.
+#[inline(always)]
+#[tactic(auto, using(crate::proofs::Digits::digits))]
+fn three_digits(number: u16) -> [u8; 3]
+    requires { number < 1000 }
+    ensures { result ≡ digits_at_least 3 number }
+{
+    let front = (number / 100) as u8;
+    let back = (number % 100) as u8;
+    [b'0' + front, b'0' + back / 10, b'0' + back % 10]
 }
 
 /// Returns the four digits of a number below 10000.

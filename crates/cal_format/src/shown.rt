@@ -75,9 +75,9 @@ impl Shown {
             && self.shows(Component::Month)
             && self.shows(Component::Day);
         let other = self.shows(Component::IsoYear)
-            || self.shows(Component::Ordinal)
-            || self.shows(Component::IsoWeek);
-        date && !other && !self.shows_rare()
+            | self.shows(Component::Ordinal)
+            | self.shows(Component::IsoWeek);
+        date && !(other | self.shows_rare())
     }
 
     /// Returns `true` if an ordinal date is shown, and no other component of a date.
@@ -87,11 +87,11 @@ impl Shown {
     {
         let date = self.shows(Component::Year) && self.shows(Component::Ordinal);
         let other = self.shows(Component::IsoYear)
-            || self.shows(Component::Month)
-            || self.shows(Component::Day)
-            || self.shows(Component::IsoWeek)
-            || self.shows(Component::Weekday);
-        date && !other && !self.shows_rare()
+            | self.shows(Component::Month)
+            | self.shows(Component::Day)
+            | self.shows(Component::IsoWeek)
+            | self.shows(Component::Weekday);
+        date && !(other | self.shows_rare())
     }
 
     /// Returns `true` if a week date is shown, and no other component of a date.
@@ -103,10 +103,10 @@ impl Shown {
             && self.shows(Component::IsoWeek)
             && self.shows(Component::Weekday);
         let other = self.shows(Component::Year)
-            || self.shows(Component::Month)
-            || self.shows(Component::Day)
-            || self.shows(Component::Ordinal);
-        date && !other && !self.shows_rare()
+            | self.shows(Component::Month)
+            | self.shows(Component::Day)
+            | self.shows(Component::Ordinal);
+        date && !(other | self.shows_rare())
     }
 
     /// Returns `true` if a component of a date is shown that no calendar date, ordinal date or week
@@ -116,12 +116,12 @@ impl Shown {
         ensures { result ≡ shows_rare self.now.marks }
     {
         self.shows(Component::Century)
-            || self.shows(Component::YearOfCentury)
-            || self.shows(Component::DaysFromMonday)
-            || self.shows(Component::DaysFromSunday)
-            || self.shows(Component::SundayWeekday)
-            || self.shows(Component::SundayWeek)
-            || self.shows(Component::MondayWeek)
+            | self.shows(Component::YearOfCentury)
+            | self.shows(Component::DaysFromMonday)
+            | self.shows(Component::DaysFromSunday)
+            | self.shows(Component::SundayWeekday)
+            | self.shows(Component::SundayWeek)
+            | self.shows(Component::MondayWeek)
     }
 
     /// Returns `true` if a time of day is shown, by one number for each of its parts.
@@ -182,11 +182,11 @@ impl Shown {
         ensures { result ≡ shows_rare_part self.now.marks }
     {
         self.shows(Component::Subsecond1)
-            || self.shows(Component::Subsecond2)
-            || self.shows(Component::Subsecond4)
-            || self.shows(Component::Subsecond5)
-            || self.shows(Component::Subsecond7)
-            || self.shows(Component::Subsecond8)
+            | self.shows(Component::Subsecond2)
+            | self.shows(Component::Subsecond4)
+            | self.shows(Component::Subsecond5)
+            | self.shows(Component::Subsecond7)
+            | self.shows(Component::Subsecond8)
     }
 
     /// Returns `true` if the items show only components with an index from `low` to below `high`.

@@ -195,6 +195,14 @@ impl DateFormat {
 }
 
 impl TimeFormat {
+    /// Returns its items as a format of any values.
+    pub fn as_format(&self) -> &Format
+        ensures items { result.now ≡ self.now }
+        ensures determines { DeterminesTime self.now }
+    {
+        &self.format
+    }
+
     /// Parses a text. Returns the time of day that the format holds and prints as this text, if it
     /// is the text of a time. The format holds a time if each part that it doesn't show is 0.
     ///

@@ -1,2 +1,4 @@
 pub mod Ended
 pub mod Named
+pub mod Ambiguities
+pub mod Parsed

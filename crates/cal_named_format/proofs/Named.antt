@@ -16,22 +16,20 @@ use Rattle.cal_format.specs.declared.item.Name.TheVariants as name
 use Rattle.cal_format.specs.declared.moment.Moment.{Moment}
 use Rattle.cal_format.specs.Form.{ItemShape, numbered_item, numbered_text, numbers_of, item_number, IsNameNumber, IsNumber, AreNumbers}
 use Rattle.cal_format.specs.Moment.{IsMoment}
-use Rattle.cal_format.specs.Reading.{ends_before, are_apart}
+use Rattle.cal_format.specs.Reading.{are_apart}
 use Rattle.cal_format.specs.Rejection.{IsNumberRejection}
 use Rattle.cal_format.specs.Scanning.{IsHeld, AreHeld}
 use Rattle.cal_format.specs.Text.{item_text, text_of}
 use Rattle.cal_format.specs.Values.{IsPrinted}
-use Rattle.cal_format.proofs.Apart.{both_tests, first_of, others_of}
+use Rattle.cal_format.proofs.Apart.{first_of, others_of}
 use Rattle.cal_format.proofs.Own.{has-own}
 use Rattle.cal_format.proofs.Shapes.{item-each}
 use Rattle.cal_format.proofs.Uniques.{same-length, exact-split, item-number, one-numbers}
-use Rattle.cal_names.specs.Names.{begins_with}
-use Rattle.cal_names.specs.Apart.{AreDistinct}
 use Rattle.cal_names.specs.declared.names.Names.{Names}
-use Rattle.cal_names.proofs.Fronts.{begins-with_rest}
-use Rattle.cal_named_format.specs.Named.{table_of, count_of, first_number, name_in, item_text_in, text_in, numbered_item_in, numbered_text_in, item_shape_in, shape_in, HasFormIn, NamesEnd, ReadBack}
+use Rattle.cal_named_format.specs.Named.{table_of, count_of, first_number, name_in, item_text_in, text_in, numbered_item_in, numbered_text_in, item_shape_in, shape_in, HasFormIn}
+use Rattle.cal_named_format.specs.Ambiguity.{EndsBefore, ReadBack}
 use Rattle.cal_named_format.specs.Rejection.{HasNumbersIn, IsPrintedIn, IsRejectionIn}
-use Rattle.cal_named_format.proofs.Ended.{AreTables, at-name, IsEndedIn, item-ended}
+use Rattle.cal_named_format.proofs.Ended.{AreTables, at-name, distinct, IsEndedIn, item-ended}
 use Rattle.cal_names.proofs.NameShapes.{found-shape}
 
 -- ---- the form
@@ -52,33 +50,27 @@ item-each-in t item.Abbreviation n f rest tables fit ended = item-each item.Abbr
 pub record Reads (t : Names) (items : List Item) : Type 0 where
   pub tables : AreTables t
   pub reads : ReadBack t items
-  pub apart : IsTrue (are_apart items)
 
 others : (t : Names) (i : Item) (items : List Item) → Reads t (i ∷ items) → Reads t items
-others t i items h = record { tables = h.tables; reads = h.reads.2; apart = (both_tests (ends_before i items) (are_apart items) h.apart).1 }
-
-first-ended : (t : Names) (i : Item) (items : List Item) (n : ℕ) (numbers : List ℕ) → Reads t (i ∷ items) → IsNumber i n → AreNumbers items numbers → IsEndedIn t i n (numbered_text_in t items numbers)
-first-ended t i items n numbers h fit fits = item-ended t i items n numbers h.tables h.reads (both_tests (ends_before i items) (are_apart items) h.apart).0 fit fits
+others t i items h = record { tables = h.tables; reads = h.reads.1 }
 
 pub has-form-in : (t : Names) (items : List Item) (numbers : List ℕ) → Reads t items → AreNumbers items numbers → unmatched_bytes (shape_in t items) (numbered_text_in t items numbers) ≡ 0
 has-form-in t [] numbers h fit = unmatched_bytes-done
 has-form-in t (i ∷ items) [] h fit = absurd fit
 has-form-in t (i ∷ items) (n ∷ numbers) h fit =
-    item-each-in t i n (shape_in t items) (numbered_text_in t items numbers) h.tables fit.0 (first-ended t i items n numbers h fit.0 fit.1) ∙ has-form-in t items numbers (others t i items h) fit.1
+    let after = numbered_text_in t items numbers in
+    let form = has-form-in t items numbers (others t i items h) fit.1 in
+    item-each-in t i n (shape_in t items) after h.tables fit.0 (item-ended t i items n after h.tables h.reads.0 fit.0 form) ∙ form
 
 -- ---- one list of numbers
-distinct : (t : Names) (k : Name) (items : List Item) → NamesEnd t (item.Name k) items → AreDistinct (table_of t k)
-distinct t k items (inl apart) = λ i j x at there. apart i j x x at there (ap (begins_with x) (sym (append-nil x)) ∙ begins-with_rest x [])
-distinct t k items (inr both) = both.0
-
 same-number : (k : Name) (n m : ℕ) → IsNameNumber k n → IsNameNumber k m → n - first_number k ≡ m - first_number k → n ≡ m
 same-number name.Period n m h g e = omega (arith, e)
 same-number name.LowerPeriod n m h g e = omega (arith, e)
 same-number _ n m h g e = omega (arith, e, h.0, g.0)
 
-item-number-in : (t : Names) (i : Item) (items : List Item) (n m : ℕ) → AreTables t → NamesEnd t i items → IsNumber i n → IsNumber i m → numbered_item_in t i n ≡ numbered_item_in t i m → n ≡ m
+item-number-in : (t : Names) (i : Item) (items : List Item) (n m : ℕ) → AreTables t → EndsBefore t i items → IsNumber i n → IsNumber i m → numbered_item_in t i n ≡ numbered_item_in t i m → n ≡ m
 item-number-in t (item.Name k) items n m tables ends h g e =
-    same-number k n m h g (distinct t k items ends (n - first_number k) (m - first_number k) (name_in t k n) (at-name t k n tables h) (at-name t k m tables g ∙ ap Some (sym e)))
+    same-number k n m h g (distinct (table_of t k) t items ends (n - first_number k) (m - first_number k) (name_in t k n) (at-name t k n tables h) (at-name t k m tables g ∙ ap Some (sym e)))
 item-number-in t (item.Literal b) items n m tables ends h g e = item-number (item.Literal b) n m h g e
 item-number-in t (item.Number c p) items n m tables ends h g e = item-number (item.Number c p) n m h g e
 item-number-in t (item.Signed c p) items n m tables ends h g e = item-number (item.Signed c p) n m h g e
@@ -99,8 +91,8 @@ one-numbers-in t (i ∷ items) (n ∷ ns) [] h f g e = absurd g
 one-numbers-in t (i ∷ items) (n ∷ ns) (m ∷ ms) h f g e =
     let r = numbered_text_in t items ns in
     let s = numbered_text_in t items ms in
-    let own : unmatched_bytes (item_shape_in t i End) (numbered_item_in t i n ++ r) ≡ unmatched_bytes End r = item-each-in t i n End r h.tables f.0 (first-ended t i items n ns h f.0 f.1) in
-    let other : unmatched_bytes (item_shape_in t i End) (numbered_item_in t i m ++ s) ≡ unmatched_bytes End s = item-each-in t i m End s h.tables g.0 (first-ended t i items m ms h g.0 g.1) in
+    let own : unmatched_bytes (item_shape_in t i End) (numbered_item_in t i n ++ r) ≡ unmatched_bytes End r = item-each-in t i n End r h.tables f.0 (item-ended t i items n r h.tables h.reads.0 f.0 (has-form-in t items ns (others t i items h) f.1)) in
+    let other : unmatched_bytes (item_shape_in t i End) (numbered_item_in t i m ++ s) ≡ unmatched_bytes End s = item-each-in t i m End s h.tables g.0 (item-ended t i items m s h.tables h.reads.0 g.0 (has-form-in t items ms (others t i items h) g.1)) in
     let same = same-length r s (sym own ∙ ap (unmatched_bytes (item_shape_in t i End)) e ∙ other) in
     let found = exact-split (numbered_item_in t i n) (numbered_item_in t i m) r s (omega (arith, same, ap length e, length-append (numbered_item_in t i n) r, length-append (numbered_item_in t i m) s)) e in
     let first = item-number-in t i items n m h.tables h.reads.0 f.0 g.0 found.0 in

@@ -1,2 +1,4 @@
 pub mod Named
+pub mod Ambiguity
 pub mod Rejection
+pub mod Values

@@ -1,18 +1,17 @@
 -- Texts of a format with the names of a table.
-use Rattle.std.specs.Prelude.{◌≡◌, ℕ, ◌-◌, ◌<◌, ◌⊎◌, List, [], ◌∷◌, ◌++◌, get_or}
+use Rattle.std.specs.Prelude.{◌≡◌, ℕ, ◌-◌, List, [], ◌∷◌, ◌++◌, get_or}
 use Rattle.std.specs.List.{flat_map}
 use Rattle.cal_text.specs.Shape.{Shape, End, unmatched_bytes}
 use Rattle.cal_format.specs.declared.item.Item.{Item}
 use Rattle.cal_format.specs.declared.item.Item.TheVariants as item
 use Rattle.cal_format.specs.declared.item.Name.{Name}
 use Rattle.cal_format.specs.declared.item.Name.TheVariants as name
-use Rattle.cal_format.specs.declared.item.Padding.TheVariants as padding
 use Rattle.cal_format.specs.declared.moment.Moment.{Moment}
 use Rattle.cal_format.specs.Form.{ItemShape, numbered_item}
 use Rattle.cal_format.specs.Moment.{number}
 use Rattle.cal_format.specs.Reading.{name_component}
 use Rattle.cal_format.specs.Text.{item_text}
-use Rattle.cal_names.specs.Apart.{AreApart, AreDistinct, NoneContinued, texts}
+use Rattle.cal_names.specs.Apart.{texts}
 use Rattle.cal_names.specs.declared.names.Names.{Names}
 use Rattle.cal_names.specs.NameShape.{TableShape}
 
@@ -73,43 +72,6 @@ shape_in t (i ∷ items) = item_shape_in t i (shape_in t items)
 abbrev pub HasFormIn : Names → List Item → List ℕ → Type 0
 HasFormIn t items text = unmatched_bytes (shape_in t items) text ≡ 0
 
--- A name isn't empty, and begins with neither a digit nor a point.
-abbrev pub IsPlain : List ℕ → Type 0
-IsPlain [] = ⊥
-IsPlain (x ∷ xs) = (x < 46) ⊎ (57 < x)
-
--- Each name of the table begins so.
-abbrev pub ArePlain : List (List ℕ) → Type 0
-ArePlain [] = Unit {0}
-ArePlain (x ∷ names) = IsPlain x × ArePlain names
-
--- No name goes on with the first byte of the items, which is a literal, or there are no items.
-abbrev pub IsParted : List (List ℕ) → List Item → Type 0
-IsParted names [] = Unit {0}
-IsParted names (item.Literal b ∷ items) = NoneContinued names b
-IsParted names (i ∷ items) = ⊥
-
--- The names of the item are distinct, and each ends before the items after it: no name begins
--- another one, or the items after it don't go on with a name.
-abbrev pub NamesEnd : Names → Item → List Item → Type 0
-NamesEnd t (item.Name k) items = AreApart (table_of t k) ⊎ (AreDistinct (table_of t k) × IsParted (table_of t k) items)
-NamesEnd t i items = Unit {0}
-
--- The names with which the items begin are plain.
-abbrev pub BeginPlain : Names → List Item → Type 0
-BeginPlain t (item.Name k ∷ items) = ArePlain (table_of t k)
-BeginPlain t items = Unit {0}
-
--- A number of a width that varies, and a fraction, end before a name.
-abbrev pub EndsBeforeName : Names → Item → List Item → Type 0
-EndsBeforeName t (item.Number c padding.None) items = BeginPlain t items
-EndsBeforeName t (item.Signed c padding.None) items = BeginPlain t items
-EndsBeforeName t item.Fraction items = BeginPlain t items
-EndsBeforeName t item.Decimals items = BeginPlain t items
-EndsBeforeName t i items = Unit {0}
-
--- The texts with these names read back: in addition to what a format in English needs, the items
--- before a name and the name end.
-abbrev pub ReadBack : Names → List Item → Type 0
-ReadBack t [] = Unit {0}
-ReadBack t (i ∷ items) = NamesEnd t i items × EndsBeforeName t i items × ReadBack t items
+-- A text of the items can begin with the byte b.
+abbrev pub CanBegin : Names → List Item → ℕ → Type 0
+CanBegin t items b = (rest : List ℕ) × HasFormIn t items (b ∷ rest)

@@ -1,15 +1,18 @@
 //! Formats with the names of a language in place of the English names.
 //!
-//! [`print`] prints any format. [`parse_date`] accepts exactly the strings that a format prints of the
-//! dates that it holds, if [`reads_back`] is `true` for the format and the names.
+//! [`print`] prints any format. [`parse_date`] and the like accept exactly the strings that a format
+//! prints of the values that it holds, if [`check_names`] returns `Ok` for the format and the names.
 #![tactic(auto)]
 
+mod error;
 mod formats;
 mod parsing;
 mod printing;
 mod reading;
 mod scanning;
 
-pub use formats::parse_date;
+pub use error::NamesError;
+pub use formats::{parse_date, parse_date_time, parse_offset_date_time, parse_time};
 pub use printing::print;
-pub use reading::reads_back;
+pub use reading::check_names;
+pub use scanning::{table_counts, table_of};

@@ -4,7 +4,8 @@ ghost use Rattle.cal_text.specs.Shape.{Scans, ScansWhole};
 ghost use Rattle.cal_format.specs.declared.error.ParseError.TheVariants.{UnexpectedByte, UnexpectedEnd};
 ghost use Rattle.cal_format.specs.Form.{IsNumber};
 ghost use Rattle.cal_format.specs.Reading.{are_apart};
-ghost use Rattle.cal_named_format.specs.Named.{item_shape_in, numbered_item_in, shape_in, ReadBack};
+ghost use Rattle.cal_named_format.specs.Ambiguity.{ReadBack};
+ghost use Rattle.cal_named_format.specs.Named.{item_shape_in, numbered_item_in, shape_in};
 ghost use Rattle.cal_named_format.specs.Rejection.{HasNumbersIn, IsParsedIn};
 
 use crate::scanning::{scan_name, table_counts};
@@ -61,6 +62,20 @@ fn scan_items(
         [item, others @ ..] => {
             numbers[at] = scan_item(*item, names, scanner)?;
             scan_items(others, names, scanner, numbers, at + 1)
+        }
+    }
+}
+
+/// Parses the items up to the end of the text, whatever their numbers are.
+pub(crate) fn scan_form(items: &[Item], names: &Names, scanner: &mut Scanner) -> Option<()>
+    ensures { ScansWhole (shape_in names.now items.now) scanner.old.rest.now scanner.new.rest.now
+        result }
+{
+    match items {
+        [] => scanner.end(),
+        [item, others @ ..] => {
+            scan_item(*item, names, scanner)?;
+            scan_form(others, names, scanner)
         }
     }
 }

@@ -11,8 +11,8 @@ use cal_format::Name;
 use cal_names::{Names, table};
 use cal_text::Scanner;
 
-/// Returns the table of a kind of name.
-pub(crate) fn table_of<'t, 'n>(names: &'t Names<'n>, name: Name) -> &'t [&'n str]
+/// Returns the table of a kind of name. The table of `Name::Weekday` in Turkish begins with `Pazartesi`.
+pub fn table_of<'t, 'n>(names: &'t Names<'n>, name: Name) -> &'t [&'n str]
     ensures table { texts result.now ≡ table_of names.now name }
     ensures count { length result.now ≡ count_of name }
 {
@@ -26,8 +26,8 @@ pub(crate) fn table_of<'t, 'n>(names: &'t Names<'n>, name: Name) -> &'t [&'n str
     }
 }
 
-/// States that each table has its number of names.
-pub(crate) fn table_counts(names: &Names)
+/// States that each table has its number of names, such as 7 for `Name::Weekday`.
+pub fn table_counts(names: &Names)
     ensures { (k : Kind) → length (table_of names.now k) ≡ count_of k }
 {
     table_of(names, Name::Month);

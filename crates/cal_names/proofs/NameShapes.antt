@@ -1,13 +1,13 @@
 -- A name at the front of a text has the shape of its table.
 use Rattle.std.proofs.Common.{◌≡◌, ℕ, zero, suc, ◌+◌, ◌-◌, ◌≤◌, List, [], ◌∷◌, ◌++◌, length, take, drop, refl, sym, ap, ◌∙◌, arith, length-append, append_assoc, append-nil}
-use Rattle.std.specs.Prelude.{Bool, true, false, Option, None, Some, IfNone, IfSome, slice_get, get_or, ◌==◌, ◌||◌, unwrap_or, if◌then◌else◌}
+use Rattle.std.specs.Prelude.{Bool, true, false, Option, None, Some, IfNone, IfSome, slice_get, get_or, ◌==◌, ◌||◌, if◌then◌else◌}
 use Rattle.std.proofs.lemmas.Option.{get_or_from_slice_get}
 use Rattle.std.proofs.lemmas.Bool.{eq-eqb, eqb-true, false≢true, or_left, or_right}
 use Rattle.std.proofs.lemmas.List.{take-append-drop, take_all, length-drop}
 use Rattle.cal_text.specs.Shape.{Shape, Byte, Branch, Scans, unmatched_bytes}
 use Rattle.cal_text.proofs.Stops.{unmatched_bytes-out, unmatched_bytes-end, unmatched_bytes-branch_in, unmatched_bytes-branch_out, unmatched_bytes-branch_end}
 use Rattle.cal_names.specs.Names.{begins_with}
-use Rattle.cal_names.specs.Apart.{any_begins, AreApart, IsReach, NoneContinued}
+use Rattle.cal_names.specs.Apart.{any_begins, IsReach, NoneContinued}
 use Rattle.cal_names.proofs.Fronts.{rest-is, begins-with_rest}
 use Rattle.cal_names.specs.NameShape.{add_if, after, has_end, first_byte, Heads, Last, NamesShape, longest, TableShape}
 
@@ -205,14 +205,6 @@ stop-name names text d f h none =
     ap (unmatched_bytes (TableShape names f)) (sym (take-append-drop d text)) ∙ stopped-shape names begun.1.0 (take d text) begun.0 (drop d text) f begun.1.1 none (text-stuck names text d h)
 
 -- ---- a name ends
-pub apart-stuck : (names : List (List ℕ)) (n : ℕ) (name rest : List ℕ) → AreApart names → slice_get names n ≡ Some name → IsStuck (afters name names) rest
-apart-stuck names n name [] apart e = tt
-apart-stuck names n name (b ∷ rest) apart e = λ m z at.
-    let one = more-of name names b m z at in
-    let same = apart n one.0 name (name ++ b ∷ z) e one.1 (begins-with_rest name (b ∷ z)) in
-    let long = ap (λ o. length (unwrap_or o [])) (sym e ∙ ap (slice_get names) same ∙ one.1) in
-    omega (arith, long, length-append name (b ∷ z))
-
 pub parted-stuck : (names : List (List ℕ)) (n b : ℕ) (name rest : List ℕ) → NoneContinued names b → slice_get names n ≡ Some name → IsStuck (afters name names) (b ∷ rest)
 parted-stuck names n b name rest none e = λ m z at.
     let one = more-of name names b m z at in

@@ -43,8 +43,8 @@ pub fn find(names: &[&str], text: &[u8]) -> Option<usize>
     found
 }
 
-/// Returns the name with an index.
-fn name_at<'n>(names: &[&'n str], index: usize) -> &'n str
+/// Returns the name with an index, from 0. In French, the month with the index 1 is `février`.
+pub fn name_at<'n>(names: &[&'n str], index: usize) -> &'n str
     requires { index < length names.now }
     ensures { result.now ≡ text_at names.now index }
 {

@@ -34,15 +34,15 @@ SELECT * FROM (VALUES
 -- the functions go from 4714-11-24 BC to 999999-12-31, with a year 0 in texts for 1 BC
 SELECT * FROM (VALUES
     (1, cal_add_months('999999-11-30', 1)::text, '999999-12-30'),
-    (2, pg_temp.error_of($$SELECT cal_add_months('999999-12-01', 1)$$), '22008 add months: result out of range'),
+    (2, pg_temp.error_of($$SELECT cal_add_months('999999-12-01', 1)$$), '22008 add months: the result is out of range, or does not exist'),
     (3, pg_temp.error_of($$SELECT cal_quarter('1000000-01-01')$$), '22008 date out of range / The functions go to the year 999999.'),
     (4, cal_add_years('0001-06-01', -1)::text, '0001-06-01 BC'), (5, cal_format('0001-06-01 BC', '%Y-%m-%d'), '0000-06-01'),
     (6, cal_week_text('0045-03-15 BC'), '-0044-W11-4'), (7, cal_parse('0000-02-29')::text, '0001-02-29 BC'),
     (8, cal_add_months('4714-12-24 BC', -1)::text, '4714-11-24 BC'),
-    (9, pg_temp.error_of($$SELECT cal_add_months('4714-11-24 BC', -1)$$), '22008 add months: result out of range'),
+    (9, pg_temp.error_of($$SELECT cal_add_months('4714-11-24 BC', -1)$$), '22008 add months: the result is out of range, or does not exist'),
     (15, cal_local('1969-12-31 23:59:59.5Z', 'Asia/Kolkata')::text, '1970-01-01 05:29:59.5'),
     (10, cal_local('294276-12-31 12:00Z', 'UTC')::text, '294276-12-31 12:00:00'),
-    (11, pg_temp.error_of($$SELECT cal_instant('294276-12-31 23:30', 'Etc/GMT+5')$$), '22008 local time: result out of range'),
+    (11, pg_temp.error_of($$SELECT cal_instant('294276-12-31 23:30', 'Etc/GMT+5')$$), '22008 local time: the result is out of range, or does not exist'),
     (12, cal_instant('4714-11-24 00:00:00 BC', 'UTC')::text, '4714-11-24 00:00:00+00 BC'),
     (13, (SELECT count(*) FROM cal_days('FREQ=YEARLY', '999990-01-01', daterange(NULL, '1000005-01-01')))::text, '10'),
     (14, (SELECT count(*) FROM cal_series('999990-01-01', '999999-12-31', '1 year'))::text, '10')
@@ -50,33 +50,33 @@ SELECT * FROM (VALUES
 
 -- errors: a text that isn't one, a value out of range, another argument; and where
 SELECT * FROM (VALUES
-    (1, pg_temp.error_of($$SELECT cal_parse('2023-02-29')$$), '22008 invalid date: "2023-02-29" / day out of range'),
+    (1, pg_temp.error_of($$SELECT cal_parse('2023-02-29')$$), '22008 invalid date: "2023-02-29" / day is out of range'),
     (2, pg_temp.error_of($$SELECT cal_parse('2024-02-2x')$$), '22007 invalid date: "2024-02-2x" / unexpected byte at character 10'),
     (3, pg_temp.error_of($$SELECT cal_parse('2024-02')$$), '22007 invalid date: "2024-02" / unexpected end at character 8'),
     (4, pg_temp.error_of($$SELECT cal_parse('2024–02-29')$$), '22007 invalid date: "2024–02-29" / unexpected byte at character 5'),
     (5, pg_temp.error_of($$SELECT cal_parse('Wed 2024-02-29', '%a %Y-%m-%d')$$), '22007 invalid date: "Wed 2024-02-29" / weekday contradicts the other components'),
-    (6, pg_temp.error_of($$SELECT cal_parse('05', '%m')$$), '22023 format: insufficient format'),
-    (7, pg_temp.error_of($$SELECT cal_valid('05', '%m')$$), '22023 format: insufficient format'),
+    (6, pg_temp.error_of($$SELECT cal_parse('05', '%m')$$), '22023 format: the texts of a format don''t determine such a value'),
+    (7, pg_temp.error_of($$SELECT cal_valid('05', '%m')$$), '22023 format: the texts of a format don''t determine such a value'),
     (8, pg_temp.error_of($$SELECT cal_format('2024-02-29', '%d %Q')$$), '22023 invalid format: "%d %Q" / unknown item at character 4'),
-    (9, pg_temp.error_of($$SELECT cal_format('2024-02-29', '%H')$$), '22023 format: unsupported item'),
+    (9, pg_temp.error_of($$SELECT cal_format('2024-02-29', '%H')$$), '22023 format: the format shows something that the value doesn''t have'),
     (10, pg_temp.error_of($$SELECT cal_adjust('2024-02-29', 'next')$$), '22023 unknown convention "next"; expected unadjusted, following, modified following, preceding or modified preceding'),
-    (11, pg_temp.error_of($$SELECT cal_next_weekday('2024-02-29', 0)$$), '22023 next weekday: invalid weekday'),
-    (12, pg_temp.error_of($$SELECT cal_nth_weekday(2024, 13, 1, 1)$$), '22008 nth weekday: month out of range'),
+    (11, pg_temp.error_of($$SELECT cal_next_weekday('2024-02-29', 0)$$), '22023 next weekday: invalid weekday; expected 1 (Monday) to 7 (Sunday)'),
+    (12, pg_temp.error_of($$SELECT cal_nth_weekday(2024, 13, 1, 1)$$), '22008 nth weekday: month is out of range'),
     (13, cal_nth_weekday(2024, 2, 5, 5)::text, NULL),
-    (14, pg_temp.error_of($$SELECT cal_instant('2024-03-31 02:30', 'Europe/Berlin', 'reject')$$), '22008 local time: skipped time'),
-    (15, pg_temp.error_of($$SELECT cal_instant('2024-10-27 02:30', 'Europe/Berlin', 'reject')$$), '22008 local time: repeated time'),
+    (14, pg_temp.error_of($$SELECT cal_instant('2024-03-31 02:30', 'Europe/Berlin', 'reject')$$), '22008 local time: the clocks of the zone skip the date and time'),
+    (15, pg_temp.error_of($$SELECT cal_instant('2024-10-27 02:30', 'Europe/Berlin', 'reject')$$), '22008 local time: the clocks of the zone show the date and time twice'),
     (16, pg_temp.error_of($$SELECT cal_days('FREQ=DAILY;BYDAY=XX', '2024-01-01')$$), '22023 invalid recurrence: "FREQ=DAILY;BYDAY=XX" / invalid value at character 12'),
     (17, pg_temp.error_of($$SELECT cal_times_local('FREQ=DAILY', '2024-01-01')$$), '22023 the recurrence has no end'),
-    (18, pg_temp.error_of($$SELECT cal_series('2024-01-01', '2024-02-01', '0 days')$$), '22023 series: invalid period'),
-    (19, pg_temp.error_of($$SELECT cal_series('2024-01-01', '2024-02-01', '1 hour')$$), '22023 series: period has a duration'),
-    (20, pg_temp.error_of($$SELECT cal_add_period('2024-01-01', '1 month -1 day')$$), '22023 add period: invalid period'),
+    (18, pg_temp.error_of($$SELECT cal_series('2024-01-01', '2024-02-01', '0 days')$$), '22023 series: invalid period; expected parts of one sign and a valid duration'),
+    (19, pg_temp.error_of($$SELECT cal_series('2024-01-01', '2024-02-01', '1 hour')$$), '22023 series: a date has no time of day, so a period of it has no duration'),
+    (20, pg_temp.error_of($$SELECT cal_add_period('2024-01-01', '1 month -1 day')$$), '22023 add period: invalid period; expected parts of one sign and a valid duration'),
     (21, pg_temp.error_of($$SELECT cal_duration_text('1 day')$$), '22023 expected an interval of hours, minutes and seconds'),
     (22, pg_temp.error_of($$SELECT cal_parse_duration('P1D')$$), '22007 invalid duration: "P1D" / unexpected byte at character 2'),
     (23, pg_temp.error_of($$SELECT cal_parse_period('P999999999Y')$$), '22015 interval out of range'),
-    (24, pg_temp.error_of($$SELECT cal_round_local('2024-01-01', '7 hours')$$), '22023 round: invalid rounding unit'),
-    (30, pg_temp.error_of($$SELECT cal_days('FREQ=HOURLY;COUNT=3', '2024-10-27')$$), '22023 invalid recurrence: "FREQ=HOURLY;COUNT=3" / invalid frequency'),
+    (24, pg_temp.error_of($$SELECT cal_round_local('2024-01-01', '7 hours')$$), '22023 round: invalid rounding unit; expected a positive duration, which divides 24 h for times of day'),
+    (30, pg_temp.error_of($$SELECT cal_days('FREQ=HOURLY;COUNT=3', '2024-10-27')$$), '22023 invalid recurrence: "FREQ=HOURLY;COUNT=3" / invalid frequency; expected 1 (daily) to 4 (yearly)'),
     (31, (SELECT string_agg(t::text, ' ') FROM cal_times_zoned('FREQ=HOURLY;COUNT=3', '2024-10-27 01:30', 'Europe/Berlin') AS t), '2024-10-26 23:30:00+00 2024-10-27 00:30:00+00 2024-10-27 02:30:00+00'),
-    (32, pg_temp.error_of($$SELECT cal_easter(1000000)$$), '22008 Easter: year out of range'),
+    (32, pg_temp.error_of($$SELECT cal_easter(1000000)$$), '22008 Easter: year is out of range'),
     (27, (SELECT string_agg(d::text, ' ') FROM cal_days('FREQ=DAILY;UNTIL=20240105', '2024-01-01', '[2024-01-02,2024-01-04]') AS d), '2024-01-02 2024-01-03 2024-01-04'),
     (28, (SELECT string_agg(t::text, ' ') FROM cal_times_local('FREQ=DAILY', '2024-01-01 09:00', '(2024-01-02 09:00,2024-01-04 09:00]') AS t), '2024-01-03 09:00:00 2024-01-04 09:00:00'),
     (29, (SELECT string_agg(t::text, ' ') FROM cal_times_zoned('FREQ=DAILY', '2024-01-01 09:00', 'UTC', '[2024-01-02 09:00Z,2024-01-04 09:00Z)') AS t), '2024-01-02 09:00:00+00 2024-01-03 09:00:00+00'),
@@ -85,19 +85,19 @@ SELECT * FROM (VALUES
 
 -- why a string isn't valid: the words of the error, NULL for a valid one, and an error for a format that can't say
 SELECT * FROM (VALUES
-    (1, cal_error('2024-02-29'), NULL), (2, cal_error(NULL), NULL), (3, cal_error('2023-02-29'), 'day out of range'),
-    (4, cal_error('2024-13-01'), 'month out of range'), (5, cal_error('2024-02-2x'), 'unexpected byte at character 10'),
+    (1, cal_error('2024-02-29'), NULL), (2, cal_error(NULL), NULL), (3, cal_error('2023-02-29'), 'day is out of range'),
+    (4, cal_error('2024-13-01'), 'month is out of range'), (5, cal_error('2024-02-2x'), 'unexpected byte at character 10'),
     (6, cal_error('2024–02-29'), 'unexpected byte at character 5'), (7, cal_error(''), 'unexpected end at character 1'),
-    (8, cal_error('29.02.2024', '%d.%m.%Y'), NULL), (9, cal_error('31.04.2024', '%d.%m.%Y'), 'day out of range'),
+    (8, cal_error('29.02.2024', '%d.%m.%Y'), NULL), (9, cal_error('31.04.2024', '%d.%m.%Y'), 'day is out of range'),
     (10, cal_error('Wed 2024-02-29', '%a %Y-%m-%d'), 'weekday contradicts the other components'),
-    (11, cal_error_local('2024-02-29 9:05'), NULL), (12, cal_error_local('2024-02-29 24:00'), 'hour out of range'),
-    (13, cal_error_local('9:65 29.02.2024', '%-H:%M %d.%m.%Y'), 'minute out of range'),
+    (11, cal_error_local('2024-02-29 9:05'), NULL), (12, cal_error_local('2024-02-29 24:00'), 'hour is out of range'),
+    (13, cal_error_local('9:65 29.02.2024', '%-H:%M %d.%m.%Y'), 'minute is out of range'),
     (14, cal_error_instant('2024-02-29T23:59:59Z'), NULL), (15, cal_error_instant('2024-02-29T23:59:59'), 'unexpected end at character 20'),
-    (16, cal_error_instant('2024-02-29 9:05 +26:00', '%Y-%m-%d %-H:%M %:z'), 'offset hour out of range'),
-    (17, pg_temp.error_of($$SELECT cal_error('05', '%m')$$), '22023 format: insufficient format'),
+    (16, cal_error_instant('2024-02-29 9:05 +26:00', '%Y-%m-%d %-H:%M %:z'), 'offset hour is out of range'),
+    (17, pg_temp.error_of($$SELECT cal_error('05', '%m')$$), '22023 format: the texts of a format don''t determine such a value'),
     (18, pg_temp.error_of($$SELECT cal_error('05', '%Q')$$), '22023 invalid format: "%Q" / unknown item at character 1'),
     (19, (SELECT string_agg(t || ': ' || cal_error(t), '; ' ORDER BY t) FROM unnest(ARRAY['2024-02-29', NULL, '2023-02-29', '29.2.']) AS t WHERE NOT cal_valid(t)),
-        '2023-02-29: day out of range; 29.2.: unexpected byte at character 3')
+        '2023-02-29: day is out of range; 29.2.: unexpected byte at character 3')
 ) AS row(id, result, expected) WHERE result IS DISTINCT FROM expected;
 
 -- other dates and exceptions: in any order, twice, in both, before the start, outside the range, in a gap, NULL, infinity, too many
@@ -115,7 +115,7 @@ SELECT * FROM (VALUES
     (11, pg_temp.error_of($$SELECT cal_days('FREQ=DAILY;COUNT=4', '2024-01-01', rdates => '{NULL}')$$), '22004 rdates and exdates must not be null'),
     (12, pg_temp.error_of($$SELECT cal_days('FREQ=DAILY;COUNT=4', '2024-01-01', exdates => '{infinity}')$$), '22008 date must be finite'),
     (13, pg_temp.error_of($$SELECT cal_times_zoned('FREQ=DAILY;COUNT=4', '2024-01-01', 'UTC', rdates => '{-infinity}')$$), '22008 timestamp must be finite'),
-    (14, pg_temp.error_of($$SELECT cal_days('FREQ=DAILY;COUNT=4', '2024-01-01', exdates => (SELECT array_agg('2024-01-01'::date + n) FROM generate_series(1, 1025) AS n))$$), '22023 recurrence: too many dates'),
+    (14, pg_temp.error_of($$SELECT cal_days('FREQ=DAILY;COUNT=4', '2024-01-01', exdates => (SELECT array_agg('2024-01-01'::date + n) FROM generate_series(1, 1025) AS n))$$), '22023 recurrence: too many dates or exceptions of a rule; expected at most 1024'),
     (15, pg_temp.error_of($$SELECT cal_days('FREQ=DAILY', '2024-01-01', rdates => '{2024-01-01}')$$), '22023 the recurrence has no end')
 ) AS row(id, result, expected) WHERE result IS DISTINCT FROM expected;
 
@@ -124,16 +124,22 @@ SELECT left(name, 32) AS name, regexp_replace(pg_temp.error_of(format('SELECT ca
 FROM unnest(ARRAY['../etc/passwd', '/etc/passwd', 'Europe/../../../../etc/passwd', 'Europe//Berlin', 'Europe', 'Europe/', 'tzdata.zi', './UTC', '',
     'europe/berlin', 'No/Such', repeat('A', 300)]) WITH ORDINALITY AS names(name, at) ORDER BY at;
 
--- holidays in any order, twice, in a matrix, none, NULL, infinity, more than 1024, compressed, out of line, and in PL/pgSQL
+-- holidays in any order, twice, in a matrix, none, NULL, infinity, of calendars and rules, more than 1024, compressed, out of line, and in PL/pgSQL
 SELECT * FROM (VALUES
     (1, cal_workdays('2024-12-20', '2025-01-03', '{2025-01-01,2024-12-25,2024-12-26,2024-12-25}')::text, '7'),
     (2, cal_workdays('2024-12-20', '2025-01-03', '{{2025-01-01,2024-12-25},{2024-12-26,2024-12-25}}')::text, '7'),
     (3, cal_workdays('2024-12-20', '2025-01-03', '{}')::text, '10'), (4, cal_workdays('2024-12-20', '2025-01-03', weekmask => 127)::text, '14'),
     (5, pg_temp.error_of($$SELECT cal_workdays('2024-12-20', '2025-01-03', '{2025-01-01,NULL}')$$), '22004 holidays must not be null'),
     (6, pg_temp.error_of($$SELECT cal_workdays('2024-12-20', '2025-01-03', '{infinity}')$$), '22008 date must be finite'),
-    (7, pg_temp.error_of($$SELECT cal_workdays('2024-12-20', '2025-01-03', weekmask => 128)$$), '22023 working days: invalid weekmask'),
+    (7, pg_temp.error_of($$SELECT cal_workdays('2024-12-20', '2025-01-03', weekmask => 128)$$), '22023 working days: invalid weekmask; expected 0 to 127, with a bit for each weekday'),
     (8, (SELECT cal_workdays('2000-01-01', '2060-01-01', array_agg('2000-01-01'::date + 2 * n ORDER BY -n), 127) FROM generate_series(0, 9999) AS n)::text, '11915'),
-    (9, cal_add_workdays('2024-12-24', 1, '{2024-12-25,2024-12-26}')::text, '2024-12-27')
+    (9, cal_add_workdays('2024-12-24', 1, '{2024-12-25,2024-12-26}')::text, '2024-12-27'),
+    (10, cal_holidays('target', '2024-01-01', '2024-12-31')::text, '{2024-01-01,2024-03-29,2024-04-01,2024-05-01,2024-12-25,2024-12-26}'),
+    (11, cal_holidays(E'easter-2\n12-25 SA-1 SU+1 # Christmas', '2021-01-01', '2022-12-31')::text, '{2021-04-02,2021-12-24,2022-04-15,2022-12-26}'),
+    (12, cal_holidays('nyse', '2024-01-02', '2024-01-01')::text, '{}'), (13, cal_add_workdays('2024-03-28', 1, cal_holidays('target'))::text, '2024-04-02'),
+    (14, pg_temp.error_of($$SELECT cal_holidays('12-25 13')$$), '22023 invalid holidays: "12-25 13" / invalid rule of a holiday at character 7'),
+    (15, pg_temp.error_of($$SELECT cal_holidays('us-federal', '1971-01-01', '2199-12-31')$$), '22023 invalid holidays: "us-federal" / too many holidays; expected at most 1024'),
+    (16, pg_temp.error_of($$SELECT cal_holidays('nyse', last => 'infinity')$$), '22008 date must be finite'), (17, cal_holidays(NULL)::text, NULL)
 ) AS row(id, result, expected) WHERE result IS DISTINCT FROM expected;
 
 CREATE TEMP TABLE calendar (name text, holidays date[]);

@@ -14,6 +14,7 @@ use super::components::component_with;
 use super::format_parts::{FormatItem, FormatParts};
 use super::iso_dates::{is_iso, is_iso_week, parse_iso, parse_iso_week};
 use super::items::item_with;
+use super::names::name_with;
 use super::printing::{MAX_LENGTH, write};
 use super::results::LengthResult;
 use crate::status::{INVALID_FORMAT, UNSUPPORTED_ITEM};
@@ -117,6 +118,7 @@ fn print_parts(
     }
 }
 
+/// Writes an item. The usual items take a shorter way.
 #[inline(always)]
 fn print_part(
     part: FormatItem,
@@ -130,22 +132,66 @@ fn print_part(
         IsItemOf part (PrintsItem low high moment.now buffer.old buffer.new at end)) }
     ensures fits { IfSome result (λ end. end ≤ length buffer.old) }
 {
-    // The usual items take a shorter way.
     match part.kind {
-        0 => Item::Literal(part.value).print(moment, buffer, at),
+        0 => print_within(Item::Literal(part.value), moment, low, high, buffer, at),
         1 => {
-            let item = Item::Number(component_with(part.value)?, Padding::Zero);
-            if is_within(item, low, high) {
-                item.print(moment, buffer, at)
-            } else {
-                None
-            }
+            let component = component_with(part.value)?;
+            let item = Item::Number(component, Padding::Zero);
+            print_within(item, moment, low, high, buffer, at)
         }
-        _ => match item_with(part)? {
-            item if is_within(item, low, high) => item.print(moment, buffer, at),
-            _ => None,
-        },
+        _ => print_other_part(part, moment, low, high, buffer, at),
     }
+}
+
+/// Writes an item that `print_part` leaves. Not inlined, so that its loop stays short.
+#[inline(never)]
+fn print_other_part(
+    part: FormatItem,
+    moment: &Moment,
+    low: usize,
+    high: usize,
+    buffer: &mut [u8],
+    at: usize,
+) -> Option<usize>
+    ensures value { IfSome result (λ end.
+        IsItemOf part (PrintsItem low high moment.now buffer.old buffer.new at end)) }
+    ensures fits { IfSome result (λ end. end ≤ length buffer.old) }
+{
+    match part.kind {
+        3 => {
+            let component = component_with(part.value)?;
+            let item = Item::Number(component, Padding::None);
+            print_within(item, moment, low, high, buffer, at)
+        }
+        4 => {
+            let item = Item::Name(name_with(part.value)?);
+            print_within(item, moment, low, high, buffer, at)
+        }
+        _ => {
+            let item = item_with(part)?;
+            print_within(item, moment, low, high, buffer, at)
+        }
+    }
+}
+
+/// Writes an item, or returns `None` if it shows a component out of the range.
+#[inline(always)]
+fn print_within(
+    item: Item,
+    moment: &Moment,
+    low: usize,
+    high: usize,
+    buffer: &mut [u8],
+    at: usize,
+) -> Option<usize>
+    ensures value { IfSome result (λ end.
+        PrintsItem low high moment.now buffer.old buffer.new at end item) }
+    ensures fits { IfSome result (λ end. end ≤ length buffer.old) }
+{
+    if !is_within(item, low, high) {
+        return None;
+    }
+    item.print(moment, buffer, at)
 }
 
 /// Parses a date by the items of a format. Returns `None` for another format and for a string that
@@ -224,7 +270,7 @@ fn scan_whole(parts: &[FormatItem], text: &[u8], fields: &mut Fields) -> bool
     scanner.rest.is_empty()
 }
 
-/// Parses an item before these others.
+/// Parses an item before these others. The usual items take a shorter way.
 #[inline(always)]
 fn scan_part(
     part: FormatItem,
@@ -235,18 +281,53 @@ fn scan_part(
     ensures { IsTrue result → IsItemOf part (λ item.
         ScansItem fields.old fields.new scanner.old.rest.now scanner.new.rest.now others.now item) }
 {
-    // The usual items take a shorter way.
     match part.kind {
         0 => fields.scan(Item::Literal(part.value), scanner),
         1 => match component_with(part.value) {
             Some(component) => fields.scan(Item::Number(component, Padding::Zero), scanner),
             None => false,
         },
+        _ => scan_other_part(part, others, scanner, fields),
+    }
+}
+
+/// Parses an item that `scan_part` leaves, which tests for the usual items first.
+#[inline(always)]
+fn scan_other_part(
+    part: FormatItem,
+    others: &[FormatItem],
+    scanner: &mut Scanner,
+    fields: &mut Fields,
+) -> bool
+    ensures { IsTrue result → IsItemOf part (λ item.
+        ScansItem fields.old fields.new scanner.old.rest.now scanner.new.rest.now others.now item) }
+{
+    match part.kind {
+        3 => match component_with(part.value) {
+            Some(component) => {
+                let item = Item::Number(component, Padding::None);
+                scan_plain(item, others, scanner, fields)
+            }
+            None => false,
+        },
+        4 => match name_with(part.value) {
+            Some(name) => fields.scan(Item::Name(name), scanner),
+            None => false,
+        },
         _ => match item_with(part) {
-            Some(item) if is_plain(item, others) => fields.scan(item, scanner),
-            _ => false,
+            Some(item) => scan_plain(item, others, scanner, fields),
+            None => false,
         },
     }
+}
+
+/// Parses an item, or returns `false` if the others could continue it.
+#[inline(always)]
+fn scan_plain(item: Item, others: &[FormatItem], scanner: &mut Scanner, fields: &mut Fields) -> bool
+    ensures { IsTrue result
+        → ScansItem fields.old fields.new scanner.old.rest.now scanner.new.rest.now others.now item }
+{
+    is_plain(item, others) && fields.scan(item, scanner)
 }
 
 /// Returns `true` for a byte, a name, and a number of a fixed width or before a byte or a name that
@@ -296,9 +377,9 @@ fn begin_apart(parts: &[FormatItem]) -> bool
 {
     match parts {
         [] => true,
-        [part, ..] => match item_with(*part) {
-            Some(Item::Literal(byte)) => byte < b'0' || byte > b'9',
-            Some(Item::Name(_)) => true,
+        [part, ..] => match part.kind {
+            0 => part.value < b'0' || part.value > b'9',
+            4 => true,
             _ => false,
         },
     }

@@ -61,7 +61,7 @@ fn holidays_in<'a>(
 }
 
 /// Writes the holidays of rules to the front of an array, and returns their number.
-fn holidays_result(
+pub(super) fn write_holidays(
     rules: &[HolidayRule],
     first: Date,
     last: Date,
@@ -99,5 +99,5 @@ pub extern "C" fn fots_calendar_holidays(
     let rules = or_error!(NumberResult, valid_calendar(calendar), INVALID_CALENDAR);
     let first = or_error!(NumberResult, valid_date(first), INVALID_DATE);
     let last = or_error!(NumberResult, valid_date(last), INVALID_DATE);
-    holidays_result(rules, first, last, holidays)
+    write_holidays(rules, first, last, holidays)
 }

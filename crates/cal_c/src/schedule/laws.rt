@@ -1,10 +1,11 @@
 //! Laws: the clauses of the calls for ranges, for periods of a date and a time, and for holidays allow
 //! only one result.
-ghost use Rattle.std.specs.Prelude.{◌≡◌, ℕ, ℤ, List};
+ghost use Rattle.std.specs.Prelude.{◌≡◌, ℕ, ℤ, List, Result};
+ghost use Rattle.cal_holiday_text.specs.declared.error.ParseHolidayRuleError.{ParseHolidayRuleError};
 ghost use Rattle.cal_holidays.specs.declared.holiday_rule.HolidayRule.{HolidayRule};
 ghost use Rattle.cal_schedule.specs.Period.{Parts};
 ghost use Rattle.cal_schedule.specs.Ranges.{HasCommonDay, IsIn};
-ghost use Rattle.cal_c.specs.Calendars.{AreListed};
+ghost use Rattle.cal_c.specs.Calendars.{AreListed, AreListedOf};
 ghost use Rattle.cal_c.specs.DateRanges.{range_in, IsYesNo};
 ghost use Rattle.cal_c.specs.Periods.{IsPairAfter, IsPeriodUntilResult, IsStepOfPair};
 ghost use Rattle.cal_c.specs.Values.{day_of};
@@ -12,6 +13,7 @@ ghost use Rattle.cal_c.specs.declared.results.NumberResult.{NumberResult};
 ghost use Rattle.cal_c.specs.declared.results.PairResult.{PairResult};
 ghost use Rattle.cal_c.specs.declared.schedule.pair_periods.ExactPeriodResult.{ExactPeriodResult};
 ghost use Rattle.cal_c.specs.declared.schedule.date_ranges.DateRangeParts.{DateRangeParts};
+ghost use Rattle.cal_c.specs.declared.schedule.holiday_rules.HolidaysResult.{HolidaysResult};
 
 /// States that a date is in a range or not, and that two ranges overlap or not.
 pub fn one_range_answer()
@@ -39,4 +41,11 @@ pub fn one_pair_result()
 pub fn one_number_of_holidays()
     ensures { (rules : List HolidayRule) (first last : ℕ) (written : List ℤ) (r s : NumberResult)
         → AreListed rules first last written r → AreListed rules first last written s → r ≡ s }
+{}
+
+/// States that the holidays of the rules of a string have one result.
+pub fn one_result_of_rules()
+    ensures { (parsed : Result (List HolidayRule) ParseHolidayRuleError) (first last : ℤ)
+        (written : List ℤ) (r s : HolidaysResult) → AreListedOf parsed first last written r
+        → AreListedOf parsed first last written s → r ≡ s }
 {}

@@ -1,6 +1,8 @@
 //! The public holidays of the states of Germany since 1995, on which their banks are closed, by the
 //! law of each state. Holidays that are always on a Sunday, and the ones of single municipalities,
-//! aren't included, except Assumption Day in Bavaria, a holiday in most of its municipalities.
+//! aren't included, except Assumption Day in Bavaria, a holiday in most of its municipalities. Checked
+//! for 1995 to 2026 with python3-holidays 0.10.1, except 8 May 2025 in Berlin and 8 March in
+//! Mecklenburg-Western Pomerania, which are from memory.
 use crate::holiday_day::HolidayDay::{self, Easter, Fixed, OnOrAfter};
 use crate::holiday_rule::HolidayRule;
 use cal_time::Month::{August, December, January, March, May, November, October, September};

@@ -8,6 +8,8 @@ use cal_format::{
 };
 use cal_time::{Date, Time, UtcOffset};
 
+mod named;
+
 /// The results of two calls.
 type Twice<T> = (T, T);
 

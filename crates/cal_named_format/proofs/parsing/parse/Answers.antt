@@ -17,7 +17,7 @@ returns-in-None c =
     let items = c.args.items.now in
     let text = c.args.text.now in
     let stop = subst (λ l. unmatched_bytes (shape_in names l) text ≡ suc (length c.scan_items.new.scanner.rest.now)) c.items-2.ensures.items c.in-None.ensures.scans in
-    let reads : Reads names items = record { tables = c.table_counts.ensures; reads = c.requires.reads; apart = c.requires.apart } in
+    let reads : Reads names items = record { tables = c.table_counts.ensures; reads = c.requires.reads } in
     record {
       every = λ v holds e. absurd (omega (arith, stop, own-form names items v text reads holds.in_range holds.numbers e));
       value = tt;
@@ -33,7 +33,7 @@ returns-in-Some c =
     let items = c.args.items.now in
     let text = c.args.text.now in
     let numbers = c.scan_items.new.numbers in
-    let reads : Reads names items = record { tables = c.table_counts.ensures; reads = c.requires.reads; apart = c.requires.apart } in
+    let reads : Reads names items = record { tables = c.table_counts.ensures; reads = c.requires.reads } in
     let has : HasNumbersIn names items numbers text = subst (λ l. HasNumbersIn names l numbers text) c.items-2.ensures.items c.in-Some.ensures.value in
     record {
       every = λ v holds e. c.moment_of_numbers.ensures.every v holds (own-numbers names items v numbers text reads holds.in_range holds.numbers has e);

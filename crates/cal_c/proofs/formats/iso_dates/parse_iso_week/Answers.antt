@@ -1,4 +1,4 @@
-use Rattle.std.proofs.Common.{◌≡◌, ◌-◌, ◌+◌, ℕ, ℤ, subst, arith}
+use Rattle.std.proofs.Common.{◌≡◌, ◌-◌, ℕ, subst, arith}
 use Rattle.std.specs.Prelude.{Ok}
 use Rattle.cal_time.specs.Date.{IsDate}
 use Rattle.cal_time.specs.IsoWeekDate.{HasIsoWeekDate}

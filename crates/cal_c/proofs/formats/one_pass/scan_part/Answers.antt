@@ -19,5 +19,5 @@ pub returns-in-Some : goal.returns-in-Some
 returns-in-Some c h =
     let component = c.in-Some.component in
     let same : c.args.part ≡ parts 1 (index component) = λ j. parts (c.in-1.is j) (c.in-Some.ensures.value j) in
-    only-item (ScansItem c.args.fields.now c.scan-in-Some.new.self c.args.scanner.now.rest.now c.scan-in-Some.new.scanner.rest.now c.args.others.now) c.args.part (Number component Zero) same (number-one component)
+    only-item (ScansItem c.args.fields.now c.scan-in-Some.new.self c.args.scanner.now.rest.now c.scan-in-Some.new.scanner.rest.now c.args.others.now) c.args.part (Number component Zero) same (number-one component Zero)
     (record { has = c.scan-in-Some.ensures.value h; apart = λ items _. refl })

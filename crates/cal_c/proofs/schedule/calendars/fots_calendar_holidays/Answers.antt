@@ -17,4 +17,4 @@ returns c =
     let first = simp to_z-of_z at c.in-Some-valid_date.ensures in
     let last = simp to_z-of_z at c.in-Some-valid_date-2.ensures in
     met (c.in-Some.value.now, c.in-Some.ensures)
-    (met first.0 (met last.0 (c.in-Some.value.now, c.in-Some.ensures, rw (first.1, last.1) at c.holidays_result.ensures)))
+    (met first.0 (met last.0 (c.in-Some.value.now, c.in-Some.ensures, rw (first.1, last.1) at c.write_holidays.ensures)))

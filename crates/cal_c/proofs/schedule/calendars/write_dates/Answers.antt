@@ -1,4 +1,4 @@
-use Rattle.std.proofs.Common.{◌≡◌, ◌<◌, ◌≤◌, get_or, length, take, sym, ap, ◌∙◌, arith, pos}
+use Rattle.std.proofs.Common.{◌<◌, ◌≤◌, length, take, sym, ◌∙◌, arith, pos}
 use Rattle.std.specs.Prelude.{map}
 use Rattle.std.proofs.lemmas.List.{ext_get_or, get_or-map, get_or-take, length-map, length-take-le}
 use Rattle.cal_time.specs.Date.{julian_day_at}

@@ -1,0 +1,48 @@
+//! The sentences of strings that don't parse.
+ghost use Rattle.std.specs.Prelude.{◌≡◌, ℕ, IfSome, Some, pos};
+ghost use Rattle.cal_errors.specs.Sentences.{contradiction, unexpected};
+ghost use Rattle.cal_errors.specs.Statuses.{sentence, with_position};
+ghost use Rattle.cal_time.specs.declared.error.Component.{Component};
+ghost use Rattle.cal_c.specs.Errors.{IsByteOf, NamesComponent, error_text};
+ghost use Rattle.cal_c.specs.Statuses.{component_status};
+
+use super::ErrorText;
+use super::components::component_with;
+use crate::status::{CONTRADICTION, UNEXPECTED_BYTE};
+use cal_errors::{contradiction, sentence_at, unexpected};
+use cal_time::error::Component;
+
+/// Returns the sentence of a status and a position that a call returned for a string, such as
+/// `unexpected "x" at position 9`, `unexpected end at position 9` or `weekday contradicts the other
+/// components`.
+#[unsafe(no_mangle)]
+pub extern "C" fn fots_parse_error_text(status: i32, position: usize, text: &[u8]) -> ErrorText
+    ensures byte { (b : ℕ) → IsByteOf status position text.now b
+        → result ≡ error_text (unexpected b position) }
+    ensures contradiction { (c : Component) → NamesComponent status position c
+        → result ≡ error_text (contradiction c) }
+    ensures other { ((b : ℕ) → ¬ IsByteOf status position text.now b)
+        → ((c : Component) → ¬ NamesComponent status position c)
+        → result ≡ error_text (with_position position (sentence status)) }
+{
+    if status == UNEXPECTED_BYTE && position < text.len() {
+        return ErrorText::new(unexpected(text[position], position).as_bytes());
+    }
+    if status == CONTRADICTION {
+        if let Some(component) = component_at(position) {
+            return ErrorText::new(contradiction(component).as_bytes());
+        }
+    }
+    ErrorText::new(sentence_at(status, position).as_bytes())
+}
+
+/// Returns the component whose status the position is, or `None`.
+fn component_at(position: usize) -> Option<Component>
+    ensures every { (c : Component) → pos position ≡ component_status c → result ≡ Some c }
+    ensures value { IfSome result (λ c. pos position ≡ component_status c) }
+{
+    match i32::try_from(position) {
+        Ok(status) => component_with(status),
+        Err(_) => None,
+    }
+}

@@ -1,0 +1,3 @@
+pub mod Sentences
+pub mod Components
+pub mod Statuses

@@ -1,0 +1,3 @@
+pub mod ErrorText
+pub mod Days
+pub mod Rules

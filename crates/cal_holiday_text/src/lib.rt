@@ -1,0 +1,13 @@
+//! The text of rules of holidays.
+//!
+//! [`parse_holiday_rules`] parses lines such as `11-4TH`, the fourth Thursday of November, and
+//! `easter-2 2000.. SU+1`.
+#![tactic(auto)]
+
+mod days;
+mod error;
+mod parsing;
+mod rules;
+
+pub use error::{ParseHolidayRuleError, ParseHolidayRuleErrorKind};
+pub use parsing::parse_holiday_rules;

@@ -1,0 +1,40 @@
+use Rattle.std.proofs.Common.{◌≡◌, ◌∙◌, subst, sym, Ok, Err}
+use Rattle.std.specs.Prelude.{IsTrue}
+use Rattle.cal_datetime.specs.DateTime.{date_time, date_at, time_at}
+use Rattle.cal_datetime.specs.DateTimeLaws.{IsDateTime-date_time, date_at-date_time, time_at-date_time, date_time-parts}
+use Rattle.cal_format.specs.Moment.{moment_of_date_time}
+use Rattle.cal_format.specs.Reading.{are_apart, holds_time}
+use Rattle.cal_format.proofs.Moments.{date_time-holds}
+use Rattle.cal_format.proofs.Alike.{date_times-alike}
+use Rattle.cal_named_format.specs.Ambiguity.{ReadBack}
+use Rattle.cal_named_format.specs.Rejection.{IsParsedIn}
+use Rattle.cal_named_format.specs.Values.{HoldsDateTime}
+use Rattle.cal_named_format.proofs.Parsed.{parsed-value, parsed-error}
+use Rattle.cal_named_format.proofs.formats.parse_date_time.Goals as goal
+
+pub parse-requires-clause-apart : goal.parse-requires-clause-apart
+parse-requires-clause-apart c = subst (λ l. IsTrue (are_apart l)) (sym c.as_format.ensures.items) c.as_format.ensures.determines.0
+
+pub parse-requires-clause-reads : goal.parse-requires-clause-reads
+parse-requires-clause-reads c = subst (ReadBack c.args.names.now) (sym c.as_format.ensures.items) c.requires
+
+pub returns-in-Err : goal.returns-in-Err
+returns-in-Err c =
+    let items = c.args.format.now in
+    let parsed = subst (λ l. IsParsedIn c.args.names.now l c.args.text.now (Err c.in-Err.error)) c.as_format.ensures.items c.in-Err.ensures in
+    parsed-error (HoldsDateTime items) moment_of_date_time c.args.names.now items c.args.text.now c.in-Err.error parsed (λ z h. date_time-holds items z c.as_format.ensures.determines h.0 h.1 h.2)
+
+pub returns-in-Ok : goal.returns-in-Ok
+returns-in-Ok c =
+    let items = c.args.format.now in
+    let m = c.in-Ok.moment in
+    let determines = c.as_format.ensures.determines in
+    let parsed = subst (λ l. IsParsedIn c.args.names.now l c.args.text.now (Ok m)) c.as_format.ensures.items c.in-Ok.ensures in
+    let z = date_time m.date m.time in
+    let below = parsed.value.in_range.time.below_day in
+    let d : date_at z ≡ m.date = date_at-date_time m.date m.time below in
+    let t : time_at z ≡ m.time = time_at-date_time m.date m.time below in
+    let alike = date_times-alike items m (moment_of_date_time z) (sym d) (sym t) determines.1 in
+    rw c.date_time.ensures (parsed-value (HoldsDateTime items) moment_of_date_time c.args.names.now items c.args.text.now m z determines.0 parsed (λ y h. date_time-holds items y determines h.0 h.1 h.2)
+    (λ y h e. (λ i. date_time (e i).date (e i).time) ∙ date_time-parts y h.0)
+    (IsDateTime-date_time m.date m.time parsed.value.in_range.date below, alike.1 parsed.value.numbers, subst (λ n. IsTrue (holds_time items n)) (sym t) parsed.value.parts) alike)
