@@ -11,6 +11,7 @@ pub mod Laters
 pub mod Leads
 pub mod LocalShapes
 pub mod Marks
+pub mod Nearest
 pub mod OneAnswer
 pub mod Outside
 pub mod Periods
@@ -20,9 +21,11 @@ pub mod Printed
 pub mod ReadWith
 pub mod Scans
 pub mod ShapeBytes
+pub mod Solid
 pub mod TextBounds
 pub mod TextEnds
 pub mod TextStarts
 pub mod Texts
 pub mod UnixMoments
+pub mod VariantFronts
 pub mod WholeNumbers

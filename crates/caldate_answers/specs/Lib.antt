@@ -7,7 +7,9 @@ pub mod Clocks
 pub mod Counts
 pub mod Forms
 pub mod Found
+pub mod Leniency
 pub mod Moves
+pub mod Nearness
 pub mod Offsets
 pub mod Periods
 pub mod Readers
@@ -15,3 +17,5 @@ pub mod Readings
 pub mod Scans
 pub mod Spellings
 pub mod Targets
+pub mod VariantFronts
+pub mod Variants

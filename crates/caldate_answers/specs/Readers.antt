@@ -1,6 +1,7 @@
 -- The forms that a line is read in. The first that fits wins.
-use Rattle.std.specs.Prelude.{◌≡◌, ◌≤◌, ◌⊎◌, ◌++◌, ℕ, ℤ, codes, length, List, [], ◌∷◌, Bool, true, false, IsSomeAnd, IsTrue, if◌then◌else◌}
-use Rattle.cal_time.specs.Date.{IsDate}
+use Rattle.std.specs.Prelude.{◌≡◌, ◌≤◌, ◌⊎◌, ◌++◌, ℕ, ℤ, pos, ◌+ℤ◌, ◌-ℤ◌, ◌≤ℤ◌, codes, length, List, [], ◌∷◌, Bool, true, false, IsSomeAnd, IsTrue, if◌then◌else◌}
+use Rattle.cal_time.specs.Date.{IsDate, year_at}
+use Rattle.cal_time.specs.DateText.{year_text}
 use Rattle.cal_time.specs.UtcOffset.{IsOffset}
 use Rattle.cal_time.specs.declared.error.ComponentRange.{ComponentRange}
 use Rattle.cal_datetime.specs.DateTime.{IsDateTime, time_at}
@@ -16,18 +17,23 @@ use Rattle.cal_text.specs.declared.any.DateForm.TheVariants.{Calendar}
 use Rattle.cal_text.specs.declared.any.DateOrMoment.{DateOrMoment}
 use Rattle.cal_text.specs.declared.any.DateOrMoment.TheVariants as dated
 use Rattle.cal_text.specs.declared.any.MomentForm.TheVariants.{Rfc3339}
+use Rattle.caldate_answers.specs.Found.{day_of}
+use Rattle.caldate_answers.specs.Nearness.{IsNearestTo}
 use Rattle.caldate_answers.specs.Readings.{HasFormIn, IsErrorIn, IsTextIn}
 use Rattle.caldate_answers.specs.Spellings.{full_by}
+use Rattle.caldate_answers.specs.Variants.{IsVariantText}
 use Rattle.caldate_lines.specs.declared.no_answer.NoAnswer.{NoAnswer}
 use Rattle.caldate_lines.specs.declared.no_answer.NoAnswer.TheVariants as why
 use Rattle.caldate_answers.specs.declared.reading.Reading.{Reading}
 use Rattle.caldate_answers.specs.declared.reading.Reading.TheVariants as reading
+use Rattle.caldate_answers.specs.declared.reading.yearless.AssumedYear.{AssumedYear}
+use Rattle.caldate_answers.specs.declared.reading.yearless.AssumedYear.TheVariants.{Is, Near}
 use Rattle.caldate_answers.specs.declared.reading.reader.Assumptions.{Assumptions}
 use Rattle.caldate_answers.specs.declared.reading.reader.Reader.{Reader}
 use Rattle.caldate_answers.specs.declared.reading.reader.Reader.TheVariants.{Named, Local, Spelled, Format, Yearless}
 use Rattle.caldate_answers.specs.declared.reading.spelling.Spelling.{Spelling}
 use Rattle.caldate_answers.specs.declared.reading.value_format.ValueFormat.{ValueFormat}
-use Rattle.caldate_answers.specs.declared.reading.value_format.ValueFormat.TheVariants.{Dates, Moments, DateTimes}
+use Rattle.caldate_answers.specs.declared.reading.value_format.ValueFormat.TheVariants.{Dates, Moments, DateTimes, Lenient}
 
 -- ---- formats: the string is what the items print of a value that they hold
 pub record IsDateText (items : List Item) (text : List ℕ) (n : ℕ) : Type 0 where
@@ -55,15 +61,34 @@ IsFormatText offset (Dates items) text found = (n : ℕ) × IsDateText items tex
 IsFormatText offset (Moments items) text found = (m : LocalAndOffset) × IsMomentText items text m × (found ≡ dated.Moment Rfc3339 m)
 IsFormatText offset (DateTimes items) text found =
     (z : ℤ) × IsDateTimeText items text z × (found ≡ dated.Moment Rfc3339 (record { local = z; offset = offset }))
+IsFormatText offset (Lenient format) text found = IsVariantText offset format text found
 
--- ---- formats without a year: the string followed by the assumed year is one in the format
--- followed by ` %Y`
+-- ---- formats without a year: the string followed by a slash and the year is one in the format
+-- followed by `/%Y`
 abbrev pub with_year : List ℕ → List ℕ → List ℕ
-with_year year text = text ++ codes " " ++ year
+with_year year text = text ++ codes "/" ++ year
+
+-- The string is this date or moment, whose year is from the first to the last one, and from 0 to
+-- 9999.
+pub record IsTextInYears (offset : ℤ) (format : ValueFormat) (text : List ℕ) (first last : ℤ) (found : DateOrMoment) : Type 0 where
+  pub from : first ≤ℤ year_at (day_of found)
+  pub to : year_at (day_of found) ≤ℤ last
+  pub four_digits : (pos 0 ≤ℤ year_at (day_of found)) × (year_at (day_of found) ≤ℤ pos 9_999)
+  pub text_is : IsFormatText offset format (with_year (year_text (year_at (day_of found))) text) found
+
+-- The same within 50 years of a day.
+abbrev pub IsTextNear : ℤ → ValueFormat → List ℕ → ℕ → DateOrMoment → Type 0
+IsTextNear offset format text day found =
+    IsTextInYears offset format text (year_at day -ℤ pos 50) (year_at day +ℤ pos 50) found
+
+-- The string is this date or moment in the assumed year.
+abbrev pub IsTextOfYear : AssumedYear → ℤ → ValueFormat → List ℕ → DateOrMoment → Type 0
+IsTextOfYear (Is year) offset format text found = IsTextInYears offset format text year year found
+IsTextOfYear (Near day) offset format text found = IsNearestTo day (IsTextNear offset format text day) found
 
 pub record IsYearlessText (assumptions : Assumptions) (format : ValueFormat) (text : List ℕ) (found : DateOrMoment) : Type 0 where
   pub short : length text ≤ 60
-  pub text_is : IsFormatText assumptions.offset format (with_year assumptions.year text) found
+  pub text_is : IsTextOfYear assumptions.year assumptions.offset format text found
 
 -- ---- forms
 -- The bytes are a string of this date or moment in the form. The parts that it leaves out are

@@ -10,12 +10,14 @@ mod date;
 mod digits;
 pub(crate) mod full_text;
 mod iso;
+pub mod lenient;
 mod local;
 mod number;
 pub mod reader;
 mod readers;
 pub mod spelling;
 pub mod value_format;
+pub mod yearless;
 
 use crate::reading::date::read_date;
 use crate::reading::iso::{read_iso_date, read_iso_local, read_iso_moment};

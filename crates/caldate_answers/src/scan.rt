@@ -10,6 +10,7 @@ pub(crate) mod found_text;
 pub(crate) mod likely;
 pub mod push;
 pub(crate) mod start;
+pub mod variant_bound;
 
 use crate::answer::read_with;
 use crate::reading::has_form;

@@ -28,7 +28,7 @@ use crate::args::names::{CommandName, MoveVerb, Verb};
 use crate::args::numbers::counts_of;
 use crate::args::offset::offset_of;
 use crate::args::options::{
-    Options, assumptions_in, field_of, options_of, readers_in, unmet_in, zone_of,
+    Options, ReaderChoices, assumptions_in, field_of, options_of, readers_in, unmet_in, zone_of,
 };
 use crate::args::requirement::Requirement;
 use crate::args::spelling::{
@@ -173,6 +173,9 @@ fn filter_at<'a, D: DataFiles<'a>>(
 {
     let (at, is_day) = start;
     let (options, at) = options_of(rest, at, files)?;
+    if let (true, Some(index)) = (options.lenient, options.ambiguous) {
+        return Err(usage_error_at(index, Expected::LenientFormat));
+    }
     if let Some(requirement) = unmet_in(&options, is_day) {
         return Err(requirement_at(at, requirement));
     }
@@ -230,7 +233,15 @@ fn filter_of<'a>(options: Options<'a>, request: Request<'a>) -> Filter<'a> {
         names: options.names,
         several: several_of(options.fields, options.more),
         column: column_of(options.header, options.append),
-        readers: readers_in(options.readers, options.offset, options.zone.is_some()),
+        readers: readers_in(
+            options.readers,
+            &ReaderChoices {
+                offset: options.offset,
+                has_zone: options.zone.is_some(),
+                lenient: options.lenient,
+                pivot: options.pivot,
+            },
+        ),
         clock: clock_of(options.zone, policy_of(options.policy)),
     }
 }

@@ -88,7 +88,12 @@ Options, before or after a command:
   --ambiguous POLICY    with --zone or at ZONE MOVE: a time that clocks skip or
                         show twice is compatible (the default), earlier, later,
                         or reject for none
-  --assume-year YEAR    the year of syslog, or of a format without one
+  --assume-year YEAR    the year of syslog, or of a format without one; or near
+                        DATE, for the year of the date that is nearest to it
+  --lenient             with formats of --read: reads numbers with or without
+                        zeros, names in any case or by three letters, and any
+                        white space for white space
+  --pivot YEAR          with --lenient: the first of the 100 years of %y
   --holidays FILE       with workdays: the dates in that file aren't workdays,
                         or those of a calendar: target, us-federal, nyse,
                         england-and-wales, or de-bw and so on

@@ -1,14 +1,14 @@
 //! The forms of `--read`.
-ghost use Rattle.std.specs.Prelude.{◌≡◌, ◌≤◌, IfErr, IfOk, IfSome, Err, Ok, Some, length, ok_or};
+ghost use Rattle.std.specs.Prelude.{◌≡◌, IfErr, IfOk, Err, Ok, ok_or};
 ghost use Rattle.cal_text.specs.declared.any.DateOrMoment.{DateOrMoment};
-ghost use Rattle.caldate_answers.specs.Readers.{IsTextBy, IsUnreadBy, IsUnreadIn, IsYearlessText, with_year};
+ghost use Rattle.caldate_answers.specs.Readers.{IsTextBy, IsUnreadBy, IsUnreadIn};
 ghost use Rattle.caldate_answers.specs.Readings.{IsTextIn};
 ghost use Rattle.caldate_lines.specs.Reasons.{reason_of};
 ghost use Rattle.caldate_lines.specs.declared.no_answer.NoAnswer.{NoAnswer};
 
-use crate::reading::full_text::{FullText, LONGEST};
 use crate::reading::spelling::Spelling;
 use crate::reading::value_format::ValueFormat;
+use crate::reading::yearless::{AssumedYear, read_yearless};
 use crate::reading::{Reading, read_in};
 use cal_text::{DateOrMoment, ParseError};
 use cal_time::UtcOffset;
@@ -19,8 +19,8 @@ use caldate_lines::no_answer::NoAnswer;
 pub struct Assumptions {
     /// The offset of a string that has none.
     pub offset: UtcOffset,
-    /// The year of a string that has none: four digits, such as `2024`.
-    pub year: [u8; 4],
+    /// The year of a string that has none.
+    pub year: AssumedYear,
 }
 
 /// A form of `--read`.
@@ -34,7 +34,7 @@ pub enum Reader {
     Spelled(Spelling),
     /// A format, such as `%d.%m.%Y`.
     Format(ValueFormat),
-    /// A format without a year, such as `%b %e %T`: here the format followed by ` %Y`.
+    /// A format without a year, such as `%b %e %T`: here the format followed by `/%Y`.
     Yearless(ValueFormat),
 }
 
@@ -92,33 +92,4 @@ pub fn reason_of(error: ParseError) -> NoAnswer
         }
         ParseError::OutOfRange(component) => NoAnswer::Rejected(component),
     }
-}
-
-/// Returns the date or the moment of a string without its year, in the format with the year.
-fn read_yearless(
-    format: &ValueFormat,
-    assumptions: &Assumptions,
-    text: &[u8],
-) -> Option<DateOrMoment>
-    ensures every { (found : DateOrMoment) → IsYearlessText assumptions.now format.now text.now found
-        → result ≡ Some found }
-    ensures has { IfSome result (IsYearlessText assumptions.now format.now text.now) }
-{
-    if text.len() > LONGEST {
-        return None;
-    }
-    let full = with_year(assumptions.year, text);
-    format.read(assumptions.offset, full.as_bytes())
-}
-
-/// Appends a space and the year.
-fn with_year(year: [u8; 4], text: &[u8]) -> FullText
-    requires { length text.now ≤ 60 }
-    ensures { result ≡ with_year year text.now }
-{
-    let mut full = FullText::new();
-    full.push(text);
-    full.push(b" ");
-    full.push(&year);
-    full
 }

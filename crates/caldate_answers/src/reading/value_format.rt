@@ -1,10 +1,12 @@
 //! Formats whose strings determine a date or a moment.
 ghost use Rattle.std.specs.Prelude.{◌≡◌, IfSome, Some};
 ghost use Rattle.cal_text.specs.declared.any.DateOrMoment.{DateOrMoment};
+ghost use Rattle.caldate_answers.specs.Leniency.{items_in};
 ghost use Rattle.caldate_answers.specs.Readers.{IsFormatText};
 
+use crate::reading::lenient::LenientValueFormat;
 use cal_datetime::OffsetDateTime;
-use cal_format::{DateFormat, DateTimeFormat, OffsetDateTimeFormat};
+use cal_format::{DateFormat, DateTimeFormat, Format, OffsetDateTimeFormat};
 use cal_text::{DateForm, DateOrMoment, MomentForm};
 use cal_time::{Date, UtcOffset};
 
@@ -17,6 +19,8 @@ pub enum ValueFormat {
     Moments(OffsetDateTimeFormat),
     /// A format of moments without an offset, such as `%F %T`.
     DateTimes(DateTimeFormat),
+    /// A format of any of these that also reads variants of their strings.
+    Lenient(LenientValueFormat),
 }
 
 impl ValueFormat {
@@ -40,19 +44,32 @@ impl ValueFormat {
                 Ok(local) => Some(in_rfc3339(local.assume_offset(offset))),
                 Err(_) => None,
             },
+            ValueFormat::Lenient(format) => format.read(offset, text),
+        }
+    }
+
+    /// Returns its items as a format of any values.
+    pub fn as_format(&self) -> &Format
+        ensures { result.now ≡ items_in self.now }
+    {
+        match self {
+            ValueFormat::Dates(format) => format.as_format(),
+            ValueFormat::Moments(format) => format.as_format(),
+            ValueFormat::DateTimes(format) => format.as_format(),
+            ValueFormat::Lenient(format) => format.as_format(),
         }
     }
 }
 
 /// Returns a date whose answers are calendar dates.
-fn in_calendar(date: Date) -> DateOrMoment
+pub(crate) fn in_calendar(date: Date) -> DateOrMoment
     ensures { result ≡ DateOrMoment.Date DateForm.Calendar date }
 {
     DateOrMoment::Date(DateForm::Calendar, date)
 }
 
 /// Returns a moment whose answers are in RFC 3339.
-fn in_rfc3339(moment: OffsetDateTime) -> DateOrMoment
+pub(crate) fn in_rfc3339(moment: OffsetDateTime) -> DateOrMoment
     ensures { result ≡ DateOrMoment.Moment MomentForm.Rfc3339 moment }
 {
     DateOrMoment::Moment(MomentForm::Rfc3339, moment)

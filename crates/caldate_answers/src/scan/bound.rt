@@ -18,6 +18,7 @@ use crate::reading::{Reading, read_in};
 use crate::request::Filter;
 use crate::scan::byte_at;
 use crate::scan::start::has_usual;
+use crate::scan::variant_bound::variant_bound;
 use cal_format::Format;
 use cal_text::ParseError;
 
@@ -108,7 +109,7 @@ fn bound_by_form(reading: Reading, bytes: &[u8]) -> usize
 }
 
 /// Returns the bound for fronts of the strings in a format.
-fn bound_by_format(format: &ValueFormat, bytes: &[u8]) -> usize
+pub fn bound_by_format(format: &ValueFormat, bytes: &[u8]) -> usize
     ensures within { result ≤ length bytes.now }
     ensures front { (offset : ℤ) (n : ℕ) (more : List ℕ) (found : DateOrMoment)
         → n ≤ length bytes.now
@@ -118,6 +119,7 @@ fn bound_by_format(format: &ValueFormat, bytes: &[u8]) -> usize
         ValueFormat::Dates(format) => bound_by_items(format.as_format(), bytes),
         ValueFormat::Moments(format) => bound_by_items(format.as_format(), bytes),
         ValueFormat::DateTimes(format) => bound_by_items(format.as_format(), bytes),
+        ValueFormat::Lenient(format) => variant_bound(format.as_format().items(), false, bytes),
     }
 }
 

@@ -26,7 +26,7 @@ pub const MAX_INDEX: usize = 1_000_000_000;
 /// Writes the words of the arguments to the front of the buffer, with a zero byte between two, and
 /// returns them. The options come before the words of the command. Returns `None` if they don't fit.
 /// The names of files aren't written: all words after a `--`, and those after the command that aren't
-/// options.
+/// options. If the last option lacks its value, the words of the command aren't returned.
 ///
 /// `add 1 day` takes nine bytes. `to week jan feb` takes seven, and the first file has the index 3.
 pub fn join<'a, E: Env>(env: &E, buffer: &'a mut [u8; BUFFER_BYTES]) -> Option<Arguments<'a>>
@@ -43,7 +43,8 @@ pub fn join<'a, E: Env>(env: &E, buffer: &'a mut [u8; BUFFER_BYTES]) -> Option<A
                 let end = filled + length;
                 let word = &buffer[filled..end];
                 if word == b"--".as_slice() && extent.reads_input() && has_arg(env, i + 1) {
-                    return Some(words_before(buffer, filled, first_file.or(Some(i))));
+                    let first_file = first_file.or(Some(i));
+                    return Some(words_before(buffer, extent.end(options, filled), first_file));
                 }
                 let part = extent.take(word);
                 if let Part::File = part {
@@ -60,7 +61,9 @@ pub fn join<'a, E: Env>(env: &E, buffer: &'a mut [u8; BUFFER_BYTES]) -> Option<A
                     options += length + 1;
                 }
             }
-            Err(FillError::NotPresent) => return Some(words_before(buffer, filled, first_file)),
+            Err(FillError::NotPresent) => {
+                return Some(words_before(buffer, extent.end(options, filled), first_file));
+            }
             Err(FillError::TooLong) => return None,
         }
     }

@@ -1,8 +1,9 @@
 //! The extent of a command: its words, the options before and after them, and the files.
 // Only the extent matters here: whether the words are right is found when they are parsed.
+ghost use Rattle.std.specs.Prelude.{◌≤◌};
 
-use crate::args::names::{CommandName, MoveVerb, Verb};
-use crate::args::options::{is_option, is_option_with_value};
+use crate::args::names::{CommandName, MoveVerb, OptionName, Verb};
+use crate::args::options::{is_option, option_after, option_before_value};
 use crate::args::spelling::{command_of, parse_i64, verb_of};
 use caldate_lines::lines::index_of;
 
@@ -64,8 +65,8 @@ pub enum Part {
 #[derive(Clone, Copy)]
 pub struct Extent {
     next: Next,
-    /// `true` if the next word is the value of an option.
-    has_option: bool,
+    /// The option whose value is the next word, if there is one.
+    option: Option<OptionName>,
     /// `true` if the command may read an input.
     reads_input: bool,
 }
@@ -75,7 +76,7 @@ impl Extent {
     pub fn new() -> Self {
         Extent {
             next: Next::First,
-            has_option: false,
+            option: None,
             reads_input: true,
         }
     }
@@ -85,11 +86,19 @@ impl Extent {
         self.reads_input
     }
 
+    /// Returns the end of the words, of which the options come first: that of the options if the last
+    /// one lacks its value, so that no word of the command is taken for it.
+    pub fn end(&self, options: usize, all: usize) -> usize
+        ensures { options ≤ all → result ≤ all }
+    {
+        if self.option.is_some() { options } else { all }
+    }
+
     /// Takes the next word, and returns which part it is. In `to week jan --skip 1`, `jan` is a file,
     /// and `--skip` and `1` are an option.
     pub fn take(&mut self, word: &[u8]) -> Part {
-        if self.has_option {
-            self.has_option = false;
+        if let Some(option) = self.option {
+            self.option = option_after(option, word);
             return Part::Option;
         }
         if let Next::First = self.next {
@@ -125,7 +134,7 @@ impl Extent {
     /// Takes an option or a word of the command, or finds a file.
     fn take_more(&mut self, word: &[u8]) -> Part {
         if may_take_option(self.next) && is_option(word) {
-            self.has_option = is_option_with_value(word);
+            self.option = option_before_value(word);
             return Part::Option;
         }
         if self.reads_input && is_file_after(self.next, word) {

@@ -101,7 +101,7 @@ fn reader_with(word: &[u8]) -> Option<Reader> {
     }
 }
 
-/// Parses a format, with ` %Y` after it if `dated` is `true`, and returns it if it determines a
+/// Parses a format, with `/%Y` after it if `dated` is `true`, and returns it if it determines a
 /// date or a moment.
 fn value_format_of(word: &[u8], dated: bool) -> Option<ValueFormat> {
     if let Some(format) = format_with(word, dated)?.for_dates() {
@@ -116,7 +116,7 @@ fn value_format_of(word: &[u8], dated: bool) -> Option<ValueFormat> {
     }
 }
 
-/// Parses a format, and appends ` %Y` if `dated` is `true`.
+/// Parses a format, and appends `/%Y` if `dated` is `true`.
 fn format_with(word: &[u8], dated: bool) -> Option<Format> {
     let mut format = format_of(word)?;
     if !dated {
@@ -125,7 +125,7 @@ fn format_with(word: &[u8], dated: bool) -> Option<Format> {
     if format.items().len() > LONGEST_YEARLESS {
         return None;
     }
-    format.try_push(Item::Literal(b' '));
+    format.try_push(Item::Literal(b'/'));
     format.try_push(Item::Number(Component::Year, Padding::Zero));
     Some(format)
 }

@@ -11,7 +11,7 @@ pub fn message_for(expected: Expected) -> &'static str
     match expected {
         Expected::Requirement(requirement) => requirement.message(),
         Expected::Start => {
-            "unknown command; expected to, add, next, last, until, since, start, end, on-or-after, on-or-before, round, at, keep, list, --date, --invalid, --field, --append, --csv, --header, --scan, --separator, --skip, --read, --assume, --assume-year, --zone, --ambiguous, --holidays, --help or --version"
+            "unknown command; expected to, add, next, last, until, since, start, end, on-or-after, on-or-before, round, at, keep, list, --date, --invalid, --field, --append, --csv, --header, --scan, --separator, --skip, --read, --assume, --assume-year, --lenient, --pivot, --zone, --ambiguous, --holidays, --help or --version"
         }
         Expected::Verb => {
             "unexpected argument; expected to, add, next, last, until, since, start, end, on-or-after, on-or-before, round, at, keep or another option"
@@ -63,7 +63,12 @@ pub fn message_for(expected: Expected) -> &'static str
         Expected::RoundedNumber =>
             "invalid step; expected one that divides a day, such as 15 minutes",
         Expected::Offset => "invalid offset; expected one such as +01:00, -05:30 or Z",
-        Expected::Year => "invalid year; expected four digits, such as 2024",
+        Expected::Year => "invalid year; expected four digits, such as 2024, or near and a date",
+        Expected::Day => "invalid day; expected a date, such as 2024-02-29",
+        Expected::Pivot => "invalid pivot; expected a year from 0 to 9900, such as 1970",
+        Expected::LenientFormat => {
+            "ambiguous lenient format; expected no digit after a number, and no letter after a name"
+        }
         Expected::Place => {
             "invalid offset or zone; expected one such as +01:00, -05:30, Z or Europe/Berlin"
         }

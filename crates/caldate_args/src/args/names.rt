@@ -31,6 +31,10 @@ pub enum OptionName {
     Read,
     Assume,
     AssumeYear,
+    /// `near`, a value of `--assume-year`, which has a value of its own.
+    Near,
+    Lenient,
+    Pivot,
     Zone,
     Ambiguous,
     Holidays,
@@ -70,7 +74,7 @@ pub enum CommandName {
 }
 
 /// The options before a request.
-pub(crate) const OPTIONS: [(&str, OptionName); 14] = [
+pub(crate) const OPTIONS: [(&str, OptionName); 16] = [
     ("--invalid", OptionName::Invalid),
     ("--field", OptionName::Field),
     ("--append", OptionName::Append),
@@ -82,6 +86,8 @@ pub(crate) const OPTIONS: [(&str, OptionName); 14] = [
     ("--read", OptionName::Read),
     ("--assume", OptionName::Assume),
     ("--assume-year", OptionName::AssumeYear),
+    ("--lenient", OptionName::Lenient),
+    ("--pivot", OptionName::Pivot),
     ("--zone", OptionName::Zone),
     ("--ambiguous", OptionName::Ambiguous),
     ("--holidays", OptionName::Holidays),

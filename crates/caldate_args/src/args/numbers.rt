@@ -4,7 +4,6 @@ use crate::args::options::is_iso_moment;
 use cal_format::{Component, Format, Item};
 use caldate_answers::reading::reader::Reader;
 use caldate_answers::reading::spelling::Spelling;
-use caldate_answers::reading::value_format::ValueFormat;
 use caldate_answers::reading::{DateOrder, Reading};
 use caldate_answers::request::{DigitCounts, UnixUnit};
 
@@ -48,7 +47,7 @@ fn digits_of(reader: &Reader) -> u8 {
 fn is_seconds(reader: &Reader) -> bool {
     match reader {
         Reader::Spelled(Spelling::Seconds) => true,
-        Reader::Format(ValueFormat::Moments(format)) => is_timestamp(format.as_format()),
+        Reader::Format(format) => is_timestamp(format.as_format()),
         _ => false,
     }
 }
@@ -69,11 +68,9 @@ fn is_timestamp_item(item: &Item) -> bool {
 fn is_other_number(reader: &Reader) -> bool {
     match reader {
         Reader::Named(Reading::Date(DateOrder::Basic)) => true,
-        Reader::Format(ValueFormat::Dates(format)) => has_digits_only(format.as_format()),
-        Reader::Format(ValueFormat::Moments(format)) => {
+        Reader::Format(format) => {
             has_digits_only(format.as_format()) && !is_timestamp(format.as_format())
         }
-        Reader::Format(ValueFormat::DateTimes(format)) => has_digits_only(format.as_format()),
         Reader::Yearless(_) => true,
         _ => false,
     }

@@ -10,12 +10,15 @@ use crate::args::usage_error::{Expected, UsageError, usage_error_at};
 use crate::args::words::cut;
 use crate::data_files::DataFiles;
 use cal_schedule::Workdays;
-use cal_time::UtcOffset;
+use cal_text::{DateOrMoment, parse_any};
+use cal_time::{Date, UtcOffset};
 use cal_zone::{Policy, Zone};
 use caldate_answers::answer::moves::workdays_except;
+use caldate_answers::reading::lenient::{lacks_century, lenient_reader};
 use caldate_answers::reading::reader::{Assumptions, Reader};
 use caldate_answers::reading::spelling::Spelling;
 use caldate_answers::reading::value_format::ValueFormat;
+use caldate_answers::reading::yearless::AssumedYear;
 use caldate_answers::reading::{Readers, Reading};
 use caldate_lines::field::Field;
 use caldate_lines::field_name::FieldName;
@@ -52,8 +55,14 @@ pub struct Options<'a> {
     pub readers: Readers,
     /// The offset of `--assume OFFSET`.
     pub offset: Option<UtcOffset>,
-    /// The four digits of `--assume-year YEAR`.
-    pub year: Option<[u8; 4]>,
+    /// The year of `--assume-year YEAR` or `--assume-year near DATE`.
+    pub year: Option<AssumedYear>,
+    /// `true` if `--lenient` is given.
+    pub lenient: bool,
+    /// The year of `--pivot YEAR`.
+    pub pivot: Option<u16>,
+    /// The index of the first format that can't be read leniently.
+    pub ambiguous: Option<usize>,
     /// The zone of `--zone NAME`.
     pub zone: Option<Zone<'a>>,
     /// The policy of `--ambiguous POLICY`.
@@ -78,10 +87,26 @@ fn no_options() -> Options<'static> {
         readers: Readers::new(),
         offset: None,
         year: None,
+        lenient: false,
+        pivot: None,
+        ambiguous: None,
         zone: None,
         policy: None,
         workdays: None,
     }
+}
+
+/// The options for the forms that lines are read in.
+#[derive(Clone, Copy)]
+pub struct ReaderChoices {
+    /// The offset of `--assume OFFSET`.
+    pub offset: Option<UtcOffset>,
+    /// `true` if `--zone NAME` is given.
+    pub has_zone: bool,
+    /// `true` if `--lenient` is given.
+    pub lenient: bool,
+    /// The year of `--pivot YEAR`.
+    pub pivot: Option<u16>,
 }
 
 /// A result of parsing one more word: the options so far.
@@ -155,6 +180,9 @@ fn after_value<'a, D: DataFiles<'a>>(
     index: usize,
     files: &mut D,
 ) -> Result<OptionsAfter<'a>, UsageError<'a>> {
+    if let Some(next) = option_after(option, value) {
+        return Ok(OptionsAfter::Continued(options, Some(next)));
+    }
     let invalid = usage_error_at(index, expected_value(option));
     let more = with_value(options, option, value, invalid, files)?;
     Ok(OptionsAfter::Continued(more, None))
@@ -202,7 +230,9 @@ fn has_room_for(options: &Options<'_>, option: OptionName) -> bool {
         OptionName::Skip => options.skip.is_none(),
         OptionName::Read => read_count(options.readers.as_slice()) < 4,
         OptionName::Assume => options.offset.is_none(),
-        OptionName::AssumeYear => options.year.is_none(),
+        OptionName::AssumeYear | OptionName::Near => options.year.is_none(),
+        OptionName::Lenient => !options.lenient,
+        OptionName::Pivot => options.pivot.is_none(),
         OptionName::Zone => options.zone.is_none(),
         OptionName::Ambiguous => options.policy.is_none(),
         OptionName::Holidays => options.workdays.is_none(),
@@ -212,7 +242,7 @@ fn has_room_for(options: &Options<'_>, option: OptionName) -> bool {
 /// Returns whether the option takes a value.
 fn takes_value(option: OptionName) -> bool {
     match option {
-        OptionName::Csv | OptionName::Header | OptionName::Scan => false,
+        OptionName::Csv | OptionName::Header | OptionName::Scan | OptionName::Lenient => false,
         _ => true,
     }
 }
@@ -223,12 +253,16 @@ fn expected_value(option: OptionName) -> Expected {
         OptionName::Invalid => Expected::Invalid,
         OptionName::Field => Expected::FieldNumber,
         OptionName::Append => Expected::Column,
-        OptionName::Csv | OptionName::Header | OptionName::Scan => Expected::End,
+        OptionName::Csv | OptionName::Header | OptionName::Scan | OptionName::Lenient => {
+            Expected::End
+        }
         OptionName::Separator => Expected::Separator,
         OptionName::Skip => Expected::Skip,
         OptionName::Read => Expected::Reading,
         OptionName::Assume => Expected::Offset,
         OptionName::AssumeYear => Expected::Year,
+        OptionName::Near => Expected::Day,
+        OptionName::Pivot => Expected::Pivot,
         OptionName::Zone => Expected::Zone,
         OptionName::Ambiguous => Expected::Policy,
         OptionName::Holidays => Expected::Holidays,
@@ -244,11 +278,24 @@ pub fn is_option(word: &[u8]) -> bool {
     }
 }
 
-/// Returns whether the word is such an option, and its value is the next word.
-pub fn is_option_with_value(word: &[u8]) -> bool {
-    match option_of(word) {
-        Some(option) => takes_value(option),
-        None => false,
+/// Returns the option whose value is the next word, if the word is an option.
+pub fn option_before_value(word: &[u8]) -> Option<OptionName> {
+    let (name, value) = cut_value(word);
+    let option = option_of(name)?;
+    if is_joined(word) {
+        option_after(option, value)
+    } else if takes_value(option) {
+        Some(option)
+    } else {
+        None
+    }
+}
+
+/// Returns the option whose value follows a value of an option: DATE follows `near`.
+pub fn option_after(option: OptionName, value: &[u8]) -> Option<OptionName> {
+    match option {
+        OptionName::AssumeYear if value == b"near".as_slice() => Some(OptionName::Near),
+        _ => None,
     }
 }
 
@@ -267,6 +314,8 @@ fn with_value<'a, D: DataFiles<'a>>(
         OptionName::Csv => more.csv = true,
         OptionName::Header => more.header = true,
         OptionName::Scan => more.scan = true,
+        OptionName::Lenient => more.lenient = true,
+        OptionName::Read => return with_reader(more, value, invalid),
         OptionName::Zone => more.zone = Some(zone_of(value, invalid, files)?),
         OptionName::Holidays => more.workdays = Some(workdays_of(value, invalid, files)?),
         _ => return with_word(more, option, value).ok_or(invalid),
@@ -279,7 +328,6 @@ fn with_word<'a>(options: Options<'a>, option: OptionName, value: &'a [u8]) -> O
     let mut more = options;
     match option {
         OptionName::Field => return with_named(more, value),
-        OptionName::Read => return with_reader(more, value),
         OptionName::Append => more.append = Some(FieldName::new(value)),
         OptionName::Separator => more.separator = Some(byte_of(value)?),
         OptionName::Skip => more.skip = Some(skip_of(value)?),
@@ -298,7 +346,9 @@ fn with_meaning<'a>(
     match option {
         OptionName::Invalid => more.on_invalid = Some(value_named(value, &MODES)?),
         OptionName::Assume => more.offset = Some(offset_of(value)?),
-        OptionName::AssumeYear => more.year = Some(year_of(value)?),
+        OptionName::AssumeYear => more.year = Some(AssumedYear::Is(year_of(value)?)),
+        OptionName::Near => more.year = Some(AssumedYear::Near(day_of(value)?)),
+        OptionName::Pivot => more.pivot = Some(pivot_of(value)?),
         OptionName::Ambiguous => more.policy = Some(value_named(value, &POLICIES)?),
         _ => return None,
     }
@@ -434,14 +484,28 @@ fn skip_of(word: &[u8]) -> Option<u64> {
 }
 
 /// Parses a year of four digits.
-fn year_of(word: &[u8]) -> Option<[u8; 4]> {
-    if word.len() != 4 || !word[0].is_ascii_digit() || !word[1].is_ascii_digit() {
+fn year_of(word: &[u8]) -> Option<i32> {
+    if word.len() != 4 || !word[0].is_ascii_digit() {
         return None;
     }
-    if !word[2].is_ascii_digit() || !word[3].is_ascii_digit() {
+    i32::try_from(parse_i64(word)?).ok()
+}
+
+/// Parses a year from 0 to 9900.
+fn pivot_of(word: &[u8]) -> Option<u16> {
+    let year = parse_i64(word)?;
+    if year < 0 || year > 9_900 {
         return None;
     }
-    Some([word[0], word[1], word[2], word[3]])
+    Some(year as u16)
+}
+
+/// Parses a date in one of the four forms.
+fn day_of(word: &[u8]) -> Option<Date> {
+    match &parse_any(word).ok()? {
+        DateOrMoment::Date(_, date) => Some(*date),
+        DateOrMoment::Moment(_, _) => None,
+    }
 }
 
 /// Returns the fields that the options select. The default separator is a tab, or a comma in CSV.
@@ -460,18 +524,33 @@ pub fn field_of(options: &Options<'_>) -> Option<Field> {
     })
 }
 
-/// Adds a form of `--read`, or returns `None` if the value is invalid. `iso` is three forms.
-fn with_reader<'a>(options: Options<'a>, value: &[u8]) -> Option<Options<'a>> {
-    let reader = reader_of(value)?;
+/// Adds a form of `--read`, or returns the error if the value is invalid. `iso` is three forms.
+fn with_reader<'a>(
+    options: Options<'a>,
+    value: &[u8],
+    invalid: UsageError<'a>,
+) -> Result<Options<'a>, UsageError<'a>> {
+    let reader = reader_of(value).ok_or(invalid)?;
     let is_iso = is_iso_moment(&reader);
     let mut more = options;
+    if more.ambiguous.is_none() && is_format(&reader) && lenient_reader(&reader, None).is_none() {
+        more.ambiguous = Some(invalid.index);
+    }
     more.readers.try_push(reader);
     if is_iso {
         more.readers.try_push(Reader::Named(Reading::IsoDate));
         more.readers
             .try_push(Reader::Named(Reading::IsoLocal(UtcOffset::UTC)));
     }
-    Some(more)
+    Ok(more)
+}
+
+/// Returns whether the form is a format.
+fn is_format(reader: &Reader) -> bool {
+    match reader {
+        Reader::Format(_) | Reader::Yearless(_) => true,
+        _ => false,
+    }
 }
 
 /// Returns how often `--read` is given.
@@ -500,7 +579,7 @@ fn continues_iso(reader: &Reader) -> bool {
 
 /// Returns the forms that lines are read in. The default is the six forms, and then moments that are
 /// spelled in another way.
-pub fn readers_in(readers: Readers, offset: Option<UtcOffset>, has_zone: bool) -> Readers {
+pub fn readers_in(readers: Readers, choices: &ReaderChoices) -> Readers {
     if readers.as_slice().len() == 0 {
         let mut default = Readers::new();
         default.try_push(Reader::Named(Reading::Any));
@@ -509,22 +588,23 @@ pub fn readers_in(readers: Readers, offset: Option<UtcOffset>, has_zone: bool) -
     }
     let mut all = readers;
     for index in 0..all.as_slice().len() {
-        if let Some(reading) = iso_reading_at(&all, index, &offset, has_zone) {
-            all.set(index, Reader::Named(reading));
+        if let Some(reader) = replaced_at(&all, index, choices) {
+            all.set(index, reader);
         }
     }
     all
 }
 
-/// Returns what replaces the form at an index, if it is a form of `iso` that is replaced.
-fn iso_reading_at(
-    readers: &Readers,
-    index: usize,
-    offset: &Option<UtcOffset>,
-    has_zone: bool,
-) -> Option<Reading> {
+/// Returns what replaces the form at an index, if it is a format that is read leniently, or a form
+/// of `iso` that is replaced.
+fn replaced_at(readers: &Readers, index: usize, choices: &ReaderChoices) -> Option<Reader> {
     let reader = readers.as_slice().get(index)?;
-    iso_reading(reader, *offset, has_zone)
+    if choices.lenient && is_format(reader) {
+        lenient_reader(reader, choices.pivot)
+    } else {
+        let reading = iso_reading(reader, choices.offset, choices.has_zone)?;
+        Some(Reader::Named(reading))
+    }
 }
 
 /// Returns what replaces a form of `iso`: with a zone a moment has no offset of its own, and without
@@ -543,13 +623,13 @@ fn iso_reading(reader: &Reader, offset: Option<UtcOffset>, has_zone: bool) -> Op
 pub fn assumptions_in(options: &Options<'_>) -> Assumptions {
     Assumptions {
         offset: options.offset.unwrap_or(UtcOffset::UTC),
-        year: options.year.unwrap_or(*b"0000"),
+        year: options.year.unwrap_or(AssumedYear::Is(0)),
     }
 }
 
 /// Returns whether a form has no year.
-fn any_yearless(readers: &[Reader]) -> bool {
-    readers.iter().any(|reader| is_yearless(reader))
+fn any_yearless(readers: &[Reader], has_pivot: bool) -> bool {
+    readers.iter().any(|reader| is_yearless(reader) && !(has_pivot && lacks_century(reader)))
 }
 
 fn is_yearless(reader: &Reader) -> bool {
@@ -623,16 +703,39 @@ pub fn unmet_in(options: &Options<'_>, is_day: bool) -> Option<Requirement> {
 
 /// Returns the option that is missing or excluded for the forms of `--read`, if there is one.
 fn unmet_by_readers(options: &Options<'_>, is_day: bool) -> Option<Requirement> {
-    if any_yearless(options.readers.as_slice()) && options.year.is_none() {
-        Some(Requirement::AssumeYear)
-    } else if options.year.is_some() && !any_yearless(options.readers.as_slice()) {
-        Some(Requirement::Yearless)
+    if let Some(requirement) = unmet_by_formats(options) {
+        Some(requirement)
     } else if options.zone.is_some() {
         unmet_by_zone(options, is_day)
     } else if any_local(options.readers.as_slice()) && options.offset.is_none() {
         Some(Requirement::Assume)
     } else if options.offset.is_some() && !any_assumed(options.readers.as_slice()) {
         Some(Requirement::Local)
+    } else {
+        None
+    }
+}
+
+/// Returns the option that is missing or excluded for formats, if there is one.
+fn unmet_by_formats(options: &Options<'_>) -> Option<Requirement> {
+    let readers = options.readers.as_slice();
+    let has_pivot = options.pivot.is_some();
+    let is_yearless = any_yearless(readers, has_pivot);
+    let is_short = readers.iter().any(|reader| lacks_century(reader));
+    if has_pivot && !options.lenient {
+        Some(Requirement::Lenient)
+    } else if options.lenient && !readers.iter().any(|reader| is_format(reader)) {
+        Some(Requirement::LenientFormat)
+    } else if has_pivot && !is_short {
+        Some(Requirement::ShortYear)
+    } else if is_yearless && options.year.is_none() {
+        Some(if is_short && !has_pivot {
+            Requirement::Century
+        } else {
+            Requirement::AssumeYear
+        })
+    } else if options.year.is_some() && !is_yearless {
+        Some(Requirement::Yearless)
     } else {
         None
     }

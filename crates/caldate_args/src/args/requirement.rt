@@ -42,6 +42,14 @@ pub enum Requirement {
     AssumeYear,
     /// A format without a year, which `--assume-year` requires.
     Yearless,
+    /// `--pivot`, or `--assume-year`, which a format with `%y` and without a century requires.
+    Century,
+    /// A format, which `--lenient` requires.
+    LenientFormat,
+    /// `--lenient`, which `--pivot` requires.
+    Lenient,
+    /// A format whose only year is `%y`, which `--pivot` requires.
+    ShortYear,
     /// `--zone`, or `at ZONE` and a move, which `--ambiguous` requires.
     ZoneOption,
     /// Only one of `--assume` and `--zone`.
@@ -79,6 +87,10 @@ impl Requirement {
             Requirement::Local => "--assume requires --read of a form without an offset",
             Requirement::AssumeYear => "a format without a year requires --assume-year",
             Requirement::Yearless => "--assume-year requires --read of a format without a year",
+            Requirement::Century => "a format with %y requires --lenient --pivot or --assume-year",
+            Requirement::LenientFormat => "--lenient requires --read of a format",
+            Requirement::Lenient => "--pivot requires --lenient",
+            Requirement::ShortYear => "--pivot requires --read of a format whose year is %y",
             Requirement::ZoneOption => "--ambiguous requires --zone, or at ZONE and a move",
             Requirement::OffsetOrZone => "--assume can't be used with --zone",
             Requirement::LocalOnly => "--zone requires --read of forms without an offset only",

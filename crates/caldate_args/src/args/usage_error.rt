@@ -60,8 +60,14 @@ pub enum Expected {
     RoundedNumber,
     /// An offset from UTC, such as `+01:00`.
     Offset,
-    /// A year of four digits, such as `2024`.
+    /// A year of four digits, such as `2024`, or `near`.
     Year,
+    /// A date after `near`.
+    Day,
+    /// A year from 0 to 9900.
+    Pivot,
+    /// A format in which no two values can have the same string with `--lenient`.
+    LenientFormat,
     /// An offset from UTC or a zone. The word is not the name of a zone.
     Place,
     /// The name of a zone that can be read, such as `Europe/Berlin`.

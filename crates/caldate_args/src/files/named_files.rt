@@ -6,7 +6,7 @@ ghost use Rattle.caldate_lines.specs.Outputs.{WritesPage};
 ghost use Rattle.caldate_args.specs.Files.{FailsOrKeeps, ReportsFile};
 
 use crate::args::arguments::MAX_INDEX;
-use crate::args::options::{is_option, is_option_with_value};
+use crate::args::options::{is_option, option_after, option_before_value};
 use crate::files::Texts;
 use crate::zones::read_zone_error::{FileError, file_words};
 use crate::zones::zone_source::{file_error, open_any};
@@ -205,18 +205,18 @@ pub fn next_file<S: Env>(
     if only_files {
         return (from, true);
     }
-    let mut has_option = false;
+    let mut given = None;
     for i in from..=MAX_INDEX {
         let Ok(length) = system.arg(i, word) else {
             return (i, false);
         };
         let word = &word[..length];
-        if has_option {
-            has_option = false;
+        if let Some(option) = given {
+            given = option_after(option, word);
         } else if word == b"--".as_slice() {
             return (i + 1, true);
         } else if is_option(word) {
-            has_option = is_option_with_value(word);
+            given = option_before_value(word);
         } else {
             return (i, false);
         }

@@ -1,10 +1,14 @@
 use Rattle.std.proofs.Common.{[], ◌++◌, ◌∙◌, ap, append-nil, append_assoc, subst, sym, take}
 use Rattle.std.proofs.lemmas.Bool.{false≢true}
 use Rattle.std.specs.Prelude.{codes}
+use Rattle.cal_time.specs.Date.{year_at}
+use Rattle.cal_time.specs.DateText.{year_text}
+use Rattle.caldate_answers.specs.Found.{day_of}
 use Rattle.caldate_answers.specs.Readers.{IsFormatText, IsTextBy, IsUnreadBy, has_form}
 use Rattle.caldate_answers.specs.Readings.{HasFormIn}
 use Rattle.caldate_answers.specs.Spellings.{full_by}
 use Rattle.caldate_answers.specs.declared.reading.Reading.TheVariants.{Local}
+use Rattle.caldate_answers.proofs.Nearest.{with_some_year}
 use Rattle.caldate_answers.proofs.TextBounds.{form_within, rejected_form, spelled_form, text_form, unspelled_form}
 use Rattle.caldate_answers.proofs.scan.bound.bound_by.Goals as goal
 
@@ -64,9 +68,11 @@ returns-in-Yearless-clause-text c = λ n found fits h.
     let text = take n c.args.bytes.now in
     let assumptions = c.args.assumptions.now in
     let is = subst (λ r. IsTextBy assumptions r text found) c.in-Yearless.is h in
-    let full = append_assoc text (codes " ") assumptions.year in
-    c.bound_by_format-in-Yearless.ensures.front assumptions.offset n (codes " " ++ assumptions.year) found fits
-    (subst (λ t. IsFormatText assumptions.offset c.in-Yearless.format t found) full is.text_is)
+    let year = year_text (year_at (day_of found)) in
+    let full = append_assoc text (codes "/") year in
+    c.bound_by_format-in-Yearless.ensures.front assumptions.offset n (codes "/" ++ year) found fits
+    (subst (λ t. IsFormatText assumptions.offset c.in-Yearless.format t found) full
+    (with_some_year assumptions.year assumptions.offset c.in-Yearless.format text found is.text_is))
 
 pub returns-in-Yearless-clause-rejected : goal.returns-in-Yearless-clause-rejected
 returns-in-Yearless-clause-rejected c = λ n any fits h e.

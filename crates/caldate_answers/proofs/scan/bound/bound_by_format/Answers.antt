@@ -1,7 +1,11 @@
-use Rattle.std.proofs.Common.{◌++◌, subst, take}
+use Rattle.std.proofs.Common.{◌∙◌, ◌++◌, subst, sym, take}
+use Rattle.std.specs.Prelude.{IsTrue, false}
 use Rattle.cal_format.specs.Form.{HasForm}
+use Rattle.cal_format.specs.Lenient.{are_leniently_apart}
+use Rattle.cal_format.specs.Variants.{HasVariants}
 use Rattle.caldate_answers.specs.Readers.{IsFormatText}
 use Rattle.caldate_answers.specs.Scans.{Bounds}
+use Rattle.caldate_answers.proofs.Solid.{variants_of}
 use Rattle.caldate_answers.proofs.TextBounds.{date_form, date_time_form, front_within, moment_form}
 use Rattle.caldate_answers.proofs.scan.bound.bound_by_format.Goals as goal
 
@@ -37,3 +41,18 @@ returns-in-DateTimes-clause-front c = λ offset n more found fits h.
     let is = subst (λ f. IsFormatText offset f text found) c.in-DateTimes.is h in
     let bound = subst (λ l. Bounds (HasForm l) c.args.bytes.now c.bound_by_items-in-DateTimes.result) c.as_format-in-DateTimes.ensures.items c.bound_by_items-in-DateTimes.ensures in
     front_within items c.args.bytes.now c.bound_by_items-in-DateTimes.result n more bound fits (date_time_form items text is.0 c.as_format-in-DateTimes.ensures.determines is.1)
+
+pub variant_bound-requires-clause-apart : goal.variant_bound-requires-clause-apart
+variant_bound-requires-clause-apart c =
+    subst (λ l. IsTrue (are_leniently_apart l)) (sym (c.items.ensures.items ∙ c.as_format-in-Lenient.ensures.items)) c.as_format-in-Lenient.ensures.apart
+
+pub returns-in-Lenient-clause-within : goal.returns-in-Lenient-clause-within
+returns-in-Lenient-clause-within c = c.variant_bound.ensures.within
+
+pub returns-in-Lenient-clause-front : goal.returns-in-Lenient-clause-front
+returns-in-Lenient-clause-front c = λ offset n more found fits h.
+    let text = take n c.args.bytes.now ++ more in
+    let is = subst (λ f. IsFormatText offset f text found) c.in-Lenient.is h in
+    let variants = variants_of offset c.in-Lenient.format text found is in
+    let items = sym (c.items.ensures.items ∙ c.as_format-in-Lenient.ensures.items) in
+    c.variant_bound.ensures.front variants.0 n more fits (subst (λ l. HasVariants false l variants.0 text) items variants.1)
