@@ -152,6 +152,14 @@ impl LenientFormat {
 }
 
 impl LenientDateFormat {
+    /// Returns its items as a format of any values.
+    pub fn as_format(&self) -> &Format
+        ensures items { result.now ≡ self.now.format }
+        ensures reads { ReadsDates self.now }
+    {
+        &self.format.format
+    }
+
     /// Parses a variant of a text that the format prints, and returns its value.
     ///
     /// Returns `UnexpectedByte` or `UnexpectedEnd` with the position of an item that the text
@@ -173,6 +181,14 @@ impl LenientDateFormat {
 }
 
 impl LenientTimeFormat {
+    /// Returns its items as a format of any values.
+    pub fn as_format(&self) -> &Format
+        ensures items { result.now ≡ self.now.format }
+        ensures reads { ReadsTimes self.now }
+    {
+        &self.format.format
+    }
+
     /// Parses a variant of a text that the format prints, and returns its value.
     ///
     /// Returns `UnexpectedByte` or `UnexpectedEnd` with the position of an item that the text
@@ -194,6 +210,14 @@ impl LenientTimeFormat {
 }
 
 impl LenientDateTimeFormat {
+    /// Returns its items as a format of any values.
+    pub fn as_format(&self) -> &Format
+        ensures items { result.now ≡ self.now.format }
+        ensures reads { ReadsDateTimes self.now }
+    {
+        &self.format.format
+    }
+
     /// Parses a variant of a text that the format prints, and returns its value.
     ///
     /// Returns `UnexpectedByte` or `UnexpectedEnd` with the position of an item that the text
@@ -215,6 +239,14 @@ impl LenientDateTimeFormat {
 }
 
 impl LenientOffsetDateTimeFormat {
+    /// Returns its items as a format of any values.
+    pub fn as_format(&self) -> &Format
+        ensures items { result.now ≡ self.now.format }
+        ensures reads { ReadsOffsetDateTimes self.now }
+    {
+        &self.format.format
+    }
+
     /// Parses a variant of a text that the format prints, and returns its value.
     ///
     /// Returns `UnexpectedByte` or `UnexpectedEnd` with the position of an item that the text

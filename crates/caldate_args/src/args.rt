@@ -28,7 +28,8 @@ use crate::args::names::{CommandName, MoveVerb, Verb};
 use crate::args::numbers::counts_of;
 use crate::args::offset::offset_of;
 use crate::args::options::{
-    Options, ReaderChoices, assumptions_in, field_of, options_of, readers_in, unmet_in, zone_of,
+    Options, ReaderChoices, assumptions_in, field_of, no_options, parse_options, readers_in,
+    unmet_in, zone_of,
 };
 use crate::args::requirement::Requirement;
 use crate::args::spelling::{
@@ -172,7 +173,8 @@ fn filter_at<'a, D: DataFiles<'a>>(
     requires few { start.0 ≤ 2 }
 {
     let (at, is_day) = start;
-    let (options, at) = options_of(rest, at, files)?;
+    let mut options = no_options();
+    let at = parse_options(&mut options, rest, at, files)?;
     if let (true, Some(index)) = (options.lenient, options.ambiguous) {
         return Err(usage_error_at(index, Expected::LenientFormat));
     }

@@ -15,9 +15,8 @@ use cal_format::{
 };
 use cal_text::DateOrMoment;
 use cal_time::UtcOffset;
-use std::marker::Model;
 
-/// A lenient format for one kind of values.
+/// A lenient format whose strings determine a date or a moment.
 #[derive(Drop)]
 pub enum LenientKind {
     /// A format of dates.
@@ -28,51 +27,10 @@ pub enum LenientKind {
     DateTimes(LenientDateTimeFormat),
 }
 
-/// A lenient format whose strings determine a date or a moment. Contracts see the format of its
-/// kind.
-#[derive(Drop)]
-pub struct LenientValueFormat {
-    format: LenientKind,
-    /// The items of the format, which bound how long a string can be.
-    items: Format,
-}
-
-impl Model for LenientValueFormat {
-    ghost use Rattle.std.specs.Prelude.{◌≡◌, IsTrue};
-    ghost use Rattle.cal_format.specs.Lenient.{are_leniently_apart};
-    ghost use Rattle.caldate_answers.specs.Variants.{lenient_items};
-    ghost use Rattle.caldate_answers.specs.declared.reading.lenient.LenientKind.{LenientKind};
-
-    ghost Value = { LenientKind };
-
-    ghost view = { λ f. f.format };
-
-    ghost invariant = { λ f. (f.items ≡ lenient_items f.format)
-        × IsTrue (are_leniently_apart (lenient_items f.format)) };
-}
-
-impl LenientValueFormat {
+impl LenientKind {
     /// Returns the date or the moment that a string is a variant of. A string without an offset is
     /// at `offset`.
     pub fn read(&self, offset: UtcOffset, text: &[u8]) -> Option<DateOrMoment>
-        ensures every { (found : DateOrMoment) → IsVariantText offset self.now text.now found
-            → result ≡ Some found }
-        ensures has { IfSome result (IsVariantText offset self.now text.now) }
-    {
-        self.format.read(offset, text)
-    }
-
-    /// Returns its items as a format of any values.
-    pub fn as_format(&self) -> &Format
-        ensures items { result.now ≡ lenient_items self.now }
-        ensures apart { IsTrue (are_leniently_apart (lenient_items self.now)) }
-    {
-        &self.items
-    }
-}
-
-impl LenientKind {
-    fn read(&self, offset: UtcOffset, text: &[u8]) -> Option<DateOrMoment>
         ensures every { (found : DateOrMoment) → IsVariantText offset self.now text.now found
             → result ≡ Some found }
         ensures has { IfSome result (IsVariantText offset self.now text.now) }
@@ -90,6 +48,18 @@ impl LenientKind {
                 Ok(local) => Some(in_rfc3339(local.assume_offset(offset))),
                 Err(_) => None,
             },
+        }
+    }
+
+    /// Returns its items as a format of any values.
+    pub fn as_format(&self) -> &Format
+        ensures items { result.now ≡ lenient_items self.now }
+        ensures apart { IsTrue (are_leniently_apart (lenient_items self.now)) }
+    {
+        match self {
+            LenientKind::Dates(format) => format.as_format(),
+            LenientKind::Moments(format) => format.as_format(),
+            LenientKind::DateTimes(format) => format.as_format(),
         }
     }
 }
@@ -134,17 +104,14 @@ pub fn lacks_century(reader: &Reader) -> bool
 
 /// Returns the lenient format for the same values, or `None` if two of them could have the same
 /// string. With a pivot it lacks the year that follows a format without one.
-fn lenient_format(format: &ValueFormat, pivot: Option<u16>) -> Option<LenientValueFormat>
+fn lenient_format(format: &ValueFormat, pivot: Option<u16>) -> Option<LenientKind>
     ensures every { (found : LenientKind) → IsLenientFormat pivot format.now found
         → result ≡ Some found }
     ensures has { IfSome result (IsLenientFormat pivot format.now) }
 {
     let items = read_items(format.as_format(), pivot);
-    let lenient = lenient_with(copy_of(items.items()), pivot);
-    Some(LenientValueFormat {
-        format: for_same_values(format, lenient)?,
-        items,
-    })
+    let lenient = lenient_with(items, pivot);
+    for_same_values(format, lenient)
 }
 
 /// Returns all items, or with a pivot those before the slash and the year at the end.

@@ -4,7 +4,7 @@ ghost use Rattle.cal_text.specs.declared.any.DateOrMoment.{DateOrMoment};
 ghost use Rattle.caldate_answers.specs.Leniency.{items_in};
 ghost use Rattle.caldate_answers.specs.Readers.{IsFormatText};
 
-use crate::reading::lenient::LenientValueFormat;
+use crate::reading::lenient::LenientKind;
 use cal_datetime::OffsetDateTime;
 use cal_format::{DateFormat, DateTimeFormat, Format, OffsetDateTimeFormat};
 use cal_text::{DateForm, DateOrMoment, MomentForm};
@@ -20,7 +20,7 @@ pub enum ValueFormat {
     /// A format of moments without an offset, such as `%F %T`.
     DateTimes(DateTimeFormat),
     /// A format of any of these that also reads variants of their strings.
-    Lenient(LenientValueFormat),
+    Lenient(LenientKind),
 }
 
 impl ValueFormat {

@@ -72,7 +72,7 @@ pub struct Options<'a> {
 }
 
 /// Returns the options if the arguments have none.
-fn no_options() -> Options<'static> {
+pub fn no_options() -> Options<'static> {
     Options {
         on_invalid: None,
         fields: None,
@@ -109,83 +109,80 @@ pub struct ReaderChoices {
     pub pivot: Option<u16>,
 }
 
-/// A result of parsing one more word: the options so far.
-#[derive(Drop)]
-pub enum OptionsAfter<'a> {
-    /// The word is part of the options. The next word is the value of an option, if one is given.
-    Continued(Options<'a>, Option<OptionName>),
-    /// The word is not an option.
-    Ended(Options<'a>),
+/// What a word is among the options.
+#[derive(Clone, Copy)]
+enum OptionWord {
+    /// An option or its value. The next word is the value of an option, if one is given.
+    Part(Option<OptionName>),
+    /// A word after the options.
+    Other,
 }
 
-/// Parses the options from the word at an index on, and returns them with the index of the word
-/// after them.
-pub fn options_of<'a, D: DataFiles<'a>>(
+/// Parses the options from the word at an index on, and returns the index of the word after them.
+// The options are large, so they are changed in place.
+pub fn parse_options<'a, D: DataFiles<'a>>(
+    options: &mut Options<'a>,
     words: Option<&'a [u8]>,
     at: usize,
     files: &mut D,
-) -> Result<(Options<'a>, usize), UsageError<'a>>
+) -> Result<usize, UsageError<'a>>
     requires { at ≤ 2 }
-    ensures within { IfOk result (λ front. front.1 ≤ 2 ^ 63 + 2) }
+    ensures within { IfOk result (λ index. index ≤ 2 ^ 63 + 2) }
 {
-    let mut options = no_options();
     let mut given = None;
     let mut index = at;
     let mut left = words;
     while let Some(some) = left {
         let (word, rest) = cut(some);
         match parse_word(options, given, word, index, files)? {
-            OptionsAfter::Continued(more, option) => {
-                options = more;
-                given = option;
-            }
-            OptionsAfter::Ended(all) => return Ok((all, index)),
+            OptionWord::Part(option) => given = option,
+            OptionWord::Other => return Ok(index),
         }
         left = rest;
         index += 1;
     }
     match given {
         Some(option) => Err(usage_error_at(index, expected_value(option))),
-        None => Ok((options, index)),
+        None => Ok(index),
     }
 }
 
 /// Parses one more word, which has this index: an option, or if `given` is an option, its value.
 fn parse_word<'a, D: DataFiles<'a>>(
-    options: Options<'a>,
+    options: &mut Options<'a>,
     given: Option<OptionName>,
     word: &'a [u8],
     index: usize,
     files: &mut D,
-) -> Result<OptionsAfter<'a>, UsageError<'a>> {
+) -> Result<OptionWord, UsageError<'a>> {
     if let Some(option) = given {
-        return after_value(options, option, word, index, files);
+        return parse_value(options, option, word, index, files);
     }
     let (name, value) = cut_value(word);
-    let Some(option) = option_in(&options, name) else {
-        return Ok(OptionsAfter::Ended(options));
+    let Some(option) = option_in(options, name) else {
+        return Ok(OptionWord::Other);
     };
     match (takes_value(option), is_joined(word)) {
-        (true, false) => Ok(OptionsAfter::Continued(options, Some(option))),
-        (false, true) => Ok(OptionsAfter::Ended(options)),
-        _ => after_value(options, option, value, index, files),
+        (true, false) => Ok(OptionWord::Part(Some(option))),
+        (false, true) => Ok(OptionWord::Other),
+        _ => parse_value(options, option, value, index, files),
     }
 }
 
-/// Returns the options after the value of one more option.
-fn after_value<'a, D: DataFiles<'a>>(
-    options: Options<'a>,
+/// Parses the value of one more option.
+fn parse_value<'a, D: DataFiles<'a>>(
+    options: &mut Options<'a>,
     option: OptionName,
     value: &'a [u8],
     index: usize,
     files: &mut D,
-) -> Result<OptionsAfter<'a>, UsageError<'a>> {
+) -> Result<OptionWord, UsageError<'a>> {
     if let Some(next) = option_after(option, value) {
-        return Ok(OptionsAfter::Continued(options, Some(next)));
+        return Ok(OptionWord::Part(Some(next)));
     }
     let invalid = usage_error_at(index, expected_value(option));
-    let more = with_value(options, option, value, invalid, files)?;
-    Ok(OptionsAfter::Continued(more, None))
+    set_option(options, option, value, invalid, files)?;
+    Ok(OptionWord::Part(None))
 }
 
 /// Returns whether the word contains a `=`.
@@ -302,57 +299,50 @@ pub fn option_after(option: OptionName, value: &[u8]) -> Option<OptionName> {
 /// Sets the option, or returns the error if the value is invalid. An option without a value ignores
 /// it.
 // A proof costs more the longer a function is, so the options are in three.
-fn with_value<'a, D: DataFiles<'a>>(
-    options: Options<'a>,
+fn set_option<'a, D: DataFiles<'a>>(
+    options: &mut Options<'a>,
     option: OptionName,
     value: &'a [u8],
     invalid: UsageError<'a>,
     files: &mut D,
-) -> Result<Options<'a>, UsageError<'a>> {
-    let mut more = options;
+) -> Result<(), UsageError<'a>> {
     match option {
-        OptionName::Csv => more.csv = true,
-        OptionName::Header => more.header = true,
-        OptionName::Scan => more.scan = true,
-        OptionName::Lenient => more.lenient = true,
-        OptionName::Read => return with_reader(more, value, invalid),
-        OptionName::Zone => more.zone = Some(zone_of(value, invalid, files)?),
-        OptionName::Holidays => more.workdays = Some(workdays_of(value, invalid, files)?),
-        _ => return with_word(more, option, value).ok_or(invalid),
+        OptionName::Csv => options.csv = true,
+        OptionName::Header => options.header = true,
+        OptionName::Scan => options.scan = true,
+        OptionName::Lenient => options.lenient = true,
+        OptionName::Read => add_reader(options, value, invalid)?,
+        OptionName::Zone => options.zone = Some(zone_of(value, invalid, files)?),
+        OptionName::Holidays => options.workdays = Some(workdays_of(value, invalid, files)?),
+        _ => set_word(options, option, value).ok_or(invalid)?,
     }
-    Ok(more)
+    Ok(())
 }
 
 /// Sets an option for fields or lines, or returns `None` if the value is invalid.
-fn with_word<'a>(options: Options<'a>, option: OptionName, value: &'a [u8]) -> Option<Options<'a>> {
-    let mut more = options;
+fn set_word<'a>(options: &mut Options<'a>, option: OptionName, value: &'a [u8]) -> Option<()> {
     match option {
-        OptionName::Field => return with_named(more, value),
-        OptionName::Append => more.append = Some(FieldName::new(value)),
-        OptionName::Separator => more.separator = Some(byte_of(value)?),
-        OptionName::Skip => more.skip = Some(skip_of(value)?),
-        _ => return with_meaning(more, option, value),
+        OptionName::Field => add_field(options, value)?,
+        OptionName::Append => options.append = Some(FieldName::new(value)),
+        OptionName::Separator => options.separator = Some(byte_of(value)?),
+        OptionName::Skip => options.skip = Some(skip_of(value)?),
+        _ => set_meaning(options, option, value)?,
     }
-    Some(more)
+    Some(())
 }
 
 /// Sets an option for the meaning of strings, or returns `None` if the value is invalid.
-fn with_meaning<'a>(
-    options: Options<'a>,
-    option: OptionName,
-    value: &'a [u8],
-) -> Option<Options<'a>> {
-    let mut more = options;
+fn set_meaning(options: &mut Options<'_>, option: OptionName, value: &[u8]) -> Option<()> {
     match option {
-        OptionName::Invalid => more.on_invalid = Some(value_named(value, &MODES)?),
-        OptionName::Assume => more.offset = Some(offset_of(value)?),
-        OptionName::AssumeYear => more.year = Some(AssumedYear::Is(year_of(value)?)),
-        OptionName::Near => more.year = Some(AssumedYear::Near(day_of(value)?)),
-        OptionName::Pivot => more.pivot = Some(pivot_of(value)?),
-        OptionName::Ambiguous => more.policy = Some(value_named(value, &POLICIES)?),
+        OptionName::Invalid => options.on_invalid = Some(value_named(value, &MODES)?),
+        OptionName::Assume => options.offset = Some(offset_of(value)?),
+        OptionName::AssumeYear => options.year = Some(AssumedYear::Is(year_of(value)?)),
+        OptionName::Near => options.year = Some(AssumedYear::Near(day_of(value)?)),
+        OptionName::Pivot => options.pivot = Some(pivot_of(value)?),
+        OptionName::Ambiguous => options.policy = Some(value_named(value, &POLICIES)?),
         _ => return None,
     }
-    Some(more)
+    Some(())
 }
 
 /// Returns the zone with this name, or the error with the reason why it has none.
@@ -381,25 +371,24 @@ fn workdays_of<'a, D: DataFiles<'a>>(
 }
 
 /// Adds a field and its name, or returns `None` if the value is invalid or four fields are given.
-fn with_named<'a>(options: Options<'a>, value: &'a [u8]) -> Option<Options<'a>> {
+fn add_field<'a>(options: &mut Options<'a>, value: &'a [u8]) -> Option<()> {
     let field = field_in(value)?;
     let name = name_in(value);
-    let mut more = options;
-    if more.fields.is_none() {
-        more.fields = Some(field);
-        more.names.set(0, name);
-        return Some(more);
+    if options.fields.is_none() {
+        options.fields = Some(field);
+        options.names.set(0, name);
+        return Some(());
     }
-    let index = more.more.as_slice().len() + 1;
+    let index = options.more.as_slice().len() + 1;
     if index >= MAX_FIELDS {
         return None;
     }
-    more.more.insert(RankedField {
+    options.more.insert(RankedField {
         numbers: field,
         rank: index as u8,
     });
-    more.names.set(index, name);
-    Some(more)
+    options.names.set(index, name);
+    Some(())
 }
 
 /// Returns the name of a field, if the value is one.
@@ -525,24 +514,27 @@ pub fn field_of(options: &Options<'_>) -> Option<Field> {
 }
 
 /// Adds a form of `--read`, or returns the error if the value is invalid. `iso` is three forms.
-fn with_reader<'a>(
-    options: Options<'a>,
+fn add_reader<'a>(
+    options: &mut Options<'_>,
     value: &[u8],
     invalid: UsageError<'a>,
-) -> Result<Options<'a>, UsageError<'a>> {
+) -> Result<(), UsageError<'a>> {
     let reader = reader_of(value).ok_or(invalid)?;
     let is_iso = is_iso_moment(&reader);
-    let mut more = options;
-    if more.ambiguous.is_none() && is_format(&reader) && lenient_reader(&reader, None).is_none() {
-        more.ambiguous = Some(invalid.index);
+    if options.ambiguous.is_none()
+        && is_format(&reader)
+        && lenient_reader(&reader, None).is_none()
+    {
+        options.ambiguous = Some(invalid.index);
     }
-    more.readers.try_push(reader);
+    options.readers.try_push(reader);
     if is_iso {
-        more.readers.try_push(Reader::Named(Reading::IsoDate));
-        more.readers
+        options.readers.try_push(Reader::Named(Reading::IsoDate));
+        options
+            .readers
             .try_push(Reader::Named(Reading::IsoLocal(UtcOffset::UTC)));
     }
-    Ok(more)
+    Ok(())
 }
 
 /// Returns whether the form is a format.

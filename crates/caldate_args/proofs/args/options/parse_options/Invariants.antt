@@ -1,6 +1,6 @@
 use Rattle.std.proofs.Common.{◌+◌, ◌^◌, ◌≤◌}
 use Rattle.caldate_args.specs.Words.{bytes_left}
-use Rattle.caldate_args.proofs.args.options.options_of.Given as goal
+use Rattle.caldate_args.proofs.args.options.parse_options.Given as goal
 
 -- the index is at most the bytes so far
 abbrev pub invariant-loop-left : goal.invariant-loop-left
