@@ -72,7 +72,7 @@ pub struct Options<'a> {
 }
 
 /// Returns the options if the arguments have none.
-pub fn no_options() -> Options<'static> {
+pub fn no_options<'a>() -> Options<'a> {
     Options {
         on_invalid: None,
         fields: None,
