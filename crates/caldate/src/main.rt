@@ -2,9 +2,16 @@
 //! output.
 #![tactic(auto)]
 
+ghost use Rattle.std.specs.Prelude.{IfOk};
+ghost use Rattle.caldate_args.specs.Lists.{HasValidStep};
+
+use cal_datetime::PlainDateTime;
 use cal_time::Date;
 use caldate_args::args::arguments::{BUFFER_BYTES, join};
 use caldate_args::args::asked_by;
+use caldate_args::args::usage_error::UsageError;
+use caldate_args::command::Command;
+use caldate_args::data_files::DataFiles;
 use caldate_args::data_files::system_files::SystemFiles;
 use caldate_args::files::Joined;
 use caldate_args::files::named_files::NamedFiles;
@@ -27,16 +34,58 @@ fn main(rt: HostRuntime) -> ExitCode {
     let mut second = [0u8; MAX_FILE_BYTES];
     let mut days = [Date::MIN; MAX_HOLIDAYS];
     let mut files = SystemFiles::new(&rt, folder, &mut first, &mut second, &mut days);
-    let asked = asked_by(words, now, &mut files);
+    let asked = parse_words(words, now, &mut files);
     let words = words.unwrap_or(b"");
-    let mut writer = io::writer(&rt);
+    match joined.and_then(|joined| joined.first_file) {
+        Some(first) => answer_files(&rt, asked, words, &now, first),
+        None => answer_input(&rt, asked, words, &now),
+    }
+}
+
+/// Parses the arguments.
+// A function of its own leaves the stack to the run, and the other way round.
+#[inline(never)]
+fn parse_words<'a, D: DataFiles<'a>>(
+    words: Option<&'a [u8]>,
+    now: Option<PlainDateTime>,
+    files: &mut D,
+) -> Result<Command<'a>, UsageError<'a>>
+    ensures steps { IfOk result HasValidStep }
+{
+    asked_by(words, now, files)
+}
+
+/// Answers the lines of standard input, or runs a command that reads nothing.
+#[inline(never)]
+fn answer_input(
+    rt: &HostRuntime,
+    asked: Result<Command<'_>, UsageError<'_>>,
+    words: &[u8],
+    now: &Option<PlainDateTime>,
+) -> ExitCode
+    requires { IfOk asked HasValidStep }
+{
+    let mut reader = rt.reader();
+    let mut writer = io::writer(rt);
     let mut errors = rt.stderr();
-    let Some(first) = joined.and_then(|joined| joined.first_file) else {
-        let mut reader = rt.reader();
-        let ending = perform(asked, words, &now, &mut reader, &mut writer, &mut errors);
-        return ExitCode::from(ending.status);
-    };
-    let mut input = Joined::new(NamedFiles::new(&rt, first, rt.reader(), rt.stderr()));
-    let ending = perform_on_files(asked, words, &now, &mut input, &mut writer, &mut errors);
+    let ending = perform(asked, words, now, &mut reader, &mut writer, &mut errors);
+    ExitCode::from(ending.status)
+}
+
+/// Answers the lines of the files from the one with this index on.
+#[inline(never)]
+fn answer_files(
+    rt: &HostRuntime,
+    asked: Result<Command<'_>, UsageError<'_>>,
+    words: &[u8],
+    now: &Option<PlainDateTime>,
+    first: usize,
+) -> ExitCode
+    requires { IfOk asked HasValidStep }
+{
+    let mut input = Joined::new(NamedFiles::new(rt, first, rt.reader(), rt.stderr()));
+    let mut writer = io::writer(rt);
+    let mut errors = rt.stderr();
+    let ending = perform_on_files(asked, words, now, &mut input, &mut writer, &mut errors);
     ExitCode::from(ending.status)
 }
