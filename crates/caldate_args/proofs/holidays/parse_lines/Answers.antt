@@ -1,5 +1,4 @@
-use Rattle.std.proofs.Common.{arith}
-use Rattle.std.proofs.lemmas.List.{length-take-le}
+use Rattle.std.proofs.Common.{arith, length-take}
 use Rattle.caldate_args.proofs.HolidayLines.{all_lines, first_error, none_so_far, one_more_line}
 use Rattle.caldate_args.proofs.holidays.parse_lines.Goals as goal
 
@@ -17,8 +16,7 @@ loop-rest-preserved c =
 pub returns-in-Err-clause-error : goal.returns-in-Err-clause-error
 returns-in-Err-clause-error c =
     let at = c.loop-rest.invariant in
-    let few = length-take-le c.loop-rest.count c.loop-rest.days in
-    first_error c.args.bytes.now _ c.cut_line.result.1.now c.cut_line.result.0.now _ _ _ c.cut_line.ensures.lines (omega (arith, at.most)) c.in-Err.ensures.error at.so_far
+    first_error c.args.bytes.now _ c.cut_line.result.1.now c.cut_line.result.0.now _ _ _ c.cut_line.ensures.lines (omega (arith, at.most, length-take c.loop-rest.count c.loop-rest.days)) c.in-Err.ensures.error at.so_far
 
 pub returns-clause-days : goal.returns-clause-days
 returns-clause-days c = all_lines _ _ _ _ c.loop-rest-test.false c.loop-rest.invariant.so_far

@@ -8,7 +8,7 @@ returns-in-Err-eq0-clause-error c =
     let syntax = rw text at c.in-Err.ensures.syntax_error in (
       record {
         no_date = λ n h. cc (c.in-Err.ensures.every n h.in_range (subst (λ t. IsDateText t n) (sym text) h.text_is));
-        result_is = cc (c.in-Err-eq0.ensures, c.in-Err-eq0.field-0-is);
+        result_is = cc c.in-Err-eq0.ensures;
       },
       record {
         syntax = (λ e h. syntax.0 e h.0 h.1, λ none. syntax.1 (λ form h. none (form, h)));
