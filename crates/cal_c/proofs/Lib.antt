@@ -45,3 +45,4 @@ pub mod WrittenMoments
 pub mod Calendars
 pub mod EventSets
 pub mod OneEvent
+pub mod WrittenNames

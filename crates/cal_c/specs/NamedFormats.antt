@@ -1,0 +1,110 @@
+-- Formats with the names of a language.
+use Rattle.std.specs.Prelude.{◌≡◌, ℕ, ◌≤◌, ℤ, All, Bool, List, [], ◌∷◌, bytes_eq, length, Option, Some, None, if◌then◌else◌}
+use Rattle.std.specs.Borrow.{Bor}
+use Rattle.std.specs.Str.{IsUtf8}
+use Rattle.cal_format.specs.declared.item.Item.{Item}
+use Rattle.cal_format.specs.declared.moment.Moment.{Moment}
+use Rattle.cal_names.specs.Apart.{texts}
+use Rattle.cal_names.specs.declared.names.Names.{Names}
+use Rattle.cal_named_format.specs.declared.error.NamesError.{NamesError}
+use Rattle.cal_named_format.specs.declared.error.NamesError.TheVariants.{AmbiguousNames, AmbiguousNumber}
+use Rattle.cal_named_format.specs.Ambiguity.{IsNamesError, ReadBack}
+use Rattle.cal_named_format.specs.Named.{text_in}
+use Rattle.cal_named_format.specs.Rejection.{IsRejectionIn}
+use Rattle.cal_c.specs.FormatParsing.{IsParsed}
+use Rattle.cal_c.specs.Formats.{HasItems, IsFormat}
+use Rattle.cal_c.specs.FormatTexts.{IsPrinted, IsUnprinted, length_error}
+use Rattle.cal_c.specs.Texts.{no_position}
+use Rattle.cal_c.specs.declared.formats.format_parts.FormatParts.{FormatParts}
+use Rattle.cal_c.specs.declared.formats.named.checking.NamesCheckResult.{NamesCheckResult}
+use Rattle.cal_c.specs.declared.formats.named.languages.TheConstants.{LANGUAGES}
+use Rattle.cal_c.specs.declared.formats.named.names_parts.NamesParts.{NamesParts}
+use Rattle.cal_c.specs.declared.formats.named.names_parts.TheConstants.{NO_NAMES}
+use Rattle.cal_c.specs.declared.formats.results.LengthResult.{LengthResult}
+use Rattle.cal_c.specs.declared.status.TheConstants.{OK, AMBIGUOUS_NAMES, AMBIGUOUS_NUMBER, INSUFFICIENT_FORMAT, INVALID_FORMAT, INVALID_NAMES}
+
+-- ---- names
+-- Bytes that a name can have.
+abbrev pub IsName : List ℕ → Type 0
+IsName bytes = IsUtf8 bytes × (length bytes ≤ 127)
+
+pub record AreNames (p : NamesParts) : Type 0 where
+  pub months : All IsName (texts p.months)
+  pub months_alone : All IsName (texts p.months_alone)
+  pub short_months : All IsName (texts p.short_months)
+  pub weekdays : All IsName (texts p.weekdays)
+  pub short_weekdays : All IsName (texts p.short_weekdays)
+  pub periods : All IsName (texts p.periods)
+  pub lower_periods : All IsName (texts p.lower_periods)
+
+-- The bytes are those of the names.
+pub record HasNames (p : NamesParts) (t : Names) : Type 0 where
+  pub months : texts p.months ≡ texts t.months
+  pub months_alone : texts p.months_alone ≡ texts t.months_alone
+  pub short_months : texts p.short_months ≡ texts t.short_months
+  pub weekdays : texts p.weekdays ≡ texts t.weekdays
+  pub short_weekdays : texts p.short_weekdays ≡ texts t.short_weekdays
+  pub periods : texts p.periods ≡ texts t.periods
+  pub lower_periods : texts p.lower_periods ≡ texts t.lower_periods
+
+-- P is true for names with these bytes.
+abbrev pub WithNames : NamesParts → (Names → Type 0) → Type 0
+WithNames p P = (t : Names) × HasNames p t × P t
+
+-- The names of the first language that has the code.
+abbrev pub named_by : List ℕ → List (Bor (List ℕ) × Names) → Option Names
+named_by code [] = None
+named_by code (language ∷ languages) = if bytes_eq code language.0.now then Some language.1 else named_by code languages
+
+abbrev pub language_of : List ℕ → Option Names
+language_of code = named_by code LANGUAGES
+
+abbrev pub no_names : Names
+no_names = NO_NAMES
+
+-- ---- the check of a format
+abbrev pub names_status : NamesError → ℤ
+names_status (AmbiguousNames n i j) = AMBIGUOUS_NAMES
+names_status (AmbiguousNumber n b) = AMBIGUOUS_NUMBER
+
+-- The index of the item.
+abbrev pub names_item : NamesError → ℕ
+names_item (AmbiguousNames n i j) = n
+names_item (AmbiguousNumber n b) = n
+
+abbrev pub check_error : ℤ → NamesCheckResult
+check_error s = record { status = s; byte = 0; item = no_position; name = no_position; other = no_position }
+
+abbrev pub ambiguous : NamesError → NamesCheckResult
+ambiguous (AmbiguousNames n i j) = record { status = AMBIGUOUS_NAMES; byte = 0; item = n; name = i; other = j }
+ambiguous (AmbiguousNumber n b) = record { status = AMBIGUOUS_NUMBER; byte = b; item = n; name = no_position; other = no_position }
+
+-- The strings of the items with the names read back, or the first item doesn't that has the error.
+pub record IsCheckOf (items : List Item) (t : Names) (r : NamesCheckResult) : Type 0 where
+  pub ok : ReadBack t items → r ≡ check_error OK
+  pub error : ¬ ReadBack t items → (e : NamesError) × IsNamesError t items 0 e × (r ≡ ambiguous e)
+
+pub record IsChecked (f : FormatParts) (p : NamesParts) (r : NamesCheckResult) : Type 0 where
+  pub invalid_format : ¬ IsFormat f → r ≡ check_error INVALID_FORMAT
+  pub invalid_names : IsFormat f → ¬ AreNames p → r ≡ check_error INVALID_NAMES
+  pub value : AreNames p → (items : List Item) → HasItems f items → WithNames p (λ t. IsCheckOf items t r)
+
+-- ---- printing
+-- The string of a moment is written, if the items show only what the value has.
+pub record IsNamedPrint (shown : List Item → Bool) (v : Moment) (f : FormatParts) (p : NamesParts) (old new : List ℕ) (r : LengthResult) : Type 0 where
+  pub invalid_format : ¬ IsFormat f → IsUnprinted old new r (length_error INVALID_FORMAT)
+  pub invalid_names : IsFormat f → ¬ AreNames p → IsUnprinted old new r (length_error INVALID_NAMES)
+  pub value : AreNames p → (items : List Item) → HasItems f items → WithNames p (λ t. IsPrinted (shown items) (text_in t items v) old new r)
+
+-- ---- parsing
+-- The result is the value that the items hold and print with the names as the text, or says why the
+-- text is rejected. If two values could have the same text, it is the first item with that error.
+pub record IsReadWith {V R : Type 0} (IsHeld : List Item → V → Type 0) (moment_of : V → Moment) (ok : V → R) (error_at : ℤ → ℕ → R) (text : List ℕ) (t : Names) (items : List Item) (r : R) : Type 0 where
+  pub parsed : ReadBack t items → IsParsed (λ v. IsHeld items v × (text ≡ text_in t items (moment_of v))) (IsRejectionIn t items text) ok error_at r
+  pub ambiguous : ¬ ReadBack t items → (e : NamesError) × IsNamesError t items 0 e × (r ≡ error_at (names_status e) (names_item e))
+
+pub record IsNamedParse {V R : Type 0} (Determines : List Item → Type 0) (IsHeld : List Item → V → Type 0) (moment_of : V → Moment) (ok : V → R) (error_at : ℤ → ℕ → R) (text : List ℕ) (f : FormatParts) (p : NamesParts) (r : R) : Type 0 where
+  pub invalid_format : ¬ IsFormat f → r ≡ error_at INVALID_FORMAT no_position
+  pub invalid_names : IsFormat f → ¬ AreNames p → r ≡ error_at INVALID_NAMES no_position
+  pub insufficient_format : AreNames p → (items : List Item) → HasItems f items → ¬ Determines items → r ≡ error_at INSUFFICIENT_FORMAT no_position
+  pub value : AreNames p → (items : List Item) → HasItems f items → Determines items → WithNames p (λ t. IsReadWith IsHeld moment_of ok error_at text t items r)
