@@ -47,12 +47,14 @@ def arguments(call: int, given: tuple[Any, ...]) -> tuple[str, dict[str, Any]]:
     return method, {name: one for name, one in zip(names, given) if one is not None}
 
 
-def _pattern_of(format: str) -> str:
+def _pattern_of(format: str, names: Any) -> str:
     """Returns a pattern of the strings of a format, with a group for the first of each component."""
+    shown_names = {"B": names.months, "b": names.short_months} if names else {}
+    own = {letter: f"(?P<name>{'|'.join(map(re.escape, table))})" for letter, table in shown_names.items()}
     pattern, groups = "", set[str]()
     items = re.sub(r"%([FTRDh])", lambda found: _LONGER[found[1]], format)
     for item, space, other in _ITEM.findall(items):
-        shown = _SHOWN.get(item, ".+?") if item else r"\s+" if space else re.escape(other)
+        shown = own.get(item) or _SHOWN.get(item, ".+?") if item else r"\s+" if space else re.escape(other)
         group = re.search(r"\?P<(\w+)>", shown)
         pattern += ".+?" if group and group[1] in groups else shown
         groups.update(group.groups() if group else ())
@@ -63,10 +65,13 @@ def _read(given: dict[str, Any]) -> dict[str, int]:
     """Returns the components of the string of a call."""
     format = given.get("format")
     text = getattr(format, "_text", format)
-    match = (_ISO if text is None else re.compile(_pattern_of(text), re.ASCII)).fullmatch(given["text"])
+    names = getattr(format, "names", None)
+    match = (_ISO if text is None else re.compile(_pattern_of(text, names), re.ASCII)).fullmatch(given["text"])
     found = {name: one for name, one in match.groupdict().items() if one} if match else {}
     if "name" in found:
-        found["month"] = str(_MONTHS.index(found.pop("name")[:3].lower()) + 1)
+        name = found.pop("name")
+        months = _MONTHS if names is None else names.months if name in names.months else names.short_months
+        found["month"] = str(months.index(name[:3].lower() if names is None else name) + 1)
     if "short" in found:
         pivot = format._pivot  # type: ignore[union-attr]
         found["year"] = str(pivot + (int(found["short"]) - pivot) % 100)
@@ -132,7 +137,9 @@ def _expected(parse: Callable[..., Any], front: str, *format: Any) -> str | None
 
     has_names = bool(format) and _NAMES.search(str(getattr(format[0], "_text", format[0])))
     words = _digits([digit for digit in string.digits if fits(front + digit)])
-    words += [f'"{one}"' for one in (_NEXT_IN_NAMES if has_names else _NEXT) if fits(front + one)]
+    names = getattr(format[0], "names", None) if format else None
+    others = sorted({*"".join(map("".join, vars(names).values()))} - {*string.digits, *_NEXT[:8]}) if names else _NEXT_IN_NAMES[8:]
+    words += [f'"{one}"' for one in ([*_NEXT[:8], *others] if has_names else _NEXT) if fits(front + one)]
     # A lenient format takes letters in any case.
     words = [word for word in words if word[0] != '"' or word == word.upper() or word.upper() not in words]
     words += ["the end"] * is_whole()
