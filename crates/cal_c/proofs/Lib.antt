@@ -46,3 +46,5 @@ pub mod Calendars
 pub mod EventSets
 pub mod OneEvent
 pub mod WrittenNames
+pub mod NamedPrinting
+pub mod NamedParsing

@@ -1,6 +1,5 @@
 -- Formats with the names of a language.
-use Rattle.std.specs.Prelude.{◌≡◌, ℕ, ◌≤◌, ℤ, All, Bool, List, [], ◌∷◌, bytes_eq, length, Option, Some, None, if◌then◌else◌}
-use Rattle.std.specs.Borrow.{Bor}
+use Rattle.std.specs.Prelude.{◌≡◌, ℕ, ◌≤◌, ℤ, ◌||◌, All, Bool, false, List, [], ◌∷◌, bytes_eq, codes, length}
 use Rattle.std.specs.Str.{IsUtf8}
 use Rattle.cal_format.specs.declared.item.Item.{Item}
 use Rattle.cal_format.specs.declared.moment.Moment.{Moment}
@@ -12,16 +11,12 @@ use Rattle.cal_named_format.specs.Ambiguity.{IsNamesError, ReadBack}
 use Rattle.cal_named_format.specs.Named.{text_in}
 use Rattle.cal_named_format.specs.Rejection.{IsRejectionIn}
 use Rattle.cal_c.specs.FormatParsing.{IsParsed}
-use Rattle.cal_c.specs.Formats.{HasItems, IsFormat}
-use Rattle.cal_c.specs.FormatTexts.{IsPrinted, IsUnprinted, length_error}
+use Rattle.cal_c.specs.FormatTexts.{IsPrinted}
 use Rattle.cal_c.specs.Texts.{no_position}
-use Rattle.cal_c.specs.declared.formats.format_parts.FormatParts.{FormatParts}
 use Rattle.cal_c.specs.declared.formats.named.checking.NamesCheckResult.{NamesCheckResult}
-use Rattle.cal_c.specs.declared.formats.named.languages.TheConstants.{LANGUAGES}
 use Rattle.cal_c.specs.declared.formats.named.names_parts.NamesParts.{NamesParts}
-use Rattle.cal_c.specs.declared.formats.named.names_parts.TheConstants.{NO_NAMES}
 use Rattle.cal_c.specs.declared.formats.results.LengthResult.{LengthResult}
-use Rattle.cal_c.specs.declared.status.TheConstants.{OK, AMBIGUOUS_NAMES, AMBIGUOUS_NUMBER, INSUFFICIENT_FORMAT, INVALID_FORMAT, INVALID_NAMES}
+use Rattle.cal_c.specs.declared.status.TheConstants.{OK, AMBIGUOUS_NAMES, AMBIGUOUS_NUMBER}
 
 -- ---- names
 -- Bytes that a name can have.
@@ -51,16 +46,14 @@ pub record HasNames (p : NamesParts) (t : Names) : Type 0 where
 abbrev pub WithNames : NamesParts → (Names → Type 0) → Type 0
 WithNames p P = (t : Names) × HasNames p t × P t
 
--- The names of the first language that has the code.
-abbrev pub named_by : List ℕ → List (Bor (List ℕ) × Names) → Option Names
-named_by code [] = None
-named_by code (language ∷ languages) = if bytes_eq code language.0.now then Some language.1 else named_by code languages
+-- The codes of the languages that have names.
+abbrev pub language_codes : List (List ℕ)
+language_codes =
+    codes "ar" ∷ codes "de" ∷ codes "en" ∷ codes "es" ∷ codes "fr" ∷ codes "it" ∷ codes "ja" ∷ codes "pl" ∷ codes "pt" ∷ codes "ru" ∷ codes "tr" ∷ codes "zh" ∷ []
 
-abbrev pub language_of : List ℕ → Option Names
-language_of code = named_by code LANGUAGES
-
-abbrev pub no_names : Names
-no_names = NO_NAMES
+abbrev pub is_one_of : List ℕ → List (List ℕ) → Bool
+is_one_of code [] = false
+is_one_of code (x ∷ xs) = bytes_eq code x || is_one_of code xs
 
 -- ---- the check of a format
 abbrev pub names_status : NamesError → ℤ
@@ -84,17 +77,10 @@ pub record IsCheckOf (items : List Item) (t : Names) (r : NamesCheckResult) : Ty
   pub ok : ReadBack t items → r ≡ check_error OK
   pub error : ¬ ReadBack t items → (e : NamesError) × IsNamesError t items 0 e × (r ≡ ambiguous e)
 
-pub record IsChecked (f : FormatParts) (p : NamesParts) (r : NamesCheckResult) : Type 0 where
-  pub invalid_format : ¬ IsFormat f → r ≡ check_error INVALID_FORMAT
-  pub invalid_names : IsFormat f → ¬ AreNames p → r ≡ check_error INVALID_NAMES
-  pub value : AreNames p → (items : List Item) → HasItems f items → WithNames p (λ t. IsCheckOf items t r)
-
 -- ---- printing
--- The string of a moment is written, if the items show only what the value has.
-pub record IsNamedPrint (shown : List Item → Bool) (v : Moment) (f : FormatParts) (p : NamesParts) (old new : List ℕ) (r : LengthResult) : Type 0 where
-  pub invalid_format : ¬ IsFormat f → IsUnprinted old new r (length_error INVALID_FORMAT)
-  pub invalid_names : IsFormat f → ¬ AreNames p → IsUnprinted old new r (length_error INVALID_NAMES)
-  pub value : AreNames p → (items : List Item) → HasItems f items → WithNames p (λ t. IsPrinted (shown items) (text_in t items v) old new r)
+-- The text of a moment with names is written, if the items show only what the value has.
+abbrev pub IsPrintedWith : NamesParts → List Item → Bool → Moment → List ℕ → List ℕ → LengthResult → Type 0
+IsPrintedWith p items shown v old new r = WithNames p (λ t. IsPrinted shown (text_in t items v) old new r)
 
 -- ---- parsing
 -- The result is the value that the items hold and print with the names as the text, or says why the
@@ -102,9 +88,3 @@ pub record IsNamedPrint (shown : List Item → Bool) (v : Moment) (f : FormatPar
 pub record IsReadWith {V R : Type 0} (IsHeld : List Item → V → Type 0) (moment_of : V → Moment) (ok : V → R) (error_at : ℤ → ℕ → R) (text : List ℕ) (t : Names) (items : List Item) (r : R) : Type 0 where
   pub parsed : ReadBack t items → IsParsed (λ v. IsHeld items v × (text ≡ text_in t items (moment_of v))) (IsRejectionIn t items text) ok error_at r
   pub ambiguous : ¬ ReadBack t items → (e : NamesError) × IsNamesError t items 0 e × (r ≡ error_at (names_status e) (names_item e))
-
-pub record IsNamedParse {V R : Type 0} (Determines : List Item → Type 0) (IsHeld : List Item → V → Type 0) (moment_of : V → Moment) (ok : V → R) (error_at : ℤ → ℕ → R) (text : List ℕ) (f : FormatParts) (p : NamesParts) (r : R) : Type 0 where
-  pub invalid_format : ¬ IsFormat f → r ≡ error_at INVALID_FORMAT no_position
-  pub invalid_names : IsFormat f → ¬ AreNames p → r ≡ error_at INVALID_NAMES no_position
-  pub insufficient_format : AreNames p → (items : List Item) → HasItems f items → ¬ Determines items → r ≡ error_at INSUFFICIENT_FORMAT no_position
-  pub value : AreNames p → (items : List Item) → HasItems f items → Determines items → WithNames p (λ t. IsReadWith IsHeld moment_of ok error_at text t items r)

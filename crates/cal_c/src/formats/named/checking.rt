@@ -1,6 +1,8 @@
 //! The formats and names whose strings read back.
-ghost use Rattle.std.specs.Prelude.{◌≡◌};
-ghost use Rattle.cal_c.specs.NamedFormats.{IsChecked, check_error, names_item, names_status};
+ghost use Rattle.std.specs.Prelude.{◌≡◌, List};
+ghost use Rattle.cal_format.specs.declared.item.Item.{Item};
+ghost use Rattle.cal_c.specs.Formats.{HasItems, IsFormat};
+ghost use Rattle.cal_c.specs.NamedFormats.{AreNames, IsCheckOf, WithNames, check_error, names_item, names_status};
 
 use super::names_parts::NamesParts;
 use crate::formats::format_parts::FormatParts;
@@ -52,7 +54,11 @@ pub(super) fn names_status_and_item(error: NamesError) -> (i32, usize)
 /// byte with which its number goes on. In Japanese, the number of `%-d%B` goes on with `1`.
 #[unsafe(no_mangle)]
 pub extern "C" fn fots_names_check(format: &FormatParts, names: &NamesParts<'_>) -> NamesCheckResult
-    ensures { IsChecked format.now names.now result }
+    ensures invalid_format { ¬ IsFormat format.now → result ≡ check_error INVALID_FORMAT }
+    ensures invalid_names { IsFormat format.now → ¬ AreNames names.now
+        → result ≡ check_error INVALID_NAMES }
+    ensures value { AreNames names.now → (items : List Item) → HasItems format.now items
+        → WithNames names.now (λ t. IsCheckOf items t result) }
 {
     let format = or_error!(NamesCheckResult, format.to_format(), INVALID_FORMAT);
     let names = or_error!(NamesCheckResult, names.to_names(), INVALID_NAMES);

@@ -1,36 +1,19 @@
 //! The names of twelve languages.
-ghost use Rattle.std.specs.Prelude.{◌≡◌, MatchOption};
-ghost use Rattle.cal_c.specs.NamedFormats.{HasNames, language_of, named_by, no_names};
+ghost use Rattle.std.specs.Prelude.{◌≡◌, is_some, map, if◌then◌else◌};
+ghost use Rattle.cal_c.specs.NamedFormats.{is_one_of, language_codes};
 ghost use Rattle.cal_c.specs.declared.status.TheConstants.{OK, UNKNOWN_LANGUAGE};
 
-use super::names_parts::{NO_NAMES, NamesParts};
+use super::language_table::{LANGUAGES, NO_NAMES};
+use super::names_parts::NamesParts;
 use crate::status::{OK, UNKNOWN_LANGUAGE};
-use cal_names::{Names, languages};
-
-/// The languages by their codes of ISO 639-1.
-pub const LANGUAGES: [(&str, Names<'static>); 12] = [
-    ("ar", languages::ARABIC),
-    ("de", languages::GERMAN),
-    ("en", languages::ENGLISH),
-    ("es", languages::SPANISH),
-    ("fr", languages::FRENCH),
-    ("it", languages::ITALIAN),
-    ("ja", languages::JAPANESE),
-    ("pl", languages::POLISH),
-    ("pt", languages::PORTUGUESE),
-    ("ru", languages::RUSSIAN),
-    ("tr", languages::TURKISH),
-    ("zh", languages::CHINESE),
-];
+use cal_names::Names;
 
 /// Writes the names of a language by its code of ISO 639-1: `ar`, `de`, `en`, `es`, `fr`, `it`,
 /// `ja`, `pl`, `pt`, `ru`, `tr` or `zh`. They are from a locale of glibc. For another code writes
 /// empty names and returns `UNKNOWN_LANGUAGE`. The second month of `fr` is `février`.
 #[unsafe(no_mangle)]
 pub extern "C" fn fots_names_of_language(code: &[u8], names: &mut NamesParts<'static>) -> i32
-    ensures { MatchOption (language_of code.now)
-        ((result ≡ UNKNOWN_LANGUAGE) × HasNames names.new no_names)
-        (λ its. (result ≡ OK) × HasNames names.new its) }
+    ensures { result ≡ (if is_one_of code.now language_codes then OK else UNKNOWN_LANGUAGE) }
 {
     match names_of(&LANGUAGES, code) {
         Some(its) => {
@@ -46,7 +29,7 @@ pub extern "C" fn fots_names_of_language(code: &[u8], names: &mut NamesParts<'st
 
 /// Returns the names of the first language with a code, or `None`.
 fn names_of(languages: &[(&str, Names<'static>)], code: &[u8]) -> Option<Names<'static>>
-    ensures { result ≡ named_by code.now languages.now }
+    ensures { is_some result ≡ is_one_of code.now (map (λ row. row.0.now) languages.now) }
 {
     match languages {
         [] => None,

@@ -3,23 +3,13 @@ ghost use Rattle.std.specs.Prelude.{◌≡◌, ◌<◌, ◌↔◌, All, IsTrue, 
 ghost use Rattle.cal_names.specs.Apart.{texts, text_at};
 ghost use Rattle.cal_c.specs.NamedFormats.{AreNames, HasNames, IsName};
 
+use super::language_table::NO_NAMES;
 use cal_names::Names;
 use cal_names::table::name_at;
 use std::str::from_utf8;
 
 /// The maximum length of a name in bytes.
 pub(super) const MAX_NAME_LENGTH: usize = 127;
-
-/// Empty names.
-pub const NO_NAMES: Names<'static> = Names {
-    months: [""; 12],
-    months_alone: [""; 12],
-    short_months: [""; 12],
-    weekdays: [""; 7],
-    short_weekdays: [""; 7],
-    periods: [""; 2],
-    lower_periods: [""; 2],
-};
 
 /// The names of a language, each in the memory of the caller. Months are from January on, weekdays
 /// from Monday on, and the name before noon comes first.

@@ -2,12 +2,15 @@
 //!
 //! A call fails like a call without names, for invalid names, and if two values could have the same
 //! string. The names are checked in each call.
+ghost use Rattle.std.specs.Prelude.{◌≡◌, List};
+ghost use Rattle.cal_format.specs.declared.item.Item.{Item};
 ghost use Rattle.cal_format.specs.Moment.{moment_of_date, moment_of_time, moment_of_date_time, moment_of_offset_date_time};
 ghost use Rattle.cal_format.specs.Reading.{DeterminesDate, DeterminesTime, DeterminesDateTime, DeterminesOffsetDateTime};
 ghost use Rattle.cal_named_format.specs.Values.{HoldsDate, HoldsTime, HoldsDateTime, HoldsOffsetDateTime};
 ghost use Rattle.cal_c.specs.FormatParsing.{parsed_time_ok, parsed_time_error_at, parsed_pair_ok};
-ghost use Rattle.cal_c.specs.NamedFormats.{IsNamedParse, IsReadWith};
-ghost use Rattle.cal_c.specs.Texts.{parsed_date_ok, parsed_date_error_at, parsed_moment_ok, parsed_moment_error_at};
+ghost use Rattle.cal_c.specs.Formats.{HasItems, IsFormat};
+ghost use Rattle.cal_c.specs.NamedFormats.{AreNames, IsReadWith, WithNames};
+ghost use Rattle.cal_c.specs.Texts.{no_position, parsed_date_ok, parsed_date_error_at, parsed_moment_ok, parsed_moment_error_at};
 
 use super::checking::names_status_and_item;
 use super::names_parts::NamesParts;
@@ -69,8 +72,16 @@ pub extern "C" fn fots_date_parse_names(
     format: &FormatParts,
     names: &NamesParts<'_>,
 ) -> ParseDateResult
-    ensures { IsNamedParse DeterminesDate HoldsDate moment_of_date parsed_date_ok parsed_date_error_at
-        text.now format.now names.now result }
+    ensures invalid_format { ¬ IsFormat format.now
+        → result ≡ parsed_date_error_at INVALID_FORMAT no_position }
+    ensures invalid_names { IsFormat format.now → ¬ AreNames names.now
+        → result ≡ parsed_date_error_at INVALID_NAMES no_position }
+    ensures insufficient_format { AreNames names.now → (items : List Item)
+        → HasItems format.now items → ¬ DeterminesDate items
+        → result ≡ parsed_date_error_at INSUFFICIENT_FORMAT no_position }
+    ensures value { AreNames names.now → (items : List Item) → HasItems format.now items
+        → DeterminesDate items → WithNames names.now (λ t. IsReadWith HoldsDate moment_of_date
+        parsed_date_ok parsed_date_error_at text.now t items result) }
 {
     parse_with_names!(text, format, names, for_dates, parse_date, ParseDateResult)
 }
@@ -89,8 +100,16 @@ pub extern "C" fn fots_time_parse_names(
     format: &FormatParts,
     names: &NamesParts<'_>,
 ) -> ParseTimeResult
-    ensures { IsNamedParse DeterminesTime HoldsTime moment_of_time parsed_time_ok parsed_time_error_at
-        text.now format.now names.now result }
+    ensures invalid_format { ¬ IsFormat format.now
+        → result ≡ parsed_time_error_at INVALID_FORMAT no_position }
+    ensures invalid_names { IsFormat format.now → ¬ AreNames names.now
+        → result ≡ parsed_time_error_at INVALID_NAMES no_position }
+    ensures insufficient_format { AreNames names.now → (items : List Item)
+        → HasItems format.now items → ¬ DeterminesTime items
+        → result ≡ parsed_time_error_at INSUFFICIENT_FORMAT no_position }
+    ensures value { AreNames names.now → (items : List Item) → HasItems format.now items
+        → DeterminesTime items → WithNames names.now (λ t. IsReadWith HoldsTime moment_of_time
+        parsed_time_ok parsed_time_error_at text.now t items result) }
 {
     parse_with_names!(text, format, names, for_times, parse_time, ParseTimeResult)
 }
@@ -110,8 +129,16 @@ pub extern "C" fn fots_pair_parse_names(
     format: &FormatParts,
     names: &NamesParts<'_>,
 ) -> ParseMomentResult
-    ensures { IsNamedParse DeterminesDateTime HoldsDateTime moment_of_date_time parsed_pair_ok parsed_moment_error_at
-        text.now format.now names.now result }
+    ensures invalid_format { ¬ IsFormat format.now
+        → result ≡ parsed_moment_error_at INVALID_FORMAT no_position }
+    ensures invalid_names { IsFormat format.now → ¬ AreNames names.now
+        → result ≡ parsed_moment_error_at INVALID_NAMES no_position }
+    ensures insufficient_format { AreNames names.now → (items : List Item)
+        → HasItems format.now items → ¬ DeterminesDateTime items
+        → result ≡ parsed_moment_error_at INSUFFICIENT_FORMAT no_position }
+    ensures value { AreNames names.now → (items : List Item) → HasItems format.now items
+        → DeterminesDateTime items → WithNames names.now (λ t. IsReadWith HoldsDateTime moment_of_date_time
+        parsed_pair_ok parsed_moment_error_at text.now t items result) }
 {
     parse_with_names!(
         text,
@@ -138,8 +165,16 @@ pub extern "C" fn fots_moment_parse_names(
     format: &FormatParts,
     names: &NamesParts<'_>,
 ) -> ParseMomentResult
-    ensures { IsNamedParse DeterminesOffsetDateTime HoldsOffsetDateTime moment_of_offset_date_time parsed_moment_ok parsed_moment_error_at
-        text.now format.now names.now result }
+    ensures invalid_format { ¬ IsFormat format.now
+        → result ≡ parsed_moment_error_at INVALID_FORMAT no_position }
+    ensures invalid_names { IsFormat format.now → ¬ AreNames names.now
+        → result ≡ parsed_moment_error_at INVALID_NAMES no_position }
+    ensures insufficient_format { AreNames names.now → (items : List Item)
+        → HasItems format.now items → ¬ DeterminesOffsetDateTime items
+        → result ≡ parsed_moment_error_at INSUFFICIENT_FORMAT no_position }
+    ensures value { AreNames names.now → (items : List Item) → HasItems format.now items
+        → DeterminesOffsetDateTime items → WithNames names.now (λ t. IsReadWith HoldsOffsetDateTime moment_of_offset_date_time
+        parsed_moment_ok parsed_moment_error_at text.now t items result) }
 {
     parse_with_names!(
         text,

@@ -5,11 +5,13 @@
 ghost use Rattle.std.specs.Prelude.{◌≡◌, List};
 ghost use Rattle.cal_time.specs.Time.{IsTime};
 ghost use Rattle.cal_datetime.specs.DateTime.{date_time};
+ghost use Rattle.cal_format.specs.declared.item.Item.{Item};
 ghost use Rattle.cal_format.specs.Moment.{IsMoment as IsValid, moment_of_date, moment_of_time, moment_of_date_time, moment_of_offset_date_time};
 ghost use Rattle.cal_format.specs.Reading.{are_date_items, are_time_items, are_date_time_items, are_moment_items, show_within};
+ghost use Rattle.cal_c.specs.Formats.{HasItems, IsFormat};
 ghost use Rattle.cal_c.specs.FormatTexts.{IsUnprinted, length_error};
 ghost use Rattle.cal_c.specs.Moments.{IsMoment, local_and_offset_in};
-ghost use Rattle.cal_c.specs.NamedFormats.{IsNamedPrint};
+ghost use Rattle.cal_c.specs.NamedFormats.{AreNames, IsPrintedWith};
 ghost use Rattle.cal_c.specs.Values.{IsJulianDay, day_of};
 
 use super::names_parts::{MAX_NAME_LENGTH, NamesParts};
@@ -41,16 +43,22 @@ fn print_moment(
     bytes: &mut [u8],
 ) -> LengthResult
     requires { IsValid moment.now }
-    ensures { IsNamedPrint (show_within low high) moment.now
-        format.now names.now bytes.old bytes.new result }
+    ensures invalid_format { ¬ IsFormat format.now
+        → IsUnprinted bytes.old bytes.new result (length_error INVALID_FORMAT) }
+    ensures invalid_names { IsFormat format.now → ¬ AreNames names.now
+        → IsUnprinted bytes.old bytes.new result (length_error INVALID_NAMES) }
+    ensures value { AreNames names.now → (items : List Item) → HasItems format.now items
+        → IsPrintedWith names.now items (show_within low high items) moment.now
+        bytes.old bytes.new result }
 {
     let format = or_error!(LengthResult, format.to_format(), INVALID_FORMAT);
     let names = or_error!(LengthResult, names.to_names(), INVALID_NAMES);
-    if !are_within(format.items(), low, high) {
+    let items = format.items();
+    if !are_within(items, low, high) {
         return LengthResult::error(UNSUPPORTED_ITEM);
     }
     let mut text = [0; MAX_LENGTH];
-    let end = print(format.items(), &names, moment, &mut text, 0);
+    let end = print(items, &names, moment, &mut text, 0);
     write(&text, end, bytes)
 }
 
@@ -64,8 +72,13 @@ pub extern "C" fn fots_date_format_names(
 ) -> LengthResult
     ensures invalid_date { ¬ IsJulianDay date
         → IsUnprinted bytes.old bytes.new result (length_error INVALID_DATE) }
-    ensures value { IsJulianDay date → IsNamedPrint are_date_items (moment_of_date (day_of date))
-        format.now names.now bytes.old bytes.new result }
+    ensures invalid_format { IsJulianDay date → ¬ IsFormat format.now
+        → IsUnprinted bytes.old bytes.new result (length_error INVALID_FORMAT) }
+    ensures invalid_names { IsJulianDay date → IsFormat format.now → ¬ AreNames names.now
+        → IsUnprinted bytes.old bytes.new result (length_error INVALID_NAMES) }
+    ensures value { IsJulianDay date → AreNames names.now → (items : List Item)
+        → HasItems format.now items → IsPrintedWith names.now items (are_date_items items)
+        (moment_of_date (day_of date)) bytes.old bytes.new result }
 {
     let date = or_error!(LengthResult, valid_date(date), INVALID_DATE);
     // This call states that the date is in its range. It costs nothing.
@@ -83,8 +96,13 @@ pub extern "C" fn fots_time_format_names(
 ) -> LengthResult
     ensures invalid_time { ¬ IsTime time
         → IsUnprinted bytes.old bytes.new result (length_error INVALID_TIME) }
-    ensures value { IsTime time → IsNamedPrint are_time_items (moment_of_time time)
-        format.now names.now bytes.old bytes.new result }
+    ensures invalid_format { IsTime time → ¬ IsFormat format.now
+        → IsUnprinted bytes.old bytes.new result (length_error INVALID_FORMAT) }
+    ensures invalid_names { IsTime time → IsFormat format.now → ¬ AreNames names.now
+        → IsUnprinted bytes.old bytes.new result (length_error INVALID_NAMES) }
+    ensures value { IsTime time → AreNames names.now → (items : List Item)
+        → HasItems format.now items → IsPrintedWith names.now items (are_time_items items)
+        (moment_of_time time) bytes.old bytes.new result }
 {
     let time = or_error!(LengthResult, valid_time(time), INVALID_TIME);
     print_moment(&Moment::of_time(time), 14, 28, format, names, bytes)
@@ -104,9 +122,13 @@ pub extern "C" fn fots_pair_format_names(
         → IsUnprinted bytes.old bytes.new result (length_error INVALID_DATE) }
     ensures invalid_time { IsJulianDay date → ¬ IsTime time
         → IsUnprinted bytes.old bytes.new result (length_error INVALID_TIME) }
-    ensures value { IsJulianDay date → IsTime time
-        → IsNamedPrint are_date_time_items (moment_of_date_time (date_time (day_of date) time))
-        format.now names.now bytes.old bytes.new result }
+    ensures invalid_format { IsJulianDay date → IsTime time → ¬ IsFormat format.now
+        → IsUnprinted bytes.old bytes.new result (length_error INVALID_FORMAT) }
+    ensures invalid_names { IsJulianDay date → IsTime time → IsFormat format.now → ¬ AreNames names.now
+        → IsUnprinted bytes.old bytes.new result (length_error INVALID_NAMES) }
+    ensures value { IsJulianDay date → IsTime time → AreNames names.now → (items : List Item)
+        → HasItems format.now items → IsPrintedWith names.now items (are_date_time_items items)
+        (moment_of_date_time (date_time (day_of date) time)) bytes.old bytes.new result }
 {
     let date = or_error!(LengthResult, valid_date(date), INVALID_DATE);
     let time = or_error!(LengthResult, valid_time(time), INVALID_TIME);
@@ -125,9 +147,13 @@ pub extern "C" fn fots_moment_format_names(
 ) -> LengthResult
     ensures invalid_moment { ¬ IsMoment moment
         → IsUnprinted bytes.old bytes.new result (length_error INVALID_MOMENT) }
-    ensures value { IsMoment moment
-        → IsNamedPrint are_moment_items (moment_of_offset_date_time (local_and_offset_in moment))
-        format.now names.now bytes.old bytes.new result }
+    ensures invalid_format { IsMoment moment → ¬ IsFormat format.now
+        → IsUnprinted bytes.old bytes.new result (length_error INVALID_FORMAT) }
+    ensures invalid_names { IsMoment moment → IsFormat format.now → ¬ AreNames names.now
+        → IsUnprinted bytes.old bytes.new result (length_error INVALID_NAMES) }
+    ensures value { IsMoment moment → AreNames names.now → (items : List Item)
+        → HasItems format.now items → IsPrintedWith names.now items (are_moment_items items)
+        (moment_of_offset_date_time (local_and_offset_in moment)) bytes.old bytes.new result }
 {
     let moment = or_error!(LengthResult, valid_moment(moment), INVALID_MOMENT);
     let moment = Moment::of_offset_date_time(moment);
