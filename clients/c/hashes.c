@@ -207,7 +207,7 @@ static size_t any_property(void) { return text_of(properties, COUNT(properties))
 static size_t any_rules_text(void) { return text_of(rules, COUNT(rules)); }
 static size_t any_zone_text(void) { return text_of(zones, COUNT(zones)); }
 
-static const char *const codes[] = {"ar", "de", "en", "es", "fr", "it", "ja", "pl", "pt", "ru", "tr", "zh", "xx", "fra", ""};
+static const char *const codes[] = {"ar", "de", "en", "es", "fr", "it", "ja", "pl", "pt", "ru", "tr", "zh", "xx", "fra"};
 
 static size_t any_language(void) { return text_of(codes, COUNT(codes)); }
 
