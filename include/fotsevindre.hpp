@@ -159,13 +159,18 @@ template <class Result> Result parsed_or_throw(Result result, std::string_view t
     return result;
 }
 
+// Returns the pivot of a lenient format, or FOTS_NO_PIVOT for another one.
+template <class Format> auto pivot_of(const Format &format, int) -> decltype(format.pivot()) { return format.pivot(); }
+template <class Format> std::int32_t pivot_of(const Format &, long) { return FOTS_NO_PIVOT; }
+
 // Returns the result of a function that parses a text by a format, or throws an error.
 template <class Result, class Format> Result parsed_or_throw(Result result, std::string_view text, const Format &format)
 {
-    if (result.status == FOTS_INSUFFICIENT_FORMAT) {
-        throw error(result.status, result.position, fots_format_error_text(result.status, format.c()));
+    if (result.status != FOTS_OK) {
+        throw error(result.status, result.position,
+            fots_format_error_text(result.status, result.position, data(text), text.size(), format.c(), pivot_of(format, 0)));
     }
-    return parsed_or_throw(result, text);
+    return result;
 }
 
 // Returns the result of a function that makes a format of a text, or throws an error that has the wrong item.

@@ -289,11 +289,22 @@ static void conditional(void)
 
 /* ---- texts */
 
-static fots_sentence of_text(const char *text)
-{
-    const fots_parse_date_result parsed = fots_date_parse(text, strlen(text));
-    return fots_parse_error_text(parsed.status, parsed.position, text, strlen(text));
-}
+#define PARSED(name, type, parse) \
+    static fots_sentence of_##name(const char *text) \
+    { \
+        const fots_parse_##type##_result parsed = parse(text, strlen(text)); \
+        return fots_parse_error_text(parsed.status, parsed.position, text, strlen(text)); \
+    }
+PARSED(text, date, fots_date_parse)
+PARSED(iso_date, date, fots_date_parse_iso)
+PARSED(time, time, fots_time_parse)
+PARSED(iso_time, time, fots_time_parse_iso)
+PARSED(offset, offset, fots_offset_parse)
+PARSED(pair, moment, fots_pair_parse)
+PARSED(iso_pair, moment, fots_pair_parse_iso)
+PARSED(moment, moment, fots_moment_parse)
+PARSED(offset_date_time, moment, fots_offset_date_time_parse)
+PARSED(iso_moment, moment, fots_moment_parse_iso)
 
 static fots_sentence of_zone(const char *text)
 {
@@ -328,7 +339,25 @@ static void texts(void)
         {of_text, "2024\xe2\x80\x93""02", "unexpected byte 0xE2 at position 4"},
         {of_text, "2023-02-2", "unexpected end at position 9"},
         {of_text, "", "unexpected end at position 0"},
-        {of_text, "2023-13-01", "month is out of range"},
+        {of_text, "2023-13-01", "month 13 is out of range 1 to 12"},
+        {of_text, "2023-02-29", "day 29 is out of range 1 to 28 (February 2023)"},
+        {of_text, "+1000000-01-01", "year 1000000 is out of range -999999 to 999999"},
+        {of_text, "-0001-366", "ordinal 366 is out of range 1 to 365 (-1)"},
+        {of_text, "2023-W53-1", "week 53 is out of range 1 to 52 (2023)"},
+        {of_iso_date, "20230229", "day 29 is out of range 1 to 28 (February 2023)"},
+        {of_iso_date, "2023W53", "week 53 is out of range 1 to 52 (2023)"},
+        {of_time, "9:60", "minute 60 is out of range 0 to 59"},
+        {of_iso_time, "2460", "hour 24 is out of range 0 to 23"},
+        {of_iso_time, "T235960,5", "second 60 is out of range 0 to 59"},
+        {of_offset, "-26:00", "offset hour -26 is out of range -25 to 25"},
+        {of_offset, "+01:60", "offset minute 60 is out of range -59 to 59"},
+        {of_offset, "+01:00:99", "offset second 99 is out of range -59 to 59"},
+        {of_pair, "2024-02-29 23:60", "minute 60 is out of range 0 to 59"},
+        {of_iso_pair, "20240229T24", "hour 24 is out of range 0 to 23"},
+        {of_moment, "2024-02-29T23:00:00+24:00", "offset hour 24 is out of range -23 to 23"},
+        {of_moment, "2023-02-29T23:00:00.1234567890123Z", "day 29 is out of range 1 to 28 (February 2023)"},
+        {of_offset_date_time, "2024-02-29T23:00:00 +26:00", "offset hour 26 is out of range -25 to 25"},
+        {of_iso_moment, "20240229T2300-26", "offset hour -26 is out of range -25 to 25"},
         {of_zone, "CET", "invalid POSIX offset at position 3; expected an offset of at most 24 hours"},
         {of_zone, "CET-1CEST,M3.5.0,M10.5.0/3x", "trailing bytes at position 26; expected the end"},
         {of_format, "%d %Q", "unknown item at position 3"},
@@ -394,10 +423,10 @@ static void formats(void)
     for (int k = 0; k < COUNT(rows); k++) {
         made = fots_format_new(rows[k].format, strlen(rows[k].format));
         check(made.status == FOTS_OK, rows[k].format, made.status, 0);
-        says(fots_format_error_text(FOTS_INSUFFICIENT_FORMAT, &made.format), rows[k].sentence);
-        says(fots_format_error_text(FOTS_UNSUPPORTED_ITEM, &made.format), sentences[FOTS_UNSUPPORTED_ITEM]);
+        says(fots_format_error_text(FOTS_INSUFFICIENT_FORMAT, SIZE_MAX, "x", 1, &made.format, FOTS_NO_PIVOT), rows[k].sentence);
+        says(fots_format_error_text(FOTS_UNSUPPORTED_ITEM, SIZE_MAX, "x", 1, &made.format, FOTS_NO_PIVOT), sentences[FOTS_UNSUPPORTED_ITEM]);
         made.format.length = FOTS_MAX_ITEMS + 1;
-        says(fots_format_error_text(FOTS_INSUFFICIENT_FORMAT, &made.format), sentences[FOTS_INSUFFICIENT_FORMAT]);
+        says(fots_format_error_text(FOTS_INSUFFICIENT_FORMAT, SIZE_MAX, "x", 1, &made.format, FOTS_NO_PIVOT), sentences[FOTS_INSUFFICIENT_FORMAT]);
     }
 }
 
