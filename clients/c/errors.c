@@ -430,6 +430,78 @@ static void formats(void)
     }
 }
 
+static const int32_t not_lenient = -2;
+
+static fots_sentence of_date_by(const char *text, const fots_format *format, int32_t pivot)
+{
+    const size_t length = strlen(text);
+    const fots_parse_date_result parsed =
+        pivot == not_lenient ? fots_date_parse_format(text, length, format) : fots_date_parse_leniently(text, length, format, pivot);
+    return fots_format_error_text(parsed.status, parsed.position, text, length, format, pivot);
+}
+
+static fots_sentence of_time_by(const char *text, const fots_format *format, int32_t pivot)
+{
+    const size_t length = strlen(text);
+    const fots_parse_time_result parsed =
+        pivot == not_lenient ? fots_time_parse_format(text, length, format) : fots_time_parse_leniently(text, length, format, pivot);
+    return fots_format_error_text(parsed.status, parsed.position, text, length, format, pivot);
+}
+
+static fots_sentence of_moment_by(const char *text, const fots_format *format, int32_t pivot)
+{
+    const size_t length = strlen(text);
+    const fots_parse_moment_result parsed =
+        pivot == not_lenient ? fots_moment_parse_format(text, length, format) : fots_moment_parse_leniently(text, length, format, pivot);
+    return fots_format_error_text(parsed.status, parsed.position, text, length, format, pivot);
+}
+
+static void strings_of_formats(void)
+{
+    static const struct row {
+        fots_sentence (*of)(const char *text, const fots_format *format, int32_t pivot);
+        const char *text;
+        const char *format;
+        int32_t pivot;
+        const char *sentence;
+    } rows[] = {
+        {of_date_by, "30/02/2024", "%d/%m/%Y", -2, "day 30 is out of range 1 to 29 (February 2024)"},
+        {of_date_by, "32/02/2024", "%d/%m/%Y", -2, "day 32 is out of range 1 to 29 (February 2024)"},
+        {of_date_by, "00/02/2024", "%d/%m/%Y", -2, "day 0 is out of range 1 to 29 (February 2024)"},
+        {of_date_by, "29/13/2024", "%d/%m/%Y", -2, "month 13 is out of range 1 to 12"},
+        {of_date_by, "32/13/2024", "%d/%m/%Y", -2, "day is out of range"},
+        {of_date_by, "29 February 2100", "%d %B %Y", -2, "day 29 is out of range 1 to 28 (February 2100)"},
+        {of_date_by, "29/02/2100", "%d/%m/%C%y", -2, "day 29 is out of range 1 to 28 (February 2100)"},
+        {of_date_by, "2023-366", "%Y-%j", -2, "ordinal 366 is out of range 1 to 365 (2023)"},
+        {of_date_by, "2023-W53-1", "%G-W%V-%u", -2, "week 53 is out of range 1 to 52 (2023)"},
+        {of_date_by, "2023-W52-8", "%G-W%V-%u", -2, "weekday 8 is out of range 1 to 7"},
+        {of_date_by, "2024-02-29 7", "%F %w", -2, "weekday 7 is out of range 0 to 6"},
+        {of_date_by, "2024-02-29 54", "%F %U", -2, "week 54 is out of range 0 to 53"},
+        {of_date_by, "2024-02-29 54", "%F %W", -2, "week 54 is out of range 0 to 53"},
+        {of_date_by, "2024-02-29 5", "%F %u", -2, "weekday contradicts the other components"},
+        {of_date_by, "30/02/202x", "%d/%m/%Y", -2, "unexpected \"x\" at position 9"},
+        {of_date_by, "29/02/23", "%d/%m/%y", -2, "\"%y\" has no century: use %Y or a pivot"},
+        {of_date_by, "2/30/24", "%m/%d/%y", 1970, "day 30 is out of range 1 to 29 (February 2024)"},
+        {of_date_by, "2/29/71", "%m/%d/%y", 1970, "day 29 is out of range 1 to 28 (February 1971)"},
+        {of_date_by, "2/29/00", "%m/%d/%y", 2001, "day 29 is out of range 1 to 28 (February 2100)"},
+        {of_date_by, "30 FEB 2024", "%d %B %Y", FOTS_NO_PIVOT, "day 30 is out of range 1 to 29 (February 2024)"},
+        {of_time_by, "13:00 PM", "%I:%M %p", -2, "hour 13 is out of range 1 to 12"},
+        {of_time_by, "0:00 AM", "%-I:%M %p", -2, "hour 0 is out of range 1 to 12"},
+        {of_time_by, "25:00:00", "%T", -2, "hour 25 is out of range 0 to 23"},
+        {of_time_by, "23:60:00", "%T", -2, "minute 60 is out of range 0 to 59"},
+        {of_time_by, "23:59:60", "%T", -2, "second 60 is out of range 0 to 59"},
+        {of_moment_by, "2024-02-29 23:00 -2600", "%F %R %z", -2, "offset hour -26 is out of range -25 to 25"},
+        {of_moment_by, "2024-02-29 23:00 +0160", "%F %R %z", -2, "offset minute 60 is out of range -59 to 59"},
+        {of_moment_by, "99999999999999", "%s", -2, "timestamp 99999999999999 is out of range -31619087596800 to 31494784780799"},
+        {of_moment_by, "-99999999999999", "%s", -2, "timestamp -99999999999999 is out of range -31619087596800 to 31494784780799"},
+    };
+    for (int k = 0; k < COUNT(rows); k++) {
+        const fots_format_result made = fots_format_new(rows[k].format, strlen(rows[k].format));
+        check(made.status == FOTS_OK, rows[k].format, made.status, 0);
+        says(rows[k].of(rows[k].text, &made.format, rows[k].pivot), rows[k].sentence);
+    }
+}
+
 int main(void)
 {
     statuses();
@@ -438,5 +510,6 @@ int main(void)
     texts();
     other_positions();
     formats();
+    strings_of_formats();
     return ended("errors");
 }

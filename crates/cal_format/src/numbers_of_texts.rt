@@ -1,5 +1,5 @@
 //! The numbers of a text that has the form of a format, in range or not.
-ghost use Rattle.std.specs.Prelude.{◌≡◌, ℕ, ◌<◌, List, IfSome};
+ghost use Rattle.std.specs.Prelude.{ℕ, ◌<◌, List, IfNone, IfSome};
 ghost use Rattle.cal_format.specs.declared.item.Component.{Component};
 ghost use Rattle.cal_format.specs.Lenient.{items_of};
 ghost use Rattle.cal_format.specs.Form.{AreNumbers};
@@ -19,8 +19,8 @@ impl Format {
     /// that shows a component has its number. Returns `None` for other texts, and if two lists of
     /// numbers could have the same text. For `%F`, `2023-02-29` has the day 29.
     pub fn parse_numbers(&self, text: &[u8]) -> Option<Fields>
-        ensures every { (numbers : List ℕ) → HasOwnNumbers self.now numbers text.now
-            → IfSome result (AreFields self.now numbers) }
+        ensures none { IfNone result ((numbers : List ℕ)
+            → ¬ HasOwnNumbers self.now numbers text.now) }
         ensures value { IfSome result (λ f. (numbers : List ℕ)
             × HasOwnNumbers self.now numbers text.now × AreFields self.now numbers f) }
         ensures digits { IfSome result (λ f. (c : Component) → number_at c f < 100_000_000_000_000) }
@@ -41,8 +41,8 @@ impl LenientFormat {
     /// century has a number, too. Returns `None` for other texts, and if two values could have the same
     /// text. For `%D` with the pivot 1970, `2/30/71` has the century 19 and the day 30.
     pub fn parse_numbers(&self, text: &[u8]) -> Option<Fields>
-        ensures every { (numbers : List ℕ) → HasKnownNumbers self.now numbers text.now
-            → IfSome result (AreFields (items_of self.now) numbers) }
+        ensures none { IfNone result ((numbers : List ℕ)
+            → ¬ HasKnownNumbers self.now numbers text.now) }
         ensures value { IfSome result (λ f. (numbers : List ℕ)
             × HasKnownNumbers self.now numbers text.now × AreFields (items_of self.now) numbers f) }
         ensures digits { IfSome result (λ f. (c : Component) → number_at c f < 100_000_000_000_000) }

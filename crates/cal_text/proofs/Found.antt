@@ -1,5 +1,5 @@
 -- A parser of a form returns the one value of a text, or nothing if the text has none.
-use Rattle.std.proofs.Common.{◌≡◌, ℕ, suc, ◌≤◌, List, length, Option, Some, None, ap}
+use Rattle.std.proofs.Common.{◌≡◌, ℕ, ◌≤◌, List, length, Option, Some, None, ap}
 use Rattle.std.specs.Prelude.{IfSome}
 use Rattle.cal_text.specs.Shape.{Shape, ScansWhole}
 use Rattle.cal_text.proofs.Positions.{AreShapesOf, IsShapeOf, stopped, stopped_large}
