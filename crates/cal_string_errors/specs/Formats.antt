@@ -18,10 +18,24 @@ use Rattle.cal_time.specs.declared.error.Component.TheVariants.{Year, Month, Day
 -- The components of the numbers `at` in a year. The numbers of an offset and a Unix time have its sign.
 abbrev pub numbered : ℕ → (Shown → ℕ) → Components
 numbered year at = record {
-  year = pos year; month = pos (at shown.Month); day = pos (at shown.Day); ordinal = pos (at shown.Ordinal); week = pos (at shown.IsoWeek); julian_day = pos 0;
-  hour = pos (at shown.Hour); minute = pos (at shown.Minute); second = pos (at shown.Second); millisecond = pos 0; microsecond = pos 0; nanosecond = pos 0;
-  offset_hour = signed_seconds (at shown.OffsetSign) (at shown.OffsetHour); offset_minute = signed_seconds (at shown.OffsetSign) (at shown.OffsetMinute);
-  offset_second = signed_seconds (at shown.OffsetSign) (at shown.OffsetSecond); seconds = pos 0; timestamp = signed_seconds (at shown.TimestampSign) (at shown.Timestamp) }
+  year = pos year;
+  month = pos (at shown.Month);
+  day = pos (at shown.Day);
+  ordinal = pos (at shown.Ordinal);
+  week = pos (at shown.IsoWeek);
+  julian_day = pos 0;
+  hour = pos (at shown.Hour);
+  minute = pos (at shown.Minute);
+  second = pos (at shown.Second);
+  millisecond = pos 0;
+  microsecond = pos 0;
+  nanosecond = pos 0;
+  offset_hour = signed_seconds (at shown.OffsetSign) (at shown.OffsetHour);
+  offset_minute = signed_seconds (at shown.OffsetSign) (at shown.OffsetMinute);
+  offset_second = signed_seconds (at shown.OffsetSign) (at shown.OffsetSecond);
+  seconds = pos 0;
+  timestamp = signed_seconds (at shown.TimestampSign) (at shown.Timestamp);
+}
 
 -- ---- the number of one item
 -- By the range of the component k, if the items show c.

@@ -47,10 +47,24 @@ week_in _ = pos 1
 -- The components of a date, a time of day and an offset. The numbers of an offset have its sign.
 abbrev pub components : DateNumbers → TimeNumbers → OffsetNumbers → Components
 components d t o = record {
-  year = form_year d; month = month_in d; day = day_in d; ordinal = ordinal_in d; week = week_in d; julian_day = pos 0;
-  hour = pos t.hour; minute = pos t.minute; second = pos t.second; millisecond = pos 0; microsecond = pos 0; nanosecond = pos 0;
-  offset_hour = signed o.is_negative o.hours; offset_minute = signed o.is_negative o.minutes; offset_second = signed o.is_negative o.seconds;
-  seconds = pos 0; timestamp = pos 0 }
+  year = form_year d;
+  month = month_in d;
+  day = day_in d;
+  ordinal = ordinal_in d;
+  week = week_in d;
+  julian_day = pos 0;
+  hour = pos t.hour;
+  minute = pos t.minute;
+  second = pos t.second;
+  millisecond = pos 0;
+  microsecond = pos 0;
+  nanosecond = pos 0;
+  offset_hour = signed o.is_negative o.hours;
+  offset_minute = signed o.is_negative o.minutes;
+  offset_second = signed o.is_negative o.seconds;
+  seconds = pos 0;
+  timestamp = pos 0;
+}
 
 -- The first day of the year 0, for a string without a date.
 abbrev pub no_date : DateNumbers

@@ -1,13 +1,11 @@
 //! Strings of a format.
-ghost use Rattle.std.specs.Prelude.{◌≡◌, ◌<◌, ◌≤◌, Some, None, if◌then◌else◌, pos};
-ghost use Rattle.cal_errors.specs.Components.{always, bounds_of, sentence_in};
+ghost use Rattle.std.specs.Prelude.{◌≡◌, ◌<◌, pos};
 ghost use Rattle.cal_format.specs.declared.item.Component.{Component as Shown};
-ghost use Rattle.cal_format.specs.declared.item.Component.TheVariants as shown;
 ghost use Rattle.cal_format.specs.Scanning.{number_at, signed_seconds};
 ghost use Rattle.cal_format.specs.Values.{year_in};
 ghost use Rattle.cal_string_errors.specs.Formats.{IsFormatSentence, IsLenientSentence, hour_text, item_text, numbered, part_text, sentence_of, sentence_with, week_text, weekday_text};
 
-use cal_errors::{Bounds, Components, Place, Sentence, component_sentence};
+use cal_errors::{Components, Sentence, component_sentence, range_sentence};
 use cal_format::{Component as Shown, Fields, Format, LenientFormat, any_shows};
 use cal_time::error::Component;
 
@@ -113,13 +111,34 @@ fn weekday_text(items: &Format, fields: &Fields) -> Option<Sentence>
         Some(text) => return Some(text),
         None => {}
     }
-    match item_text(Component::Weekday, Shown::SundayWeekday, 1, 7, items, fields) {
+    match item_text(
+        Component::Weekday,
+        Shown::SundayWeekday,
+        1,
+        7,
+        items,
+        fields,
+    ) {
         Some(text) => return Some(text),
         None => {}
     }
-    match item_text(Component::Weekday, Shown::DaysFromMonday, 0, 6, items, fields) {
+    match item_text(
+        Component::Weekday,
+        Shown::DaysFromMonday,
+        0,
+        6,
+        items,
+        fields,
+    ) {
         Some(text) => Some(text),
-        None => item_text(Component::Weekday, Shown::DaysFromSunday, 0, 6, items, fields),
+        None => item_text(
+            Component::Weekday,
+            Shown::DaysFromSunday,
+            0,
+            6,
+            items,
+            fields,
+        ),
     }
 }
 
@@ -151,17 +170,9 @@ fn item_text(
     requires { (c : Shown) → number_at c fields.now < 100_000_000_000_000 }
     ensures { result ≡ item_text component shown low high items.now (λ c. number_at c fields.now) }
 {
-    if !any_shows(items, shown) {
-        return None;
-    }
-    let bounds = Bounds {
-        value: fields.get(shown) as i64,
-        min: i64::from(low),
-        max: i64::from(high),
-        place: Place::Anywhere,
-    };
-    if bounds.is_outside() {
-        Some(bounds.sentence(component))
+    if any_shows(items, shown) {
+        let value = number(fields, shown);
+        range_sentence(component, value, i64::from(low), i64::from(high))
     } else {
         None
     }
@@ -220,6 +231,10 @@ fn signed(fields: &Fields, sign: Shown, shown: Shown) -> i64
     requires { (c : Shown) → number_at c fields.now < 100_000_000_000_000 }
     ensures { result ≡ signed_seconds (number_at sign fields.now) (number_at shown fields.now) }
 {
-    let number = fields.get(shown) as i64;
-    if fields.get(sign) == 1 { -number } else { number }
+    let number = number(fields, shown);
+    if fields.get(sign) == 1 {
+        -number
+    } else {
+        number
+    }
 }

@@ -28,11 +28,7 @@ pub(crate) fn midnight() -> TimeNumbers
 }
 
 /// Returns the components of a date, a time of day and an offset.
-pub(crate) fn components(
-    date: DateNumbers,
-    time: TimeNumbers,
-    offset: OffsetNumbers,
-) -> Components
+pub(crate) fn components(date: DateNumbers, time: TimeNumbers, offset: OffsetNumbers) -> Components
     ensures { result ≡ components date time offset }
 {
     let (year, month, day, ordinal, week) = match date {

@@ -1,6 +1,6 @@
 //! Strings of ISO 8601 and RFC 3339.
 ghost use Rattle.std.specs.Prelude.{◌≡◌, IfSome, None, Some};
-ghost use Rattle.cal_errors.specs.Components.{always, sentence_in};
+ghost use Rattle.cal_errors.specs.Components.{sentence_in};
 ghost use Rattle.cal_errors.specs.declared.components.Components.{Components};
 ghost use Rattle.cal_text.specs.declared.date_numbers.DateNumbers.{DateNumbers};
 ghost use Rattle.cal_text.specs.declared.offset_date_time.numbers.OffsetDateTimeNumbers.{OffsetDateTimeNumbers};
@@ -9,9 +9,11 @@ ghost use Rattle.cal_text.specs.declared.time.numbers.TimeNumbers.{TimeNumbers};
 ghost use Rattle.cal_string_errors.specs.Shown.{IsStringSentence, Shows, ShowsDate, ShowsMoment, ShowsPlain, ShowsTime, component_text, narrow_bounds};
 
 use crate::parts::{components, midnight, no_date, rfc3339_components};
-use cal_errors::{Bounds, Components, Place, Sentence, component_sentence};
-use cal_text::{DateNumbers, OffsetDateTimeNumbers, OffsetNumbers, PlainNumbers, TimeNumbers};
-use cal_text::{date, offset, offset_date_time, plain, rfc3339, time};
+use cal_errors::{Components, Sentence, component_sentence, range_sentence};
+use cal_text::{
+    DateNumbers, OffsetDateTimeNumbers, OffsetNumbers, PlainNumbers, TimeNumbers, date, offset,
+    offset_date_time, plain, rfc3339, time,
+};
 use cal_time::error::Component;
 
 /// Returns the sentence of a component of a string that parsing rejected: a date, a time of day, an
@@ -41,19 +43,9 @@ fn component_text(component: Component, components: &Components) -> Option<Sente
 fn narrow_sentence(component: Component, components: &Components) -> Option<Sentence>
     ensures { result ≡ sentence_in component (narrow_bounds component components.now) }
 {
-    if component != Component::OffsetHour {
-        return None;
-    }
-    let bounds = Bounds {
-        value: components.offset_hour,
-        min: -23,
-        max: 23,
-        place: Place::Anywhere,
-    };
-    if bounds.is_outside() {
-        Some(bounds.sentence(component))
-    } else {
-        None
+    match component {
+        Component::OffsetHour => range_sentence(component, components.offset_hour, -23, 23),
+        _ => None,
     }
 }
 

@@ -42,12 +42,7 @@ fn remedy(format: &Format) -> Sentence
 }
 
 /// Returns the sentence of a component of a string that a format prints, or else that it reads leniently.
-fn read_sentence(
-    component: Component,
-    format: Format,
-    text: &[u8],
-    pivot: i32,
-) -> Option<Sentence>
+fn read_sentence(component: Component, format: Format, text: &[u8], pivot: i32) -> Option<Sentence>
     ensures { IsReadSentence component format text.now pivot result }
 {
     match format_sentence(component, &format, text) {
