@@ -23,16 +23,16 @@ Reads o f full r = IsReadBy (IsFormatText o f full) (IsFormatError f full) r
 abbrev pub ReadsIn : ℤ → ValueFormat → List ℕ → ℤ → Result DateOrMoment NoAnswer → Type 0
 ReadsIn o f t y r = IsReadBy (IsTextInYears o f t y y) (IsErrorInYear f t y) r
 
-abbrev Result1 : Type 0
-Result1 = Result DateOrMoment NoAnswer
+abbrev pub Reading : Type 0
+Reading = Result DateOrMoment NoAnswer
 
-pub same_ok : (a b : DateOrMoment) → ◌≡◌ {A = Result1} (Ok a) (Ok b) → a ≡ b
+pub same_ok : (a b : DateOrMoment) → ◌≡◌ {A = Reading} (Ok a) (Ok b) → a ≡ b
 same_ok a b e = cc
 
-pub same_err : (a b : NoAnswer) → ◌≡◌ {A = Result1} (Err a) (Err b) → a ≡ b
+pub same_err : (a b : NoAnswer) → ◌≡◌ {A = Reading} (Err a) (Err b) → a ≡ b
 same_err a b e = cc
 
-pub not_ok : (any : NoAnswer) (x : DateOrMoment) → ◌≡◌ {A = Result1} (Err any) (Ok x) → ⊥
+pub not_ok : (any : NoAnswer) (x : DateOrMoment) → ◌≡◌ {A = Reading} (Err any) (Ok x) → ⊥
 not_ok any x e = cc
 
 pub no_reason : (IsError : ComponentRange → Type 0) (any : NoAnswer) → ((c : ComponentRange) → ¬ IsError c) → IsReasonBy IsError any → why.NoForm ≡ any
@@ -87,7 +87,7 @@ pub only_reason : (IsText : DateOrMoment → Type 0) (IsError : ComponentRange �
 only_reason IsText IsError any other h is = same_err any other (h.every_error other (λ x is. not_ok any x (h.every x is)) is)
 
 -- ---- the assumed year
-pub yearless_by : (a : Assumptions) (f : ValueFormat) (t : List ℕ) (year : AssumedYear) (r : Result1) → a.year ≡ year → length t ≤ 60
+pub yearless_by : (a : Assumptions) (f : ValueFormat) (t : List ℕ) (year : AssumedYear) (r : Reading) → a.year ≡ year → length t ≤ 60
     → IsReadBy (IsTextOfYear year a.offset f t) (IsErrorInYear f t (year_of year)) r → IsReadBy (IsYearlessText a f t) (IsYearlessError a f t) r
 yearless_by a f t year r e short =
     map_read (IsTextOfYear year a.offset f t) (IsYearlessText a f t) (IsErrorInYear f t (year_of year)) (IsYearlessError a f t) r

@@ -1,6 +1,6 @@
 -- The reason why a format rejects a string: it has one.
 use Rattle.std.proofs.Common.{◌≡◌, ◌∙◌, ◌⊎◌, ap, subst, sym, refl, inl, inr, arith, ℕ, ◌+◌, ◌<◌, Bool, true, false, List, length, take, drop, take-append-drop, Option, Some, None, Result, Ok, Err}
-use Rattle.std.specs.Prelude.{◌||◌, IfErr, IfOk, IsTrue, not}
+use Rattle.std.specs.Prelude.{◌||◌, IfErr, IfOk, IsTrue, not, pos}
 use Rattle.std.proofs.lemmas.Bool.{false≢true}
 use Rattle.std.proofs.lemmas.Int.{ints}
 use Rattle.cal_time.specs.ComponentError.{conditional}
@@ -12,10 +12,11 @@ use Rattle.cal_format.specs.Moment.{IsMoment}
 use Rattle.cal_format.specs.Reading.{are_apart, shows_calendar_date, shows_date, shows_iso_week_date, shows_ordinal_date, shows_timestamp}
 use Rattle.cal_format.specs.Rejection.{IsContradiction, IsNumberRejection, IsRangeError, IsRejection}
 use Rattle.cal_format.specs.Text.{text_of}
-use Rattle.cal_format.specs.Values.{Holds, IsDateOf, IsMomentOf, first_contradiction, number_in}
+use Rattle.cal_format.specs.Values.{Holds, IsDateOf, IsMomentOf, first_contradiction, number_in, weekday_in, year_in}
 use Rattle.cal_format.specs.declared.error.ParseError.{ParseError}
 use Rattle.cal_format.specs.declared.error.ParseError.TheVariants.{UnexpectedByte, UnexpectedEnd, OutOfRange, Contradiction}
 use Rattle.cal_format.specs.declared.item.Component.{Component}
+use Rattle.cal_format.specs.declared.item.Component.TheVariants.{Day, IsoWeek, IsoYear, Month, Ordinal}
 use Rattle.cal_format.specs.declared.item.Item.{Item}
 use Rattle.cal_format.specs.declared.moment.Moment.{Moment}
 use Rattle.cal_format.proofs.Determined.{own-moment}
@@ -117,9 +118,9 @@ one_date : (items : List Item) (at : Component → ℕ) (v m : Moment) → IsMom
 one_date items at v m own other h k = by (shows_calendar_date items) (shows_ordinal_date items) (shows_iso_week_date items) refl refl refl
   where
     by : (a b c : Bool) → shows_calendar_date items ≡ a → shows_ordinal_date items ≡ b → shows_iso_week_date items ≡ c → v.date ≡ m.date
-    by true b c e f g = calendar_date-one _ _ _ v.date m.date own.date other.date (h.calendar e) (k.calendar e)
-    by false true c e f g = ordinal_date-one _ _ v.date m.date own.date other.date (h.ordinal (is_not _ e) f) (k.ordinal (is_not _ e) f)
-    by false false true e f g = iso_week_date-one _ _ _ v.date m.date own.date other.date (h.week (is_not _ e) (is_not _ f) g) (k.week (is_not _ e) (is_not _ f) g)
+    by true b c e f g = calendar_date-one (pos (year_in items at)) (at Month) (at Day) v.date m.date own.date other.date (h.calendar e) (k.calendar e)
+    by false true c e f g = ordinal_date-one (pos (year_in items at)) (at Ordinal) v.date m.date own.date other.date (h.ordinal (is_not _ e) f) (k.ordinal (is_not _ e) f)
+    by false false true e f g = iso_week_date-one (pos (at IsoYear)) (at IsoWeek) (weekday_in items at) v.date m.date own.date other.date (h.week (is_not _ e) (is_not _ f) g) (k.week (is_not _ e) (is_not _ f) g)
     by false false false e f g = h.none (none_of _ _ _ e f g) ∙ sym (k.none (none_of _ _ _ e f g))
 
 one_moment : (items : List Item) (at : Component → ℕ) (v m : Moment) → IsMomentOf items at v → IsMomentOf items at m → v ≡ m
