@@ -222,7 +222,7 @@ fn unmet_by(options: &Options<'_>, request: &Request<'_>) -> Option<Requirement>
         Some(Requirement::WorkdaysOnly)
     } else if options.policy.is_some() && options.zone.is_none() && !request.moves_at() {
         Some(Requirement::ZoneOption)
-    } else if options.language.is_some() && !uses_language(options, request) {
+    } else if options.has_language && !uses_language(options, request) {
         Some(Requirement::LanguageFormat)
     } else {
         None

@@ -777,7 +777,7 @@ fn unmet_by_formats(options: &Options<'_>) -> Option<Requirement> {
     let has_pivot = options.pivot.is_some();
     let is_yearless = any_yearless(readers, has_pivot);
     let is_short = readers.iter().any(|reader| lacks_century(reader));
-    if options.language.is_some() && options.lenient {
+    if options.has_language && options.lenient {
         Some(Requirement::LanguageOrLenient)
     } else if has_pivot && !options.lenient {
         Some(Requirement::Lenient)
