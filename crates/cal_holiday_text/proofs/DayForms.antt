@@ -9,8 +9,9 @@ use Rattle.cal_holidays.specs.declared.holiday_day.HolidayDay.{HolidayDay}
 use Rattle.cal_holidays.specs.declared.holiday_day.HolidayDay.TheVariants.{Fixed, Nth, Last, OnOrAfter, Easter, JulianEaster}
 use Rattle.cal_recurrence.specs.Words.{bytes_after, count_of, first_bytes, is_alike, month_of, parts_at, short_count_of, weekday_of}
 use Rattle.cal_holiday_text.specs.Days.{AreDaysFromEaster, IsDated, IsDayOf, IsDayText, IsMonthDay, IsName, fixed, nth, last, on_or_after, easter, julian_easter, dated}
-use Rattle.cal_holiday_text.specs.Rules.{AreYears, IsMove, IsYearBefore, IsYearOr}
-use Rattle.cal_holiday_text.proofs.Words.{initial, initial-append, name-length, name-initial, weekday-letters, number-digits, count-digits, digits-initial, AreDigits, split_at, cut-digits}
+use Rattle.cal_holiday_text.specs.Days.{AreDays}
+use Rattle.cal_holiday_text.specs.Rules.{AreYears, AreYearsAround, IsMove, IsYearBefore, IsYearOr}
+use Rattle.cal_holiday_text.proofs.Words.{initial, initial-append, name-length, name-initial, weekday-letters, number-digits, count-digits, digits-initial, AreDigits, split_at, joined, cut-digits, cut-joined, cut-same, cut-never}
 
 -- ---- days of a month
 last-size : (text name letters : List ℕ) (w : Weekday) → IsName (codes "last") name → weekday_of letters ≡ Some w → text ≡ name ++ letters → length text ≡ 6
@@ -77,9 +78,25 @@ last-only y m text day (last w name letters is weekday e) long sign = (w, name, 
 last-only y m text day (on_or_after d w letters mark rest weekday is number e) long sign =
     absurd (false≢true (sym sign ∙ ap (λ t. is_alike t (codes ">=")) (after-cut y m d w text letters mark rest weekday is number e).1 ∙ is))
 
+pub nth-made : (y : ℤ) (m : Month) (text : List ℕ) (n : ℕ) (w : Weekday) → short_count_of 1 5 (first_bytes 1 text) ≡ Some n → weekday_of (bytes_after 1 text) ≡ Some w → IsDayOf y m text (Nth m w n)
+nth-made y m text n w e f = nth n w (first_bytes 1 text) (bytes_after 1 text) e f (joined 1 text)
+
+pub after-made : (y : ℤ) (m : Month) (text : List ℕ) (d : ℕ) (w : Weekday) → is_alike (first_bytes 2 (bytes_after 2 text)) (codes ">=") ≡ true → weekday_of (first_bytes 2 text) ≡ Some w
+    → IsMonthDay y m d (bytes_after 2 (bytes_after 2 text)) → IsDayOf y m text (OnOrAfter m d w)
+after-made y m text d w e f is =
+    on_or_after d w (first_bytes 2 text) (first_bytes 2 (bytes_after 2 text)) (bytes_after 2 (bytes_after 2 text)) f e is
+    (joined 2 text ∙ ap (λ t. first_bytes 2 text ++ t) (joined 2 (bytes_after 2 text)))
+
 -- ---- the whole word
-pub same_tail : (text a b x y : List ℕ) → length a ≡ length b → text ≡ a ++ x → text ≡ b ++ y → x ≡ y
+same_tail : (text a b x y : List ℕ) → length a ≡ length b → text ≡ a ++ x → text ≡ b ++ y → x ≡ y
 same_tail text a b x y same e f = sym (split_at (length b) text a x same e).1 ∙ (split_at (length b) text b y refl f).1
+
+pub last-same : (y : ℤ) (m : Month) (text front rest : List ℕ) (day : HolidayDay) → IsDayOf y m text day → 3 < length text → is_alike (first_bytes 2 (bytes_after 2 text)) (codes ">=") ≡ false → IsName (codes "last") front → text ≡ front ++ rest
+    → (w : Weekday) × (weekday_of rest ≡ Some w) × (day ≡ Last m w)
+last-same y m text front rest day h long sign named e =
+    let (w, name, letters, is, weekday, f, d) = last-only y m text day h long sign in
+    let same = same_tail text front name rest letters (name-length front (codes "last") named ∙ sym (name-length name (codes "last") is)) e f in
+    (w, ap weekday_of same ∙ weekday, d)
 
 name-start : (text name front rest : List ℕ) → is_alike front name ≡ true → 0 < length name → text ≡ front ++ rest → initial text ≡ initial name
 name-start text name front rest is some e =
@@ -122,7 +139,30 @@ dated-only y text day (easter n name days is are e) none never = absurd (none na
 dated-only y text day (julian_easter n name days is are e) none never = absurd (never name days is e)
 dated-only y text day (dated d is) none never = is
 
+pub dated-made : (y : ℤ) (text month rest : List ℕ) (m : Month) (day : HolidayDay) → parts_at 45 text ≡ month ∷ parts_at 45 rest → month_of month ≡ Some m → IsDayOf y m rest day → IsDated y text day
+dated-made y text month rest m day parts is of = record { m = m; month = month; rest = rest; is_month = is; is_day = of; text_is = cut-joined 45 text month rest parts }
+
+pub dated-same : (y : ℤ) (text month rest : List ℕ) (day : HolidayDay) → parts_at 45 text ≡ month ∷ parts_at 45 rest → IsDated y text day → (m : Month) × (month_of month ≡ Some m) × IsDayOf y m rest day
+dated-same y text month rest day parts is =
+    let same = cut-same 45 text month rest is.month is.rest (omega arith) (month-digits is.month is.m is.is_month).1.all is.text_is parts in
+    (is.m, ap month_of same.0 ∙ is.is_month, subst (λ t. IsDayOf y is.m t day) (sym same.1) is.is_day)
+
+pub dated-never : (y : ℤ) (text front : List ℕ) (day : HolidayDay) → parts_at 45 text ≡ front ∷ [] → IsDated y text day → ⊥
+dated-never y text front day parts is = cut-never 45 text front is.month is.rest (omega arith) (month-digits is.month is.m is.is_month).1.all is.text_is parts
+
 -- ---- years and moves
+pub year-same : (text year rest others : List ℕ) (y : ℤ) → parts_at 45 text ≡ year ∷ parts_at 45 rest → IsYearBefore text y others
+    → (n : ℕ) × (2 < length year) × (count_of 999999 year ≡ Some n) × (y ≡ pos n) × (rest ≡ others)
+year-same text year rest others y parts is =
+    let same = cut-same 45 text year rest is.year others (omega arith) (count-digits 999999 is.year is.n is.is_number).all is.text_is parts in
+    (is.n, subst (λ t. 2 < length t) (sym same.0) is.long, ap (count_of 999999) same.0 ∙ is.is_number, is.is, same.1)
+
+pub year-never : (text front others : List ℕ) (y : ℤ) → parts_at 45 text ≡ front ∷ [] → IsYearBefore text y others → ⊥
+year-never text front others y parts is = cut-never 45 text front is.year others (omega arith) (count-digits 999999 is.year is.n is.is_number).all is.text_is parts
+
+pub year-made : (text year rest : List ℕ) (n : ℕ) → parts_at 45 text ≡ year ∷ parts_at 45 rest → 2 < length year → count_of 999999 year ≡ Some n → IsYearBefore text (pos n) rest
+year-made text year rest n parts long is = record { n = n; year = year; long = long; is_number = is; is = refl; text_is = cut-joined 45 text year rest parts }
+
 pub no_year : (y z : ℤ) (text rest : List ℕ) (day : HolidayDay) → IsDayText z text day → IsYearBefore text y rest → ⊥
 no_year y z text rest day (easter n name days is are e) year =
     omega (arith, name-start text (codes "easter") name days is (omega arith) e, (digits-start text year.year _ (count-digits _ year.year year.n year.is_number) year.text_is).1)
@@ -147,3 +187,22 @@ pub no_move : (text : List ℕ) (years : ℤ × ℤ) (move : Weekday × ℤ) →
 no_move text years move are is =
     let letters = weekday-letters is.letters move.0 is.is_weekday in
     omega (arith, years-start _ _ text are.first are.rest are.are.is_first are.text_is, ap initial is.text_is, initial-append is.letters is.days (omega (arith, letters.0)), letters.1)
+
+pub years-same : (text first rest : List ℕ) (years : ℤ × ℤ) → parts_at 46 text ≡ first ∷ parts_at 46 rest → AreYears text years → AreYearsAround first rest years
+years-same text first rest years parts is =
+    let same = cut-same 46 text first rest is.first is.rest (omega arith) (year-digits _ _ is.first is.are.is_first) is.text_is parts in
+    subst (λ t. AreYearsAround t rest years) (sym same.0) (subst (λ t. AreYearsAround is.first t years) (sym same.1) is.are)
+
+pub years-never : (text front : List ℕ) (years : ℤ × ℤ) → parts_at 46 text ≡ front ∷ [] → AreYears text years → ⊥
+years-never text front years parts is = cut-never 46 text front is.first is.rest (omega arith) (year-digits _ _ is.first is.are.is_first) is.text_is parts
+
+pub years-made : (text first rest : List ℕ) (years : ℤ × ℤ) → parts_at 46 text ≡ first ∷ parts_at 46 rest → AreYearsAround first rest years → AreYears text years
+years-made text first rest years parts are = record { first = first; rest = rest; are = are; text_is = cut-joined 46 text first rest parts }
+
+pub move-same : (text : List ℕ) (move : Weekday × ℤ) → IsMove text move → (2 ≤ length text) × (weekday_of (first_bytes 2 text) ≡ Some move.0) × AreDays move.1 (bytes_after 2 text)
+move-same text move is =
+    let cut = split_at 2 text is.letters is.days (weekday-letters is.letters move.0 is.is_weekday).0 is.text_is in
+    (omega (arith, cut.2), ap weekday_of cut.0 ∙ is.is_weekday, subst (λ t. AreDays move.1 t) (sym cut.1) is.are_days)
+
+pub move-made : (text : List ℕ) (w : Weekday) (n : ℤ) → weekday_of (first_bytes 2 text) ≡ Some w → AreDays n (bytes_after 2 text) → IsMove text (w, n)
+move-made text w n e are = record { letters = first_bytes 2 text; days = bytes_after 2 text; is_weekday = e; are_days = are; text_is = joined 2 text }

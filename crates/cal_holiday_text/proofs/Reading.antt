@@ -1,11 +1,15 @@
 -- Items that lead from one value to another, read one after another.
 use denote.Ref.{Bor}
-use Rattle.std.proofs.Common.{◌≡◌, ◌⊎◌, ℕ, ◌+◌, ◌≤◌, List, [], ◌∷◌, ◌++◌, length, take, Option, Some, None, refl, sym, ap, ◌∙◌, subst, inl, inr, arith, append_assoc}
-use Rattle.std.proofs.lemmas.List.{append-nil}
+use Rattle.std.proofs.Common.{◌≡◌, ◌⊎◌, ℕ, ◌+◌, ◌<◌, ◌≤◌, List, [], ◌∷◌, ◌++◌, length, take, Option, Some, None, Result, Ok, Err, MatchOption, refl, sym, ap, ◌∙◌, subst, inl, inr, arith, append_assoc, length-append}
+use Rattle.std.specs.Option.{option_to_list}
+use Rattle.std.proofs.lemmas.List.{append-nil, length-take-le}
 use Rattle.cal_holidays.specs.declared.holiday_rule.HolidayRule.{HolidayRule}
 use Rattle.cal_recurrence.specs.SetText.{size_of}
 use Rattle.cal_recurrence.specs.Words.{parts_at, parts_left}
-use Rattle.cal_holiday_text.specs.Rules.{IsNext, IsNextLine, Leads, StopsAt}
+use Rattle.cal_holiday_text.specs.Rules.{AreRules, IsInvalidAt, IsNext, IsNextLine, IsRuleError, Leads, Says, StopsAt, words_of}
+use Rattle.cal_holiday_text.specs.declared.error.ParseHolidayRuleError.{ParseHolidayRuleError}
+use Rattle.cal_holiday_text.specs.declared.error.ParseHolidayRuleErrorKind.{ParseHolidayRuleErrorKind}
+use Rattle.cal_holiday_text.specs.declared.error.ParseHolidayRuleErrorKind.TheVariants.{Invalid, TooMany}
 
 pub record IsRead {S X : Type 0} (Step : S → X → S → Type 0) (start : S) (xs left : List X) (end : S) : Type 0 where
   pub before : List X
@@ -97,3 +101,99 @@ pub record AreReading (text : List ℕ) (room at count : ℕ) (rules : List Holi
   pub position : at ≡ size_of read.before
   pub size : at + bytes_left left ≡ length text + 1
   pub few : count ≤ length rules
+
+bytes-rest : (left word : List ℕ) (rest : Option (Bor (List ℕ))) → MatchOption rest (length word ≡ length left) (λ r. length word + 1 + length r.now ≡ length left) → length word + bytes_left rest ≡ length left
+bytes-rest left word None e = omega arith
+bytes-rest left word (Some r) e = omega arith
+
+-- ---- the words of a line
+pub words-init : (start : ℕ) (text : Bor (List ℕ)) → IsReading start text.now start None (Some text)
+unfolding read_none
+words-init start text = record { read = read_none IsNext None (parts_at 32 text.now); position = omega arith; size = omega arith }
+
+pub words-more : (start : ℕ) (text : List ℕ) (at : ℕ) (rule next : Option HolidayRule) (left : Bor (List ℕ)) (word : List ℕ) (rest : Option (Bor (List ℕ)))
+    → IsReading start text at rule (Some left) → parts_at 32 left.now ≡ word ∷ parts_left 32 rest → MatchOption rest (length word ≡ length left.now) (λ r. length word + 1 + length r.now ≡ length left.now)
+    → IsNext rule word next → ((t : Option HolidayRule) → IsNext rule word t → Some next ≡ Some t) → IsReading start text (at + (length word + 1)) next rest
+unfolding read_more
+words-more start text at rule next left word rest r parts sizes step one = record {
+  read = read_more IsNext None rule next (parts_at 32 text) (parts_at 32 left.now) (parts_left 32 rest) word r.read parts step (λ t h. let e = one t h in cc);
+  position = omega (arith, r.position, size-push r.read.before word);
+  size = omega (arith, r.size, bytes-rest left.now word rest sizes);
+}
+
+pub words-stop : (start : ℕ) (text : List ℕ) (at : ℕ) (rule : Option HolidayRule) (left : Bor (List ℕ)) (word : List ℕ) (rest : Option (Bor (List ℕ)))
+    → IsReading start text at rule (Some left) → parts_at 32 left.now ≡ word ∷ parts_left 32 rest → ((t : Option HolidayRule) → IsNext rule word t → None ≡ Some t) → IsInvalidAt start (parts_at 32 text) at
+words-stop start text at rule left word rest r parts one = record {
+  before = r.read.before;
+  word = word;
+  stops = read_stop IsNext None rule (parts_at 32 text) (parts_at 32 left.now) (parts_left 32 rest) word r.read parts (λ t h. let e = one t h in absurd cc);
+  position = r.position;
+}
+
+pub words-never : (start : ℕ) (words : List (List ℕ)) (at : ℕ) (rule : Option HolidayRule) → IsInvalidAt start words at → Says words rule → ⊥
+words-never start words at rule is says = stop_never IsNext None rule words is.before is.word is.stops says
+
+-- ---- the lines of a text
+pub lines-init : (text : Bor (List ℕ)) (room : ℕ) (rules : List HolidayRule) → AreReading text.now room 0 0 rules (Some text)
+unfolding read_none
+lines-init text room rules = record { read = read_none (IsNextLine room) [] (parts_at 10 text.now); position = refl; size = omega arith; few = omega arith }
+
+pub lines-more : (text : List ℕ) (at count more : ℕ) (rules old : List HolidayRule) (rule : Option HolidayRule) (left : Bor (List ℕ)) (line : List ℕ) (rest : Option (Bor (List ℕ)))
+    → AreReading text (length old) at count old (Some left) → parts_at 10 left.now ≡ line ∷ parts_left 10 rest → MatchOption rest (length line ≡ length left.now) (λ r. length line + 1 + length r.now ≡ length left.now)
+    → Says (words_of line) rule → ((t : Option HolidayRule) → Says (words_of line) t → ◌≡◌ {A = Result (Option HolidayRule) ℕ} (Ok rule) (Ok t))
+    → length rules ≡ length old → more ≤ length rules → take more rules ≡ take count old ++ option_to_list rule → AreReading text (length old) (at + (length line + 1)) more rules rest
+unfolding read_more
+lines-more text at count more rules old rule left line rest r parts sizes says one same few are = record {
+  read = read_more (IsNextLine (length old)) [] (take count old) (take more rules) (parts_at 10 text) (parts_at 10 left.now) (parts_left 10 rest) line r.read parts
+      (record { rule = rule; says = says; more_are = are; within = omega (arith, length-take-le more rules few) })
+      (λ t h. let e : h.rule ≡ rule = let f = one h.rule h.says in cc in h.more_are ∙ ap (λ l. take count old ++ option_to_list l) e ∙ sym are);
+  position = omega (arith, r.position, size-push r.read.before line);
+  size = omega (arith, r.size, bytes-rest left.now line rest sizes);
+  few = few;
+}
+
+pub lines-invalid : (text : List ℕ) (room at count p : ℕ) (rules : List HolidayRule) (left : Bor (List ℕ)) (line : List ℕ) (rest : Option (Bor (List ℕ)))
+    → AreReading text room at count rules (Some left) → parts_at 10 left.now ≡ line ∷ parts_left 10 rest → IsInvalidAt at (words_of line) p → IsRuleError room text (record { position = p; reason = Invalid })
+lines-invalid text room at count p rules left line rest r parts is = record {
+  before = r.read.before;
+  line = line;
+  stops = read_stop (IsNextLine room) [] (take count rules) (parts_at 10 text) (parts_at 10 left.now) (parts_left 10 rest) line r.read parts (λ t h. words-never at (words_of line) p h.rule is h.says);
+  reason = inl (refl, subst (λ n. IsInvalidAt n (words_of line) p) r.position is);
+}
+
+pub lines-full : (text : List ℕ) (room at count : ℕ) (rules : List HolidayRule) (rule : Option HolidayRule) (left : Bor (List ℕ)) (line : List ℕ) (rest : Option (Bor (List ℕ)))
+    → AreReading text room at count rules (Some left) → parts_at 10 left.now ≡ line ∷ parts_left 10 rest → Says (words_of line) rule → ((t : Option HolidayRule) → Says (words_of line) t → ◌≡◌ {A = Result (Option HolidayRule) ℕ} (Ok rule) (Ok t))
+    → room < count + length (option_to_list rule) → IsRuleError room text (record { position = at; reason = TooMany })
+lines-full text room at count rules rule left line rest r parts says one full = record {
+  before = r.read.before;
+  line = line;
+  stops = read_stop (IsNextLine room) [] (take count rules) (parts_at 10 text) (parts_at 10 left.now) (parts_left 10 rest) line r.read parts (λ t h.
+      let e : h.rule ≡ rule = let f = one h.rule h.says in cc in
+      omega (arith, h.within, ap length h.more_are, length-append (take count rules) (option_to_list h.rule), length-take-le count rules r.few, ap (λ l. length (option_to_list l)) e));
+  reason = inr (refl, r.position, (rule, says));
+}
+
+pub lines-never : (room : ℕ) (text : List ℕ) (e : ParseHolidayRuleError) (rules : List HolidayRule) → IsRuleError room text e → AreRules room text rules → ⊥
+lines-never room text e rules is are = stop_never (IsNextLine room) [] rules (parts_at 10 text) is.before is.line is.stops are
+
+-- ---- one error
+Reason : List (List ℕ) → List ℕ → ParseHolidayRuleError → Type 0
+Reason before line e = ((e.reason ≡ Invalid) × IsInvalidAt (size_of before) (words_of line) e.position) ⊎ ((e.reason ≡ TooMany) × (e.position ≡ size_of before) × ((rule : Option HolidayRule) × Says (words_of line) rule))
+
+one_reason : (before : List (List ℕ)) (line : List ℕ) (e f : ParseHolidayRuleError) → Reason before line e → Reason before line f → (e.position ≡ f.position) × (e.reason ≡ f.reason)
+unfolding Reason
+one_reason before line e f (inl a) (inl b) =
+    let same = stop_one IsNext None (words_of line) a.1.before b.1.before a.1.word b.1.word a.1.stops b.1.stops in
+    (a.1.position ∙ ap (λ l. size_of before + size_of l) same.0 ∙ sym b.1.position, a.0 ∙ sym b.0)
+one_reason before line e f (inl a) (inr b) = absurd (words-never _ _ _ b.2.0 a.1 b.2.1)
+one_reason before line e f (inr a) (inl b) = absurd (words-never _ _ _ a.2.0 b.1 a.2.1)
+one_reason before line e f (inr a) (inr b) = (a.1 ∙ sym b.1, a.0 ∙ sym b.0)
+
+same_error : (e f : ParseHolidayRuleError) → (e.position ≡ f.position) × (e.reason ≡ f.reason) → e ≡ f
+same_error e f same = λ i. record { position = same.0 i; reason = same.1 i }
+
+pub one_error : (room : ℕ) (text : List ℕ) (e f : ParseHolidayRuleError) → IsRuleError room text e → IsRuleError room text f → e ≡ f
+unfolding Reason
+one_error room text e f a b =
+    let same = stop_one (IsNextLine room) [] (parts_at 10 text) a.before b.before a.line b.line a.stops b.stops in
+    same_error e f (one_reason a.before a.line e f a.reason (subst (λ l. Reason l a.line f) (sym same.0) (subst (λ l. Reason b.before l f) (sym same.1) b.reason)))

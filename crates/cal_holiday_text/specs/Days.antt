@@ -18,7 +18,7 @@ IsNumber size most n text = short_count_of size most text ≡ Some n
 abbrev pub IsWeekday : Weekday → List ℕ → Type 0
 IsWeekday w text = weekday_of text ≡ Some w
 
--- 1 to 99 days after a plus sign (43), or days before after a minus sign (45).
+-- From 1 to 99 days, or from -1 to -99, with a plus sign (43) or a minus sign (45).
 abbrev pub AreDays : ℤ → List ℕ → Type 0
 AreDays (pos n) text = (digits : List ℕ) × IsNumber 2 99 n digits × (text ≡ 43 ∷ digits)
 AreDays (negsuc n) text = (digits : List ℕ) × IsNumber 2 99 (suc n) digits × (text ≡ 45 ∷ digits)

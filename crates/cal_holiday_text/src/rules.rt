@@ -13,7 +13,6 @@ use cal_time::limits::{MAX_YEAR, MIN_YEAR};
 use cal_time::{Cycle, Weekday};
 
 /// Returns the rule of a day in the years from one through another, with no moves.
-#[tactic(auto, using(crate::proofs::Reading::stop_one, crate::proofs::DayForms::no_move))]
 fn rule_within(first_year: i32, last_year: i32, day: HolidayDay) -> HolidayRule
     ensures { result ≡ rule_within first_year last_year day }
 {
