@@ -43,7 +43,7 @@ fn main(rt: HostRuntime) -> ExitCode {
 }
 
 /// Parses the arguments.
-// A function of its own leaves the stack to the run, and the other way round.
+// Not inlined, as the two below: parsing and the run use the same part of the stack.
 #[inline(never)]
 fn parse_words<'a, D: DataFiles<'a>>(
     words: Option<&'a [u8]>,
