@@ -90,8 +90,14 @@ static PyObject *time_repr(PyObject *self)
 static void put_offset(char *bytes, size_t size, fots_offset offset)
 {
     fots_offset_hms_result own = fots_offset_as_hms(offset);
-    snprintf(bytes, size, own.seconds ? "%d, %d, %d" : own.minutes ? "%d, %d" :
-        own.hours ? "%d" : "", (int)own.hours, (int)own.minutes, (int)own.seconds);
+    bytes[0] = '\0';
+    if (own.seconds) {
+        snprintf(bytes, size, "%d, %d, %d", (int)own.hours, (int)own.minutes, (int)own.seconds);
+    } else if (own.minutes) {
+        snprintf(bytes, size, "%d, %d", (int)own.hours, (int)own.minutes);
+    } else if (own.hours) {
+        snprintf(bytes, size, "%d", (int)own.hours);
+    }
 }
 
 static PyObject *offset_repr(PyObject *self)
