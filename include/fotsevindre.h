@@ -626,7 +626,7 @@ typedef struct fots_event_result {
     size_t next; /* the position after END:VEVENT and its line break */
 } fots_event_result;
 
-/* The number of values that were written. For an invalid line of an event, line is a
+/* The number of values or bytes that were written. For an invalid line of an event, line is a
  * fots_event_line, or 0 for FOTS_MISSING_START. position is the start of the line, or the length of
  * the lines for FOTS_MISSING_START, or else SIZE_MAX, as it is for FOTS_WRONG_KIND. */
 typedef struct fots_event_set_result {
@@ -1262,6 +1262,13 @@ enum fots_event_kind {
  * "RDATE:20240704,20240705". */
 fots_length_result fots_unfold(const char *text, size_t text_length, char *bytes, size_t bytes_length);
 
+/* Writes a text with its lines folded (RFC 5545): CR LF and a space come before the 76th byte of a
+ * line, without its end, and then before each 74 bytes. A line of 75 bytes stays. Returns the number
+ * of bytes, or FOTS_BUFFER_TOO_SHORT with the length text_length + text_length / 24, which is always
+ * enough, if the buffer has fewer bytes. A fold can be within a character of several bytes. The
+ * buffer must not overlap the text. A line of 76 bytes becomes one of 75 and one of 2. */
+fots_length_result fots_fold(const char *text, size_t text_length, char *bytes, size_t bytes_length);
+
 /* Finds the first VEVENT of a calendar file (RFC 5545) whose lines are unfolded. Call it again with
  * the rest of the text from `next` on, until it returns FOTS_RESULT_OUT_OF_RANGE. The other errors
  * are FOTS_UNCLOSED_EVENT and FOTS_OTHER_END. Lines end with LF or CR LF, and names match in any
@@ -1287,6 +1294,13 @@ fots_length_result fots_event_zone(const char *lines, size_t lines_length, char 
  * FOTS_OTHER_ZONE, or the status of the first wrong part of an RRULE; or else FOTS_MISSING_START.
  * For "DTSTART:20240101T090000Z" it is 2024-01-01 9:00, FOTS_EVENT_UTC. */
 fots_event_start_result fots_event_start(const char *lines, size_t lines_length);
+
+/* Writes the lines of the set of an event in one form: DTSTART, RRULE, RDATE and EXDATE, each with
+ * CR LF and without folds. Returns the number of bytes, the first invalid line, or
+ * FOTS_BUFFER_TOO_SHORT; then the bytes can be anything. The written lines have the same set. The
+ * buffer must not overlap the lines. "dtstart:20240101" becomes "DTSTART;VALUE=DATE:20240101\r\n
+ * RRULE:FREQ=DAILY;COUNT=1\r\n". */
+fots_event_set_result fots_event_recurrence_lines(const char *lines, size_t lines_length, char *bytes, size_t bytes_length);
 
 /* Writes the days of an event of dates from a date on, in order, and returns their number:
  * `days_length`, or fewer if no more follow. COUNT counts from the start, without the other dates.

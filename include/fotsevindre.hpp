@@ -2091,6 +2091,21 @@ public:
     // Returns the start. A date is its midnight.
     [[nodiscard]] PlainDateTime start() const { return plain(detail::event_or_throw(fots_event_start(lines_.data(), lines_.size())).start); }
 
+    // Returns the lines of the set in one form: DTSTART, RRULE, RDATE and EXDATE, each with CR LF. They
+    // have the same set. "dtstart:20240101" becomes "DTSTART;VALUE=DATE:20240101" and
+    // "RRULE:FREQ=DAILY;COUNT=1".
+    [[nodiscard]] std::string recurrence_lines() const
+    {
+        std::string bytes(lines_.size() + 512, '\0');
+        fots_event_set_result found = fots_event_recurrence_lines(lines_.data(), lines_.size(), &bytes[0], bytes.size());
+        while (found.status == FOTS_BUFFER_TOO_SHORT) {
+            bytes.resize(2 * bytes.size());
+            found = fots_event_recurrence_lines(lines_.data(), lines_.size(), &bytes[0], bytes.size());
+        }
+        bytes.resize(detail::event_or_throw(found).length);
+        return bytes;
+    }
+
     // Return the first days, readings or moments of the set: `count` of them, or fewer if no more
     // follow. Allocate room for `count`. Days are for EventKind::date, readings for the other kinds,
     // and moments for EventKind::local. Readings of EventKind::utc are in UTC.
@@ -2140,6 +2155,15 @@ private:
 
     std::string lines_;
 };
+
+// Returns a text with its lines folded (RFC 5545): CR LF and a space come before the 76th byte of a
+// line, and then before each 74 bytes. A fold can be within a character of several bytes.
+[[nodiscard]] inline std::string fold(std::string_view text)
+{
+    std::string folded(text.size() + text.size() / 24, '\0');
+    folded.resize(detail::value_or_throw(fots_fold(detail::data(text), text.size(), &folded[0], folded.size())).length);
+    return folded;
+}
 
 // Returns the events of a calendar file (RFC 5545), or throws an error with its position in the file
 // without folds: FOTS_UNCLOSED_EVENT or FOTS_OTHER_END.

@@ -134,6 +134,54 @@ static void folds(void)
     }
 }
 
+/* Lines that are folded before their 76th byte, and then before each 74 bytes (RFC 5545, 3.1). */
+static void folded_lines(void)
+{
+#define TEN "0123456789"
+#define SEVENTY TEN TEN TEN TEN TEN TEN TEN
+    static const struct {
+        const char *text, *folded;
+    } rows[] = {
+        {"", ""},
+        {"DESCRIPTION:This is a long description that exists on a long line.", "DESCRIPTION:This is a long description that exists on a long line."},
+        {SEVENTY "01234", SEVENTY "01234"},
+        {SEVENTY "01234\r", SEVENTY "01234\r"},
+        {SEVENTY "01234\nA\n", SEVENTY "01234\nA\n"},
+        {SEVENTY "01234\r\nA\r\n", SEVENTY "01234\r\nA\r\n"},
+        {SEVENTY "012345", SEVENTY "01234\r\n 5"},
+        {SEVENTY "012345\r\n", SEVENTY "01234\r\n 5\r\n"},
+        {SEVENTY "01234\rA", SEVENTY "01234\r\n \rA"},
+        {SEVENTY "01234" SEVENTY "0123", SEVENTY "01234\r\n " SEVENTY "0123"},
+        {SEVENTY "01234" SEVENTY "01234\n", SEVENTY "01234\r\n " SEVENTY "0123\r\n 4\n"},
+        {"A\n" SEVENTY "012345\n" SEVENTY TEN, "A\n" SEVENTY "01234\r\n 5\n" SEVENTY "01234\r\n 56789"},
+        /* a fold within a character of two bytes */
+        {SEVENTY "0123\303\251", SEVENTY "0123\303\r\n \251"},
+    };
+    for (int row = 0; row < COUNT(rows); row++) {
+        char bytes[300], unfolded[300];
+        const char *const text = rows[row].text;
+        const size_t length = strlen(text), room = length + length / 24;
+        memset(bytes, 'x', sizeof bytes);
+        fots_length_result written = fots_fold(text, length, bytes, room);
+        check(written.status == FOTS_OK && same_text(bytes, written.length, rows[row].folded) && bytes[written.length] == 'x', text, row, (long long)written.length);
+        written = fots_unfold(bytes, written.length, unfolded, sizeof unfolded);
+        check(written.status == FOTS_OK && same_text(unfolded, written.length, text), "a text without its folds", row, written.status);
+        if (length > 0) {
+            memset(bytes, 'x', sizeof bytes);
+            written = fots_fold(text, length, bytes, room - 1);
+            check(written.status == FOTS_BUFFER_TOO_SHORT && written.length == room && bytes[0] == 'x', "a short buffer for folds", row, written.status);
+        }
+    }
+    /* Each length up to 1000: each line but the last has 75 bytes. */
+    for (size_t length = 0; length <= 1000; length++) {
+        static char text[1000], bytes[1100];
+        memset(text, 'A', sizeof text);
+        const size_t folds = length > 75 ? (length - 75 + 73) / 74 : 0;
+        const fots_length_result written = fots_fold(text, length, bytes, length + length / 24);
+        check(written.status == FOTS_OK && written.length == length + 3 * folds, "a long line", (long long)length, (long long)written.length);
+    }
+}
+
 /* Errors of the lines that begin and end events. */
 static void wrong_files(void)
 {
@@ -200,6 +248,7 @@ static void wrong_lines(void)
             fots_event_days(lines, length, date_at(INT32_MAX), &date, 1),
             fots_event_readings(lines, length, moment, &moment, 1),
             fots_event_moments(lines, length, &zone, moment, &moment, 1),
+            fots_event_recurrence_lines(lines, length, bytes, 0),
         };
         for (int call = 0; call < COUNT(found); call++) {
             check(found[call].status == rows[row].status && found[call].line == rows[row].line && found[call].position == rows[row].position && found[call].length == 0, lines, call, found[call].status);
@@ -207,6 +256,42 @@ static void wrong_lines(void)
         check(fots_event_zone(lines, length, bytes, sizeof bytes).status == rows[row].status && bytes[0] == 'x', lines, row, 0);
     }
     check(date.julian_day == 7 && same_moment(moment, at(date_at(7), 0, 0)), "arrays after errors", 0, 0);
+}
+
+/* The lines of sets in one form, which have the same set. */
+static void recurrence_lines(void)
+{
+    static const struct {
+        const char *lines, *written;
+    } rows[] = {
+        {"dtstart:20240101", "DTSTART;VALUE=DATE:20240101\r\nRRULE:FREQ=DAILY;COUNT=1\r\n"},
+        /* RFC 5545, 3.8.5.3 and 3.8.5.2 */
+        {"DTSTART;TZID=America/New_York:19970902T090000\r\nRRULE:FREQ=DAILY;COUNT=10\r\n", "DTSTART;TZID=America/New_York:19970902T090000\r\nRRULE:FREQ=DAILY;COUNT=10\r\n"},
+        {"DTSTART;VALUE=DATE:19970101\nRDATE;VALUE=DATE:19970101,19970120,19970217\nRDATE:19970421\n",
+            "DTSTART;VALUE=DATE:19970101\r\nRRULE:FREQ=DAILY;COUNT=1\r\nRDATE;VALUE=DATE:19970101,19970120,19970217,19970421\r\n"},
+        {"EXDATE:19960402T010000Z,19960403T010000Z\nSUMMARY:Last\nBEGIN:VALARM\nDTSTART:1\nEND:VALARM\nrrule:byday=-01su;freq=yearly;until=19961231\ndtstart:19960401T010000Z",
+            "DTSTART:19960401T010000Z\r\nRRULE:FREQ=YEARLY;UNTIL=19961231;BYDAY=-1SU\r\nEXDATE:19960402T010000Z,19960403T010000Z\r\n"},
+        /* values of several kinds */
+        {"DTSTART;TZID=\"Europe/Berlin\":20240101T090000\nRDATE:20240102,20240103T090000Z,20240104T090000Z,20240105T090000\n",
+            "DTSTART;TZID=Europe/Berlin:20240101T090000\r\nRRULE:FREQ=DAILY;COUNT=1\r\nRDATE;VALUE=DATE:20240102\r\nRDATE:20240103T090000Z,20240104T090000Z\r\n"
+            "RDATE;TZID=Europe/Berlin:20240105T090000\r\n"},
+    };
+    for (int row = 0; row < COUNT(rows); row++) {
+        char bytes[400], again[400];
+        const char *const lines = rows[row].lines;
+        const size_t length = strlen(rows[row].written);
+        memset(bytes, 'x', sizeof bytes);
+        fots_event_set_result written = fots_event_recurrence_lines(lines, strlen(lines), bytes, length);
+        check(written.status == FOTS_OK && written.line == 0 && written.position == SIZE_MAX && same_text(bytes, written.length, rows[row].written) && bytes[length] == 'x', lines, row, (long long)written.length);
+        written = fots_event_recurrence_lines(bytes, length, again, sizeof again);
+        check(written.status == FOTS_OK && same_text(again, written.length, rows[row].written), "the same lines again", row, written.status);
+        written = fots_event_recurrence_lines(lines, strlen(lines), again, length - 1);
+        check(written.status == FOTS_BUFFER_TOO_SHORT && written.line == 0 && written.length == 0 && written.position == SIZE_MAX, "a short buffer for lines", row, written.status);
+        fots_date days[2][6];
+        const fots_event_set_result found[2] = {fots_event_days(lines, strlen(lines), date_at(0), days[0], 6), fots_event_days(bytes, length, date_at(0), days[1], 6)};
+        check(found[0].status == found[1].status && found[0].length == found[1].length && memcmp(days[0], days[1], found[0].length * sizeof(fots_date)) == 0, "the same days", row, found[1].status);
+        check(fots_event_start(bytes, length).kind == fots_event_start(lines, strlen(lines)).kind, "the same kind", row, 0);
+    }
 }
 
 /* Lists of 62 values, the limit, and of 63. */
@@ -371,9 +456,11 @@ static void times_of_events(void)
 int main(void)
 {
     folds();
+    folded_lines();
     files();
     wrong_files();
     wrong_lines();
+    recurrence_lines();
     long_lists();
     wrong_kinds();
     wrong_arguments();

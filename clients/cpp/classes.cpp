@@ -735,6 +735,19 @@ void events_of_files()
     const Zone berlin = Zone::from_posix("CET-1CEST,M3.5.0,M10.5.0/3");
     const std::vector<OffsetDateTime> moments = found[1].moments_after(berlin, at("2024-03-30", 0, 0).assume_utc(), 9);
     check(moments.size() == 2 && moments[0].local() == found[1].start() && moments[1].local() == at("2024-03-31", 3, 30) && moments[1].offset() == UtcOffset::from_hms(2, 0, 0), "moments of an event");
+    check(found[0].recurrence_lines() == "DTSTART;VALUE=DATE:19971102\r\nRRULE:FREQ=YEARLY\r\nEXDATE;VALUE=DATE:19981102\r\n", "lines of a set");
+    check(found[2].recurrence_lines() == "DTSTART:19960401T010000Z\r\nRRULE:FREQ=DAILY;COUNT=1\r\n" && Event(found[1].recurrence_lines()).recurrence_lines() == found[1].recurrence_lines(), "the same lines again");
+    // Longer than the lines that say it.
+    std::string many = "DTSTART:20240101T090000\nRDATE:20240102", zone(200, 'z');
+    for (int index = 0; index < 30; index++) {
+        many += index % 2 == 0 ? ",20240103T090000" : ",20240104";
+    }
+    const Event mixed("DTSTART;TZID=" + zone + many.substr(7));
+    check(mixed.recurrence_lines().size() > 4000 && Event(mixed.recurrence_lines()).recurrence_lines() == mixed.recurrence_lines(), "lines that grow");
+    throws([] { return Event("UID:1\nDTSTART:x").recurrence_lines(); }, FOTS_INVALID_VALUE, "invalid value in DTSTART at position 6", "lines of no set");
+    const std::string line(75, 'x');
+    check(fold(line) == line && fold(line + "\r\n") == line + "\r\n" && fold("").empty() && fold(std::string_view()).empty(), "short lines");
+    check(fold(line + line + "\n") == line + "\r\n " + std::string(74, 'x') + "\r\n x\n", "folded lines");
     check(events("").empty() && events(std::string_view()).empty() && found[0].days_from(Date::max(), 0).empty(), "no events and no days");
     throws([&] { return found[0].readings_from(at("1997-11-02", 0, 0), 1); }, FOTS_WRONG_KIND, "wrong kind of value in DTSTART", "readings of dates");
     throws([&] { return found[2].days_from(Date::min(), 1); }, FOTS_WRONG_KIND, "wrong kind of value in DTSTART", "days of times");

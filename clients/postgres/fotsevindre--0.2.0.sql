@@ -116,6 +116,10 @@ CREATE FUNCTION cal_series_local(start timestamp, stop timestamp, step interval)
     AS 'MODULE_PATHNAME' LANGUAGE C IMMUTABLE STRICT PARALLEL SAFE ROWS 100;
 CREATE FUNCTION cal_recurrence_text(text) RETURNS text
     AS 'MODULE_PATHNAME' LANGUAGE C IMMUTABLE STRICT PARALLEL SAFE;
+CREATE FUNCTION cal_recurrence_lines(text) RETURNS text
+    AS 'MODULE_PATHNAME' LANGUAGE C IMMUTABLE STRICT PARALLEL SAFE;
+CREATE FUNCTION cal_fold(text) RETURNS bytea
+    AS 'MODULE_PATHNAME' LANGUAGE C IMMUTABLE STRICT PARALLEL SAFE;
 CREATE FUNCTION cal_days(rule text, start date, within daterange DEFAULT '(,)', rdates date[] DEFAULT '{}', exdates date[] DEFAULT '{}') RETURNS SETOF date
     AS 'MODULE_PATHNAME' LANGUAGE C IMMUTABLE STRICT PARALLEL SAFE ROWS 100;
 CREATE FUNCTION cal_times_local(rule text, start timestamp, within tsrange DEFAULT '(,)', rdates timestamp[] DEFAULT '{}', exdates timestamp[] DEFAULT '{}') RETURNS SETOF timestamp

@@ -191,3 +191,33 @@ Datum cal_recurrence_text(PG_FUNCTION_ARGS)
     }
     PG_RETURN_TEXT_P(text_of(found.bytes, found.length));
 }
+
+PG_FUNCTION_INFO_V1(cal_recurrence_lines);
+Datum cal_recurrence_lines(PG_FUNCTION_ARGS)
+{
+    const text *const lines = PG_GETARG_TEXT_PP(0);
+    const size_t length = VARSIZE_ANY_EXHDR(lines);
+    size_t room = length + 512;
+    char *bytes = palloc(room);
+    fots_event_set_result found = fots_event_recurrence_lines(VARDATA_ANY(lines), length, bytes, room);
+    while (found.status == FOTS_BUFFER_TOO_SHORT) {
+        room *= 2;
+        bytes = repalloc(bytes, room);
+        found = fots_event_recurrence_lines(VARDATA_ANY(lines), length, bytes, room);
+    }
+    if (found.status != FOTS_OK) {
+        fail_text("recurrence", lines, found.status, found.position);
+    }
+    PG_RETURN_TEXT_P(text_of(bytes, found.length));
+}
+
+/* A fold can be within a character, so the result is bytes. */
+PG_FUNCTION_INFO_V1(cal_fold);
+Datum cal_fold(PG_FUNCTION_ARGS)
+{
+    const text *const value = PG_GETARG_TEXT_PP(0);
+    const size_t length = VARSIZE_ANY_EXHDR(value), room = length + length / 24;
+    bytea *const folded = palloc(VARHDRSZ + room);
+    SET_VARSIZE(folded, VARHDRSZ + fots_fold(VARDATA_ANY(value), length, VARDATA(folded), room).length);
+    PG_RETURN_BYTEA_P(folded);
+}

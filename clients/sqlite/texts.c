@@ -139,6 +139,42 @@ static void recurrence_text(const sql_function *function, sqlite3_context *conte
     }
 }
 
+static void recurrence_lines(const sql_function *function, sqlite3_context *context, int count, sqlite3_value **values)
+{
+    const sql_text text = sql_text_of(values[0]);
+    size_t room = text.length + 512;
+    fots_event_set_result found;
+    (void)function, (void)count;
+    do {
+        char *const bytes = sqlite3_malloc64(room);
+        if (!bytes) {
+            sqlite3_result_error_nomem(context);
+            return;
+        }
+        found = fots_event_recurrence_lines(text.bytes, text.length, bytes, room);
+        if (found.status == FOTS_OK) {
+            set_text(context, bytes, found.length);
+        }
+        sqlite3_free(bytes);
+        room *= 2;
+    } while (found.status == FOTS_BUFFER_TOO_SHORT);
+    sql_check_text(context, "recurrence", text, found.status, found.position);
+}
+
+/* A fold can be within a character, so the result is a blob. */
+static void fold(const sql_function *function, sqlite3_context *context, int count, sqlite3_value **values)
+{
+    const sql_text text = sql_text_of(values[0]);
+    const size_t room = text.length + text.length / 24;
+    char *const bytes = sqlite3_malloc64(room + 1);
+    (void)function, (void)count;
+    if (bytes) {
+        sqlite3_result_blob64(context, bytes, fots_fold(text.bytes, text.length, bytes, room).length, sqlite3_free);
+    } else {
+        sqlite3_result_error_nomem(context);
+    }
+}
+
 const sql_call sql_text_calls[] = {
     {"cal_valid", 1, 2, valid, NULL, NULL, NULL, SQL_DATE, 0},
     {"cal_valid_local", 1, 2, valid, NULL, NULL, NULL, SQL_LOCAL, 0},
@@ -153,5 +189,7 @@ const sql_call sql_text_calls[] = {
     {"cal_format_local", 2, 2, format, NULL, NULL, NULL, SQL_LOCAL, 0},
     {"cal_format_zoned", 3, 3, format_zoned, NULL, NULL, NULL, SQL_INSTANT, 1},
     {"cal_recurrence_text", 1, 1, recurrence_text, NULL, NULL, NULL, 0, 0},
+    {"cal_recurrence_lines", 1, 1, recurrence_lines, NULL, NULL, NULL, 0, 0},
+    {"cal_fold", 1, 1, fold, NULL, NULL, NULL, 0, 0},
     SQL_NO_CALL,
 };

@@ -59,6 +59,24 @@ static PyObject *core_event_lines(PyObject *self, PyObject *file)
     return list;
 }
 
+/* Returns a text with its lines folded. */
+static PyObject *core_fold(PyObject *Py_UNUSED(self), PyObject *file)
+{
+    Lines text;
+    if (!to_lines(file, &text)) {
+        return NULL;
+    }
+    size_t room = text.length + text.length / 24;
+    char *folded = PyMem_Malloc(room + 1);
+    if (!folded) {
+        return PyErr_NoMemory();
+    }
+    size_t length = fots_fold(text.start, text.length, folded, room).length;
+    PyObject *bytes = PyBytes_FromStringAndSize(folded, (Py_ssize_t)length);
+    PyMem_Free(folded);
+    return bytes;
+}
+
 /* Returns a part of the lines of an event as bytes, or None without it: the value of the line with
  * a name, or without a name the zone. */
 static PyObject *core_event_value(PyObject *self, PyObject *const *given, Py_ssize_t count)
@@ -105,6 +123,31 @@ static PyObject *core_event_start(PyObject *self, PyObject *given)
     }
     return found.kind == FOTS_EVENT_DATE ? new_date(state, found.start.date) :
         new_moment(found.kind == FOTS_EVENT_LOCAL ? state->plain : state->moment, found.start);
+}
+
+/* Returns the lines of the set of an event in one form, as bytes. */
+static PyObject *core_event_recurrence_lines(PyObject *self, PyObject *given)
+{
+    const State *state = state_of_module(self);
+    Lines lines;
+    if (!to_lines(given, &lines)) {
+        return NULL;
+    }
+    for (size_t room = lines.length + 512;; room *= 2) {
+        char *bytes = PyMem_Malloc(room);
+        if (!bytes) {
+            return PyErr_NoMemory();
+        }
+        fots_event_set_result found = fots_event_recurrence_lines(lines.start, lines.length,
+            bytes, room);
+        PyObject *text = found.status ? NULL :
+            PyBytes_FromStringAndSize(bytes, (Py_ssize_t)found.length);
+        PyMem_Free(bytes);
+        if (found.status != FOTS_BUFFER_TOO_SHORT) {
+            return found.status ? raise_line(state, found.status, found.position, found.line) :
+                text;
+        }
+    }
 }
 
 /* Returns the first days of an event from a day on. */

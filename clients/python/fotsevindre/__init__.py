@@ -35,7 +35,7 @@ from . import calls as _calls, members as _members
 from ._core import IsoCalendarDate
 from .arrow import ArrowColumn
 from .calls import *
-from .events import Event, Recurrences
+from .events import Event, Recurrences, fold
 from .formats import Format
 from .schedules import DateRange, Days, Recurrence, RecurrenceCursor, Rule, Steps, Workdays
 from .strings import dates_to_strings, instants_to_strings, strings_to_dates, strings_to_instants
@@ -46,7 +46,7 @@ __version__ = "0.2.0"
 __all__ = [
     "ArrowColumn", "ComponentRange", "ContradictionError", "DateRange", "Days", "Event", "EventError", "Format", "FormatError",
     "IsoCalendarDate", "Local", "Month", "ParseError", "ParseRuleError", "ParseRuleErrorKind", "Recurrence", "RecurrenceCursor", "Recurrences", "Rule", "Steps", "Weekday",
-    "Workdays", "YearFraction", "Zone", "ZonedDateTime", "ZoneError", "dates_to_strings",
+    "Workdays", "YearFraction", "Zone", "ZonedDateTime", "ZoneError", "dates_to_strings", "fold",
     "instants_to_strings", "status_error", "strings_to_dates", "strings_to_instants",
 ]
 # A checker of types reads literals only; a test compares these names with calls.__all__.

@@ -21,6 +21,23 @@ def _event_pages(page: Callable[..., list[Any]], follow: Callable[[Any], Any], f
     return _pages(lambda low, length, cursor: (page(low, length), cursor), follow, first)
 
 
+def _bytes(text: str | bytes) -> bytes:
+    """Returns the bytes of a file, or raises `TypeError`."""
+    file: bytes = text.encode(errors="surrogatepass") if isinstance(text, str) else check(text, bytes)
+    return file
+
+
+def fold(text: str | bytes) -> bytes:
+    """Returns a text with its lines folded, as calendar files have them: CR LF and a space come
+    before the 76th byte of a line, and then before each 74 bytes. A fold can be within a character
+    of several bytes, so the result is bytes.
+
+    >>> [len(line) for line in fold("SUMMARY:" + "x" * 150).split(b"\\r\\n")]
+    [75, 75, 10]
+    """
+    return _core.fold(_bytes(text))
+
+
 @dataclasses.dataclass(frozen=True, slots=True)
 class Event:
     """An event of a calendar file (RFC 5545): the lines of a `VEVENT` without folds.
@@ -65,6 +82,16 @@ class Event:
         _core.event_start(self.lines)
         value = _core.event_value(self.lines, None)
         return None if value is None else value.decode(errors="replace")
+
+    @property
+    def recurrence_lines(self) -> bytes:
+        """The lines of the set in one form: `DTSTART`, `RRULE`, `RDATE` and `EXDATE`, each with CR
+        LF. They have the same set.
+
+        >>> Event(b"UID:1\\ndtstart:20240131\\nrrule:count=2;freq=daily\\n").recurrence_lines
+        b'DTSTART;VALUE=DATE:20240131\\r\\nRRULE:FREQ=DAILY;COUNT=2\\r\\n'
+        """
+        return _core.event_recurrence_lines(self.lines)
 
     def days(self, since: Date | None = None) -> Iterator[Date]:
         """Iterates over the days of an event of dates, in order, without those before `since`."""
@@ -115,5 +142,4 @@ class Recurrences(tuple[Event, ...]):
         >>> [list(event.days()) for event in Recurrences.from_ics(text)]
         [[Date(2024, 2, 29)]]
         """
-        file = text.encode(errors="surrogatepass") if isinstance(text, str) else check(text, bytes)
-        return cls(map(Event, _core.event_lines(file)))
+        return cls(map(Event, _core.event_lines(_bytes(text))))

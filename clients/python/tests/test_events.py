@@ -11,7 +11,7 @@ try:
 except ImportError:
     rrule = tz = None
 
-from fotsevindre import Date, Event, EventError, PlainDateTime, Recurrences, SignedDuration, Zone
+from fotsevindre import Date, Event, EventError, PlainDateTime, Recurrences, SignedDuration, Zone, fold
 
 # Parts of the examples of RFC 5545, 3.6.1 and 4, and an alarm.
 FILE = """BEGIN:VCALENDAR
@@ -81,6 +81,42 @@ class Events(unittest.TestCase):
         (event,) = Recurrences.from_ics("BEGIN:VEVENT\nSUMMARY:\udc80\nEND:VEVENT")
         self.assertEqual(event.summary, "\ufffd" * 3)
 
+    def test_folds(self):
+        # RFC 5545, 3.1: a line has at most 75 bytes without its end.
+        line = "0123456789" * 7
+        for text, folded in (
+            ("", b""), (line + "01234", b"%b01234"), (line + "01234\r\nA\n", b"%b01234\r\nA\n"), (line + "012345", b"%b01234\r\n 5"), (line + "0123é", b"%b0123\xc3\r\n \xa9"),
+            (line + "01234" + line + "01234\n", b"%b01234\r\n " + line.encode() + b"0123\r\n 4\n"),
+            ("DESCRIPTION:This is a long description that exists on a long line.", b"DESCRIPTION:This is a long description that exists on a long line."),
+        ):
+            wanted = folded.replace(b"%b", line.encode())
+            self.assertEqual((fold(text), fold(text.encode())), (wanted, wanted))
+        self.assertEqual(fold("x" * 100000), b"\r\n ".join([b"x" * 75, *[b"x" * 74] * 1350, b"x" * 25]))
+        text = FILE.replace("Blissful", "Blissful é" * 30)
+        self.assertEqual(Recurrences.from_ics(fold(text)), Recurrences.from_ics(text))
+        self.assertLessEqual(max(map(len, fold(text).splitlines())), 75)
+        for wrong in (None, 1, bytearray(b"x")):
+            self.assertRaises(TypeError, fold, wrong)
+
+    def test_recurrence_lines(self):
+        for lines, wanted in (
+            (b"dtstart:20240101", b"DTSTART;VALUE=DATE:20240101\r\nRRULE:FREQ=DAILY;COUNT=1\r\n"),
+            (b"EXDATE:19960402T010000Z,19960403T010000Z\nSUMMARY:x\nrrule:byday=-1su;freq=yearly\nDTSTART:19960401T010000Z",
+                b"DTSTART:19960401T010000Z\r\nRRULE:FREQ=YEARLY;BYDAY=-1SU\r\nEXDATE:19960402T010000Z,19960403T010000Z\r\n"),
+            (b"DTSTART;TZID=Europe/Berlin:20240101T090000\nRDATE:20240102,20240103T090000\n",
+                b"DTSTART;TZID=Europe/Berlin:20240101T090000\r\nRRULE:FREQ=DAILY;COUNT=1\r\nRDATE;VALUE=DATE:20240102\r\nRDATE;TZID=Europe/Berlin:20240103T090000\r\n"),
+        ):
+            self.assertEqual(Event(lines).recurrence_lines, wanted)
+            self.assertEqual(Event(wanted).recurrence_lines, wanted)
+        for event in Recurrences.from_ics(FILE):
+            again = Event(event.recurrence_lines)
+            self.assertEqual((again.start, again.zone, again.recurrence_lines), (event.start, event.zone, event.recurrence_lines))
+        # Longer than the lines that say it.
+        zone = "z" * 200
+        values = ",".join(["20240102", "20240103T090000"] * 31)
+        wanted = f"DTSTART;TZID={zone}:20240101T090000\r\nRRULE:FREQ=DAILY;COUNT=1\r\n" + f"RDATE;VALUE=DATE:20240102\r\nRDATE;TZID={zone}:20240103T090000\r\n" * 31
+        self.assertEqual(Event(f"DTSTART;TZID={zone}:20240101T090000\nRDATE:{values}".encode()).recurrence_lines, wanted.encode())
+
     def test_errors(self):
         for text, position, reason in (
             ("BEGIN:VEVENT\nEND:VEVENT\nX:1\nBEGIN:VEVENT\nUID:1\n", 28, "unclosed event"),
@@ -100,7 +136,7 @@ class Events(unittest.TestCase):
             ("DTSTART;TZID=A:20240101T090000\nEXDATE;TZID=B:20240102T090000\n", "other zone in EXDATE at 31"),
         ):
             event = Event(lines.encode())
-            calls = (lambda: event.start, lambda: event.zone, lambda: next(event.days()), lambda: next(event.readings()), lambda: next(event.moments(Zone.from_posix("UTC0"))))
+            calls = (lambda: event.start, lambda: event.zone, lambda: event.recurrence_lines, lambda: next(event.days()), lambda: next(event.readings()), lambda: next(event.moments(Zone.from_posix("UTC0"))))
             for call in calls:
                 with self.assertRaises(EventError) as raised:
                     call()

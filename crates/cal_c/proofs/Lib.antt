@@ -44,4 +44,5 @@ pub mod LaterMoments
 pub mod WrittenMoments
 pub mod Calendars
 pub mod EventSets
+pub mod CalendarLines
 pub mod OneEvent

@@ -1,6 +1,6 @@
 -- Events of calendar files: where they are, and the days, readings and moments of their sets.
 use denote.Ref.{Bor}
-use Rattle.std.specs.Prelude.{◌≡◌, ℕ, ◌-◌, ℤ, pos, List, length, Option, Some, None, Result, Ok, Err}
+use Rattle.std.specs.Prelude.{◌≡◌, ℕ, ◌+◌, ◌-◌, ◌/◌, ◌<◌, ◌≤◌, ℤ, pos, List, ◌++◌, drop, length, Option, Some, None, Result, Ok, Err}
 use Rattle.cal_time.specs.Date.{julian_day_at}
 use Rattle.cal_datetime.specs.DateTime.{date_at, time_at}
 use Rattle.cal_datetime.specs.OffsetDateTime.{instant}
@@ -37,7 +37,13 @@ use Rattle.cal_c.specs.declared.results.Moment.{Moment}
 use Rattle.cal_c.specs.declared.schedule.events.finding.EventResult.{EventResult}
 use Rattle.cal_c.specs.declared.schedule.events.results.EventSetResult.{EventSetResult}
 use Rattle.cal_c.specs.declared.schedule.events.start.EventStartResult.{EventStartResult}
-use Rattle.cal_c.specs.declared.status.TheConstants.{OK, RESULT_OUT_OF_RANGE, UNKNOWN_PART, DUPLICATE_PART, TOO_MANY_VALUES, INVALID_DATE, INVALID_MOMENT, INVALID_VALUE, INVALID_ZONE, MISSING_START, UNCLOSED_EVENT, OTHER_END, OTHER_ZONE, WRONG_KIND}
+use Rattle.cal_c.specs.declared.status.TheConstants.{OK, BUFFER_TOO_SHORT, RESULT_OUT_OF_RANGE, UNKNOWN_PART, DUPLICATE_PART, TOO_MANY_VALUES, INVALID_DATE, INVALID_MOMENT, INVALID_VALUE, INVALID_ZONE, MISSING_START, UNCLOSED_EVENT, OTHER_END, OTHER_ZONE, WRONG_KIND}
+
+-- ---- folds
+-- Bytes that are always enough for a text of n bytes with its folds. Each fold has 3 bytes, and at
+-- least 74 bytes of the text are between two.
+abbrev pub room_to_fold : ℕ → ℕ
+room_to_fold n = n + n / 24
 
 -- ---- the events of a text
 -- The status of an event without the right end.
@@ -104,6 +110,14 @@ event_line_error its = record { status = WRONG_KIND; line = line_number its; len
 -- The result with the first wrong line.
 abbrev pub event_parse_error : ParseSetError → EventSetResult
 event_parse_error error = record { status = set_error_status error.reason; line = error_line error.reason; length = 0; position = error.position }
+
+-- ---- the text of a set
+-- The text is at the front of the buffer, and the bytes after it stay as they are, or the buffer is
+-- too short; then its bytes can be anything.
+pub record IsSetTextWritten (text old new : List ℕ) (r : EventSetResult) : Type 0 where
+  pub buffer_too_short : length old < length text → r ≡ event_error BUFFER_TOO_SHORT
+  pub length_is : length text ≤ length old → r ≡ event_ok (length text)
+  pub text_is : length text ≤ length old → new ≡ text ++ drop (length text) old
 
 -- ---- the start
 -- The result with a day and a time of day at the offset 0. A date has the kind 1, a local time 2, and a

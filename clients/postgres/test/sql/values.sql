@@ -119,6 +119,18 @@ SELECT * FROM (VALUES
     (15, pg_temp.error_of($$SELECT cal_days('FREQ=DAILY', '2024-01-01', rdates => '{2024-01-01}')$$), '22023 the recurrence has no end')
 ) AS row(id, result, expected) WHERE result IS DISTINCT FROM expected;
 
+-- lines of calendar files: sets in one form, and folds, which are bytes
+SELECT * FROM (VALUES
+    (1, cal_recurrence_lines('dtstart:20240101'), E'DTSTART;VALUE=DATE:20240101\r\nRRULE:FREQ=DAILY;COUNT=1\r\n'),
+    (2, cal_recurrence_lines(E'EXDATE:19960402T010000Z,19960403T010000Z\nSUMMARY:x\nrrule:byday=-1su;freq=yearly\nDTSTART:19960401T010000Z'),
+        E'DTSTART:19960401T010000Z\r\nRRULE:FREQ=YEARLY;BYDAY=-1SU\r\nEXDATE:19960402T010000Z,19960403T010000Z\r\n'),
+    (3, length(cal_recurrence_lines('DTSTART;TZID=' || repeat('z', 300) || E':20240101T090000\nRDATE:20240102,20240103T090000' || repeat(',20240102,20240103T090000', 3)))::text, '1781'),
+    (4, pg_temp.error_of($$SELECT cal_recurrence_lines('UID:1')$$), '22023 invalid recurrence: "UID:1" / missing start at character 6'),
+    (5, pg_temp.error_of($$SELECT cal_recurrence_lines('DTSTART:20230229')$$), '22023 invalid recurrence: "DTSTART:20230229" / invalid value at character 1'),
+    (6, cal_recurrence_lines(NULL), NULL), (7, cal_fold(NULL)::text, NULL), (8, cal_fold('')::text, '\x'),
+    (9, encode(cal_fold(repeat('x', 75)), 'escape'), repeat('x', 75)), (10, encode(cal_fold(repeat('x', 76)), 'escape'), repeat('x', 75) || E'\r\n x'),
+    (11, encode(cal_fold(repeat('x', 74) || 'é'), 'hex'), encode(convert_to(repeat('x', 74), 'UTF8'), 'hex') || 'c30d0a20a9')
+) AS row(id, result, expected) WHERE result IS DISTINCT FROM expected;
 -- zones: no name leaves the folder
 SELECT left(name, 32) AS name, regexp_replace(pg_temp.error_of(format('SELECT cal_local(now(), %L)', name)), 'time zone ".*"', '..') AS error
 FROM unnest(ARRAY['../etc/passwd', '/etc/passwd', 'Europe/../../../../etc/passwd', 'Europe//Berlin', 'Europe', 'Europe/', 'tzdata.zi', './UTC', '',

@@ -9,6 +9,7 @@ mod folding;
 mod laws;
 mod moments;
 mod readings;
+mod recurrence_lines;
 mod results;
 mod start;
 mod values;
