@@ -56,6 +56,7 @@ typedef struct fots_offset {
 typedef struct fots_duration {
     int64_t seconds;
     int32_t nanoseconds;
+    uint32_t unused; /* 0, so that equal durations have equal bytes */
 } fots_duration;
 
 /* How much later something is by the calendar and by the clock: no part is negative if another one
@@ -141,6 +142,7 @@ typedef struct fots_workdays {
  * arrays. */
 typedef struct fots_workdays_view {
     uint32_t weekmask;
+    uint32_t unused; /* 0 */
     const fots_date *holidays; /* in ascending order */
     size_t holidays_length;
     const uint32_t *marked_before; /* as above */
@@ -428,6 +430,7 @@ typedef struct fots_number_result {
 
 typedef struct fots_int64_result {
     int32_t status;
+    uint32_t unused; /* 0 */
     int64_t number; /* or INT64_MIN, which is also a valid number of whole seconds */
 } fots_int64_result;
 
@@ -453,6 +456,7 @@ typedef struct fots_iso_week_date_result {
 
 typedef struct fots_time_result {
     int32_t status;
+    uint32_t unused; /* 0 */
     fots_time time; /* or FOTS_NO_TIME */
 } fots_time_result;
 
@@ -484,6 +488,7 @@ typedef struct fots_offset_hms_result {
 
 typedef struct fots_duration_result {
     int32_t status;
+    uint32_t unused; /* 0 */
     fots_duration duration; /* or {INT64_MIN, FOTS_NO_VALUE} */
 } fots_duration_result;
 
@@ -495,6 +500,7 @@ typedef struct fots_pair_result {
 
 typedef struct fots_moment_result {
     int32_t status;
+    uint32_t unused; /* 0 */
     fots_moment moment; /* or {{FOTS_NO_VALUE}, {FOTS_NO_VALUE}, FOTS_NO_TIME} */
 } fots_moment_result;
 
@@ -518,11 +524,13 @@ typedef struct fots_parse_moment_result {
     fots_date date; /* or {FOTS_NO_VALUE} */
     fots_time time; /* or FOTS_NO_TIME */
     fots_offset offset; /* or {FOTS_NO_VALUE} */
+    uint32_t unused; /* 0 */
     size_t position; /* as above */
 } fots_parse_moment_result;
 
 typedef struct fots_parse_time_result {
     int32_t status;
+    uint32_t unused; /* 0 */
     fots_time time; /* or FOTS_NO_TIME */
     size_t position; /* as above */
 } fots_parse_time_result;
@@ -535,12 +543,14 @@ typedef struct fots_parse_offset_result {
 
 typedef struct fots_parse_duration_result {
     int32_t status;
+    uint32_t unused; /* 0 */
     fots_duration duration; /* or {INT64_MIN, FOTS_NO_VALUE} */
     size_t position; /* as above */
 } fots_parse_duration_result;
 
 typedef struct fots_parse_period_result {
     int32_t status;
+    uint32_t unused; /* 0 */
     fots_period period; /* or the minimum for each part */
     size_t position; /* as above */
 } fots_parse_period_result;
@@ -560,6 +570,7 @@ typedef struct fots_format_result {
 
 typedef struct fots_length_result {
     int32_t status;
+    uint32_t unused; /* 0 */
     size_t length; /* in bytes; also for FOTS_BUFFER_TOO_SHORT, else 0 after an error */
 } fots_length_result;
 
@@ -575,12 +586,14 @@ typedef struct fots_period_result {
 /* A period with its duration. After an error each part is the minimum of its type. */
 typedef struct fots_exact_period_result {
     int32_t status;
+    uint32_t unused; /* 0 */
     fots_period period;
 } fots_exact_period_result;
 
 /* The number of dates that were written. */
 typedef struct fots_days_result {
     int32_t status;
+    uint32_t unused; /* 0 */
     size_t length; /* or 0 */
 } fots_days_result;
 
@@ -606,6 +619,7 @@ typedef struct fots_parse_recurrence_result {
     uint32_t part; /* this and position as above */
     size_t position;
     fots_recurrence recurrence; /* or zeros, with {FOTS_NO_VALUE} for until */
+    uint32_t unused; /* 0 */
 } fots_parse_recurrence_result;
 
 typedef struct fots_recurrence_text_result {
@@ -614,6 +628,7 @@ typedef struct fots_recurrence_text_result {
     size_t position;
     uint32_t length; /* in bytes, or 0 */
     char bytes[4064]; /* ASCII, then zero bytes */
+    uint32_t unused; /* 0 */
 } fots_recurrence_text_result;
 
 /* Where the lines of an event are in a text. For FOTS_UNCLOSED_EVENT, position is the start of its
@@ -621,6 +636,7 @@ typedef struct fots_recurrence_text_result {
  * and length 0, and position is SIZE_MAX for FOTS_RESULT_OUT_OF_RANGE. */
 typedef struct fots_event_result {
     int32_t status;
+    uint32_t unused; /* 0 */
     size_t position; /* of the first line after BEGIN:VEVENT */
     size_t length; /* of the lines before END:VEVENT, in bytes */
     size_t next; /* the position after END:VEVENT and its line break */
@@ -642,6 +658,7 @@ typedef struct fots_event_start_result {
     size_t position;
     fots_moment start; /* at the offset 0, or an invalid moment */
     uint32_t kind; /* a fots_event_kind, or 0 */
+    uint32_t unused; /* 0 */
 } fots_event_start_result;
 
 typedef struct fots_workdays_result {
@@ -1048,6 +1065,7 @@ typedef struct fots_rule {
     uint32_t frequency;
     uint32_t interval; /* every n-th period, counted from the start; 0 counts as 1 */
     uint32_t week_start; /* the first weekday of a week */
+    uint32_t unused; /* 0 */
     const uint8_t *months;
     size_t months_length;
     const int8_t *weeks; /* of the year; a week belongs to the year that has its fourth day */
@@ -1928,12 +1946,14 @@ typedef struct fots_zone {
 
 typedef struct fots_zone_parts_result {
     int32_t status;
+    uint32_t unused; /* 0 */
     size_t position; /* of the first wrong byte, from 0, or the length; or SIZE_MAX */
     fots_zone_parts parts; /* or some that every call rejects as FOTS_INVALID_ZONE */
 } fots_zone_parts_result;
 
 typedef struct fots_zone_result {
     int32_t status;
+    uint32_t unused; /* 0 */
     size_t position; /* as above */
     fots_zone zone; /* or one that every call rejects as FOTS_INVALID_ZONE */
 } fots_zone_result;
@@ -1942,6 +1962,7 @@ typedef struct fots_local_type_result {
     int32_t status;
     fots_offset offset; /* or {FOTS_NO_VALUE} */
     uint32_t is_daylight; /* 1 for daylight saving time, else 0 */
+    uint32_t unused; /* 0 */
     size_t abbreviation; /* its position in the bytes of the zone, or SIZE_MAX */
     size_t abbreviation_length; /* or 0 */
 } fots_local_type_result;
@@ -1975,7 +1996,7 @@ fots_zone_parts_result fots_zone_posix_parts(const char *text, size_t length);
 static inline fots_zone_result fots_zone_from_file(const uint8_t *bytes, size_t length)
 {
     const fots_zone_parts_result found = fots_zone_file_parts(bytes, length);
-    const fots_zone_result made = {found.status, found.position, {bytes, length, found.parts}};
+    const fots_zone_result made = {found.status, 0, found.position, {bytes, length, found.parts}};
     return made;
 }
 
@@ -1987,7 +2008,7 @@ static inline fots_zone_result fots_zone_from_posix(const char *text, size_t len
 #else
     const uint8_t *bytes = (const uint8_t *)text;
 #endif
-    const fots_zone_result made = {found.status, found.position, {bytes, length, found.parts}};
+    const fots_zone_result made = {found.status, 0, found.position, {bytes, length, found.parts}};
     return made;
 }
 

@@ -397,7 +397,7 @@ inline Duration unix_time_now()
     const auto now = std::chrono::system_clock::now().time_since_epoch();
     const auto seconds = std::chrono::duration_cast<std::chrono::seconds>(now);
     const auto rest = std::chrono::duration_cast<std::chrono::nanoseconds>(now - seconds);
-    return Duration(fots_duration{seconds.count(), static_cast<std::int32_t>(rest.count())});
+    return Duration(fots_duration{seconds.count(), static_cast<std::int32_t>(rest.count()), 0});
 }
 
 } // namespace detail
@@ -991,7 +991,7 @@ class Workdays {
     // Calls a function with a view of the working days.
     template <class Function, class... Arguments> auto with_view(Function function, Arguments... arguments) const
     {
-        const fots_workdays_view view = {weekmask_, holidays_.data(), holidays_.size(), marked_before_.data(), marked_before_.size()};
+        const fots_workdays_view view = {weekmask_, 0, holidays_.data(), holidays_.size(), marked_before_.data(), marked_before_.size()};
         return function(&view, arguments...);
     }
 

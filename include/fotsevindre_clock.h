@@ -13,7 +13,7 @@
 static inline fots_duration fots_unix_time_now(void)
 {
     struct timespec now;
-    fots_duration time = {INT64_MIN, 0};
+    fots_duration time = {INT64_MIN, 0, 0};
     if (clock_gettime(CLOCK_REALTIME, &now) == 0) {
         /* From 0 to 999999999, so below 0 the second of its whole part is one later. */
         time.seconds = now.tv_sec < 0 && now.tv_nsec > 0 ? now.tv_sec + 1 : now.tv_sec;

@@ -148,7 +148,7 @@ static void workdays_columns(size_t n)
         fots_number_result single = fots_workdays_between(&few.workdays, date_at(dates[k]), date_at(others[k])), found[k] == single.number);
     fots_workdays_view_count(FOTS_MONDAY_TO_FRIDAY, holidays, MANY, marked_before, MANY + 1);
     for (size_t turn = 0; turn < 3; turn++) {
-        const fots_workdays_view view = {turn == 1 ? 128 : FOTS_MONDAY_TO_FRIDAY, holidays, MANY, marked_before, turn == 2 ? MANY : MANY + 1};
+        const fots_workdays_view view = {turn == 1 ? 128 : FOTS_MONDAY_TO_FRIDAY, 0, holidays, MANY, marked_before, turn == 2 ? MANY : MANY + 1};
         COLUMN(fots_workdays_view_add_dates(&view, dates, n, numbers, n, found, n, statuses, n),
             fots_date_result single = fots_workdays_view_add(&view, date_at(dates[k]), numbers[k]), DATES_FOUND);
         check(turn == 0 || statuses[0] == (turn == 1 ? FOTS_INVALID_WEEKMASK : FOTS_INVALID_HOLIDAYS), "a wrong view", statuses[0], 0);
@@ -176,7 +176,7 @@ static void columns_in_place(void)
     const fots_date holiday = date_at(2460370);
     const uint32_t marked_before[] = {0, 1};
     const fots_workdays_result made = fots_workdays_new(FOTS_MONDAY_TO_FRIDAY, &holiday, 1);
-    const fots_workdays_view view = {FOTS_MONDAY_TO_FRIDAY, &holiday, 1, marked_before, 2};
+    const fots_workdays_view view = {FOTS_MONDAY_TO_FRIDAY, 0, &holiday, 1, marked_before, 2};
     IN_PLACE(years, fots_dates_from_calendar_dates(column, n, months, n, month_days, n, found, n, statuses, n));
     IN_PLACE(years, fots_dates_from_ordinal_dates(column, n, ordinals, n, found, n, statuses, n));
     IN_PLACE(years, fots_dates_from_iso_week_dates(column, n, weeks, n, weekdays, n, found, n, statuses, n));
@@ -226,7 +226,7 @@ static void different_lengths(void)
     check(fots_workdays_between_dates(&made.workdays, dates, 1, others, 0, found, 1, statuses, 1) == FOTS_LENGTH_MISMATCH, "no other date", 0, 0);
     const fots_date holiday = date_at(2460370);
     const uint32_t marked_before = 0;
-    const fots_workdays_view wrong = {128, &holiday, 0, &marked_before, 0};
+    const fots_workdays_view wrong = {128, 0, &holiday, 0, &marked_before, 0};
     check(fots_workdays_view_add_dates(&wrong, dates, 1, numbers, 2, found, 1, statuses, 1) == FOTS_LENGTH_MISMATCH, "a number too many", 0, 0);
     check(fots_workdays_view_between_dates(&wrong, dates, 1, others, 1, found, 0, statuses, 1) == FOTS_LENGTH_MISMATCH, "no number", 0, 0);
     check(fots_dates_from_julian_days(days, 0, found, 0, statuses, 0) == 0, "no rows", 0, 0);

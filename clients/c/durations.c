@@ -80,7 +80,7 @@ static void printed_periods(void)
         const fots_period_text_result printed = fots_period_text(period);
         check(printed.status == FOTS_OK && printed.length == strlen(text) && strcmp(printed.bytes, text) == 0, text, printed.status, printed.length);
     }
-    const fots_period longest = {INT32_MIN, INT32_MIN, INT32_MIN, INT32_MIN, {INT64_MIN, -999999999}}, two_signs = {1, -1, 0, 0, {0, 0}};
+    const fots_period longest = {INT32_MIN, INT32_MIN, INT32_MIN, INT32_MIN, {INT64_MIN, -999999999, 0}}, two_signs = {1, -1, 0, 0, {0, 0, 0}};
     const char *const text = "-P2147483648Y2147483648M2147483648W2147483648DT2562047788015215H30M8.999999999S";
     check(strcmp(fots_period_text(longest).bytes, text) == 0 && fots_period_text(longest).length == strlen(text), "the longest period", 0, 0);
     check(fots_period_parse(text, strlen(text)).period.duration.seconds == INT64_MIN, "the longest period, parsed", 0, 0);
@@ -91,7 +91,7 @@ static void duration_texts(void)
 {
     static const error_row errors[] = {{"P1D", FOTS_UNEXPECTED_BYTE, 1}, {"PT", FOTS_UNEXPECTED_END, 2}, {"PT1H1H", FOTS_UNEXPECTED_BYTE, 5},
         {"-PT9223372036854775809S", FOTS_SECONDS_OUT_OF_RANGE, SIZE_MAX}, {"PT2562047788015216H", FOTS_HOURS_OUT_OF_RANGE, SIZE_MAX}};
-    const fots_duration half = {-1, -500000000}, two_signs = {1, -1};
+    const fots_duration half = {-1, -500000000, 0}, two_signs = {1, -1, 0};
     const fots_parse_duration_result found = fots_duration_parse("-PT90M", 6);
     check(found.status == FOTS_OK && found.duration.seconds == -5400 && found.position == SIZE_MAX, "-90 minutes", found.duration.seconds, 0);
     check(strcmp(fots_duration_text(half).bytes, "-PT1.5S") == 0, "-1.5 s", 0, 0);

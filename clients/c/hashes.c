@@ -73,7 +73,7 @@ static fots_offset any_fots_offset(void)
 /* In what follows each draw is a statement, since C doesn't order those of an expression. */
 static fots_duration any_fots_duration(void)
 {
-    fots_duration duration;
+    fots_duration duration = {0, 0, 0};
     const int64_t most = INT64_MAX >> draw() % 64;
     duration.seconds = number(-most, most);
     duration.nanoseconds = (int32_t)number(0, 999999999);
@@ -306,7 +306,7 @@ static fots_workdays_view any_fots_workdays_view(void)
 {
     static uint32_t counts[sizeof drawn_days / sizeof *drawn_days + 1];
     const size_t length = any_holidays();
-    const fots_workdays_view view = {(uint32_t)number(0, 127), drawn_days, length, counts, length + 1};
+    const fots_workdays_view view = {(uint32_t)number(0, 127), 0, drawn_days, length, counts, length + 1};
     fots_workdays_view_count(view.weekmask, view.holidays, length, counts, length + 1);
     return view;
 }

@@ -21,7 +21,7 @@ static fots_moment moment_at(int32_t julian_day, int32_t offset, fots_time time)
 
 static fots_duration duration_of(int64_t seconds, int32_t nanoseconds)
 {
-    fots_duration duration = {0, 0};
+    fots_duration duration = {0, 0, 0};
     duration.seconds = seconds;
     duration.nanoseconds = nanoseconds;
     return duration;
@@ -183,7 +183,7 @@ static void wrong_values(void)
     const int32_t no_days[] = {FOTS_NO_VALUE, FOTS_MIN_JULIAN_DAY - 1, FOTS_MAX_JULIAN_DAY + 1, INT32_MAX};
     const int32_t no_offsets[] = {FOTS_NO_VALUE, -FOTS_MAX_OFFSET_SECONDS - 1, FOTS_MAX_OFFSET_SECONDS + 1, INT32_MAX};
     const fots_time no_times[] = {FOTS_MAX_TIME + 1, UINT64_C(1) << 63, FOTS_NO_TIME};
-    const fots_duration no_durations[] = {{0, 1000000000}, {0, FOTS_NO_VALUE}, {1, -1}, {-1, 1}, {INT64_MIN, FOTS_NO_VALUE}};
+    const fots_duration no_durations[] = {{0, 1000000000, 0}, {0, FOTS_NO_VALUE, 0}, {1, -1, 0}, {-1, 1, 0}, {INT64_MIN, FOTS_NO_VALUE, 0}};
     wrong_parts();
     for (int k = 0; k < COUNT(no_days); k++) {
         wrong_moment(moment_at(no_days[k], 0, 0), "a moment of no date");

@@ -52,7 +52,7 @@ static void draw_instants(int32_t first, int32_t last, int is_in_order)
         qsort(instants, VALUES, sizeof *instants, compare_instants);
     }
     for (int k = 0; k < VALUES; k++) {
-        const fots_pair_result local = fots_unix_pair((fots_duration){instants[k], 0}, (fots_offset){3600});
+        const fots_pair_result local = fots_unix_pair((fots_duration){instants[k], 0, 0}, (fots_offset){3600});
         dates[k] = local.date;
         times[k] = local.time;
         readings[k] = instants[k] + 3600;

@@ -9,7 +9,7 @@
 
 static fots_duration of(int64_t seconds, int32_t nanoseconds)
 {
-    const fots_duration duration = {seconds, nanoseconds};
+    const fots_duration duration = {seconds, nanoseconds, 0};
     return duration;
 }
 

@@ -7,27 +7,27 @@
 #define COUNT(rows) ((int)(sizeof(rows) / sizeof(rows)[0]))
 #define DAY 86400LL
 
-static const fots_duration zero = {0, 0};
-static const fots_duration min_duration = {INT64_MIN, -999999999};
-static const fots_duration max_duration = {INT64_MAX, 999999999};
+static const fots_duration zero = {0, 0, 0};
+static const fots_duration min_duration = {INT64_MIN, -999999999, 0};
+static const fots_duration max_duration = {INT64_MAX, 999999999, 0};
 
 static fots_duration seconds(int64_t seconds)
 {
-    fots_duration duration = {0, 0};
+    fots_duration duration = {0, 0, 0};
     duration.seconds = seconds;
     return duration;
 }
 
 static fots_duration nanoseconds(int32_t nanoseconds)
 {
-    fots_duration duration = {0, 0};
+    fots_duration duration = {0, 0, 0};
     duration.nanoseconds = nanoseconds;
     return duration;
 }
 
 static fots_duration both(int64_t seconds, int32_t nanoseconds)
 {
-    fots_duration duration = {0, 0};
+    fots_duration duration = {0, 0, 0};
     duration.seconds = seconds;
     duration.nanoseconds = nanoseconds;
     return duration;

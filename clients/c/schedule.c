@@ -62,7 +62,7 @@ static void months(void)
         check(found.status == FOTS_OK && found.years == wanted[0] && found.months == wanted[1] && found.weeks == wanted[2] && found.days == wanted[3],
             "a period by a unit", (int32_t)unit, found.days);
     }
-    const fots_period month = {0, 1, 0, 0, {0, 0}}, hour = {0, 1, 0, 0, {3600, 0}}, none = {0, 0, 0, 0, {0, 0}};
+    const fots_period month = {0, 1, 0, 0, {0, 0, 0}}, hour = {0, 1, 0, 0, {3600, 0, 0}}, none = {0, 0, 0, 0, {0, 0, 0}};
     const fots_date last = day(2000, 1, 31);
     check(fots_date_step_of(last, month, day(2000, 2, 28)).number == 0, "the step of 28 February", 0, 0);
     check(fots_date_step_of(last, month, day(2000, 2, 29)).number == 1, "the step of 29 February", 0, 0);

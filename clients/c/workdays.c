@@ -179,7 +179,7 @@ static void views(void)
     for (size_t length = 0; length <= MANY; length = length < 1000 ? 2 * length + 1 : length < MANY ? MANY : length + 1) {
         for (uint32_t weekmask = 1; weekmask <= 255; weekmask = 2 * weekmask + 1) {
             const Week week = {weekmask, holidays, length};
-            const fots_workdays_view view = {weekmask, holidays, length, marked_before, length + 1};
+            const fots_workdays_view view = {weekmask, 0, holidays, length, marked_before, length + 1};
             const fots_number_result made = fots_workdays_view_count(weekmask, holidays, length, marked_before, length + 1);
             const fots_workdays_result few = fots_workdays_new(weekmask, holidays, length);
             check(made.status == (weekmask > 127 ? FOTS_INVALID_WEEKMASK : FOTS_OK), "a view", made.status, (long long)length);
@@ -210,7 +210,7 @@ static void wrong_views(void)
 {
     const fots_date falling[] = {{2451547}, {2451545}}, rising[] = {{2451545}, {2451547}}, beyond[] = {{FOTS_MAX_JULIAN_DAY}, {FOTS_MAX_JULIAN_DAY + 1}};
     uint32_t counts[4] = {77, 77, 77, 77};
-    fots_workdays_view view = {31, rising, 2, counts, 3};
+    fots_workdays_view view = {31, 0, rising, 2, counts, 3};
     check(fots_workdays_view_count(128, rising, 2, counts, 3).status == FOTS_INVALID_WEEKMASK, "the weekmask", 0, 0);
     check(fots_workdays_view_count(31, falling, 2, counts, 3).status == FOTS_INVALID_HOLIDAYS, "falling", 0, 0);
     check(fots_workdays_view_count(31, beyond, 2, counts, 3).status == FOTS_INVALID_HOLIDAYS, "no date", 0, 0);

@@ -232,7 +232,7 @@ static void months(int32_t julian_day, uint32_t number, int32_t count)
     fots_period_result by_unit = fots_date_period_until_by(date, other, (uint32_t)count);
     status_is(first_of(with_other, count >= 1 && count <= 5 ? FOTS_OK : FOTS_INVALID_UNIT), by_unit.status, by_unit.days != FOTS_NO_VALUE,
         "period_until_by", julian_day, count);
-    fots_period step = {0, 1, 0, count < 0 ? -1 : 0, {0, 0}};
+    fots_period step = {0, 1, 0, count < 0 ? -1 : 0, {0, 0, 0}};
     int32_t no_period = first_of(wrong, count < 0 ? FOTS_INVALID_PERIOD : FOTS_OK);
     NUMBER(first_of(no_period, of_date(other)), fots_date_step_of(date, step, other), julian_day);
     fots_date_range range = {date, other};
@@ -292,7 +292,7 @@ static void workdays_views(int32_t julian_day, uint32_t number, int32_t count)
     static const fots_date rising[] = {{2451545}, {2451604}};
     uint32_t counts[] = {0, 0, 0};
     fots_date date = date_at(julian_day), other = date_at(count), holidays[] = {{julian_day}, {count}};
-    fots_workdays_view view = {number, rising, 2, counts, 3};
+    fots_workdays_view view = {number, 0, rising, 2, counts, 3};
     int32_t no_week = number < 128 ? FOTS_OK : FOTS_INVALID_WEEKMASK, wrong = first_of(no_week, of_date(date));
     int32_t no_convention = (uint32_t)count <= 4 ? FOTS_OK : FOTS_INVALID_CONVENTION;
     int32_t no_holidays = is_date(date) && is_date(other) && julian_day < count ? FOTS_OK : FOTS_INVALID_HOLIDAYS;
@@ -889,7 +889,7 @@ static int32_t drawn_short(void)
 
 static fots_duration drawn_duration(int k)
 {
-    fots_duration duration = {0, 0};
+    fots_duration duration = {0, 0, 0};
     if (k < COUNT(border_seconds) * COUNT(border_nanoseconds)) {
         duration.seconds = border_seconds[k / COUNT(border_nanoseconds)];
         duration.nanoseconds = border_nanoseconds[k % COUNT(border_nanoseconds)];

@@ -132,7 +132,7 @@ static void is_rejected(const fots_zone *zone, long long which)
     char text[16];
     const fots_date no_day = {FOTS_NO_VALUE};
     const fots_moment no_moment = {{FOTS_NO_VALUE}, {0}, 0};
-    const fots_duration no_duration = {1, -1};
+    const fots_duration no_duration = {1, -1, 0};
     const fots_period no_period = {1, -1, 0, 0, no_duration};
     int64_t second = 0;
     int32_t offset = 0;
@@ -270,8 +270,8 @@ static void is_safe(const fots_zone *zone)
     fots_zone_offsets(zone, seconds, 4, offsets, 4, statuses, 4);
     fots_zone_instants(zone, seconds, 4, FOTS_LATER, found, 4, statuses, 4);
     for (row = 0; row < 4; row++) {
-        const fots_duration time = {seconds[row], 0};
-        const fots_period step = {0, 1, 0, 1, {3600, 0}};
+        const fots_duration time = {seconds[row], 0, 0};
+        const fots_period step = {0, 1, 0, 1, {3600, 0, 0}};
         const fots_moment_result from = fots_zoned_at(zone, time);
         offsets[row] = row;
         fots_zoned_from_local(zone, day(2024, 10, 27), half_past(2), (uint32_t)row);
@@ -285,7 +285,7 @@ static void is_safe(const fots_zone *zone)
         fots_zoned_period_until(zone, from.moment, fots_zoned_add_period(zone, from.moment, step, 0).moment, 1 + (uint32_t)row, (uint32_t)row);
         fots_zoned_start_of(zone, from.moment, (uint32_t)row);
         fots_zoned_end_of(zone, from.moment, (uint32_t)row);
-        fots_zoned_round(zone, from.moment, (fots_duration){row % 2 ? 3600 : 86400, 0}, (uint32_t)row);
+        fots_zoned_round(zone, from.moment, (fots_duration){row % 2 ? 3600 : 86400, 0, 0}, (uint32_t)row);
     }
     fots_zoned_start_of_day(zone, day(2024, 3, 31));
     fots_zoned_add_days(zone, seconds, 4, seconds, 4, FOTS_LATER, found, 4, statuses, 4);
@@ -390,7 +390,7 @@ static void is_not_moment(fots_moment_result found, int32_t status, const char *
 
 static fots_period period(int32_t years, int32_t months, int32_t weeks, int32_t days, int64_t seconds)
 {
-    const fots_period made = {years, months, weeks, days, {seconds, 0}};
+    const fots_period made = {years, months, weeks, days, {seconds, 0, 0}};
     return made;
 }
 
@@ -400,7 +400,7 @@ static void moves(void)
     const fots_zone berlin = posix(CET), azores = posix("<-01>1<+00>,M3.5.0/0,M10.5.0/1");
     const fots_date skipping = day(2024, 3, 31), repeating = day(2024, 10, 27);
     const fots_moment winter = moment(day(2024, 3, 30), 2, 30, 1), second = moment(repeating, 2, 30, 1);
-    const fots_duration start = {1711846800, 0}, hour = {3600, 0};
+    const fots_duration start = {1711846800, 0, 0}, hour = {3600, 0, 0};
     is_moment(fots_zoned_at(&berlin, start), moment(skipping, 3, 0, 2), "at an instant");
     is_moment(fots_zoned_from_local(&berlin, skipping, half_past(2), FOTS_COMPATIBLE), moment(skipping, 3, 30, 2), "a gap");
     is_moment(fots_zoned_from_local(&berlin, skipping, half_past(2), FOTS_EARLIER), moment(skipping, 1, 30, 1), "a gap, earlier");
@@ -468,7 +468,7 @@ static void rounded(void)
     const fots_zone berlin = posix(CET), angeles = posix("PST8PDT,M3.2.0,M11.1.0"), azores = posix("<-01>1<+00>,M3.5.0/0,M10.5.0/1");
     const fots_date skipping = day(2024, 3, 31), repeating = day(2024, 10, 27), next = day(2024, 4, 1), last = {FOTS_MAX_JULIAN_DAY}, none = {FOTS_NO_VALUE};
     const fots_date december = day(1995, 12, 7);
-    const fots_duration hour = {3600, 0}, half = {1800, 0}, whole = {86400, 0}, week = {7 * 86400, 0};
+    const fots_duration hour = {3600, 0, 0}, half = {1800, 0, 0}, whole = {86400, 0, 0}, week = {7 * 86400, 0, 0};
     fots_moment example = moment(december, 3, 24, -8);
     example.time += UINT64_C(30000003500);
     is_moment(fots_zoned_round(&angeles, example, hour, FOTS_HALF_CEIL), moment(december, 3, 0, -8), "to an hour");
@@ -579,7 +579,7 @@ static void wrong_moves(void)
     const fots_date date = day(2024, 3, 30), none = {FOTS_NO_VALUE}, last = {FOTS_MAX_JULIAN_DAY}, skipping = day(2024, 3, 31);
     const fots_moment right = moment(date, 2, 30, 1), wrong = moment(date, 2, 30, 2), invalid = moment(none, 0, 0, 1);
     const fots_moment in_gap = moment(skipping, 2, 30, 1);
-    const fots_duration hour = {3600, 0}, two_signs = {1, -1}, longest = {INT64_MAX, 0};
+    const fots_duration hour = {3600, 0, 0}, two_signs = {1, -1, 0}, longest = {INT64_MAX, 0, 0};
     const fots_period mixed = period(1, -1, 0, 0, 0), exact = period(0, 0, 0, 1, 1), day_later = period(0, 0, 0, 1, 0);
     fots_period bad = day_later;
     bad.duration = two_signs;
@@ -662,7 +662,7 @@ static void moved_columns(const fots_zone *zone)
                 ? fots_zoned_add_months(zone, seconds, ROWS_OF_COLUMN, steps, ROWS_OF_COLUMN, policy, moved, ROWS_OF_COLUMN, statuses, ROWS_OF_COLUMN)
                 : fots_zoned_add_days(zone, seconds, ROWS_OF_COLUMN, days, ROWS_OF_COLUMN, policy, moved, ROWS_OF_COLUMN, statuses, ROWS_OF_COLUMN);
             for (int k = 0; k < ROWS_OF_COLUMN; k++) {
-                const fots_duration time = {seconds[k], 0};
+                const fots_duration time = {seconds[k], 0, 0};
                 const fots_moment_result from = fots_zoned_at(zone, time);
                 const fots_moment_result one = fots_zoned_add_period(zone, from.moment, months ? period(0, steps[k], 0, 0, 0) : period(0, 0, 0, clamped(days[k]), 0), policy);
                 const int32_t status = policy > 3 ? FOTS_INVALID_POLICY : from.status ? from.status : one.status;
@@ -674,7 +674,7 @@ static void moved_columns(const fots_zone *zone)
     }
     fots_zoned_starts_of_day(zone, seconds, ROWS_OF_COLUMN, starts, ROWS_OF_COLUMN, start_statuses, ROWS_OF_COLUMN);
     for (int k = 0; k < ROWS_OF_COLUMN; k++) {
-        const fots_duration time = {seconds[k], 0};
+        const fots_duration time = {seconds[k], 0, 0};
         const fots_moment_result from = fots_zoned_at(zone, time), one = fots_zoned_start_of_day(zone, from.moment.date);
         const int32_t status = from.status ? from.status : one.status;
         check(start_statuses[k] == status && starts[k] == (status ? INT64_MIN : fots_moment_unix_timestamp(one.moment).number), "a start of a day", k, status);

@@ -124,7 +124,7 @@ void errors()
     throws([] { return Time(FOTS_NO_TIME); }, FOTS_INVALID_TIME, "invalid time; expected 0 to 86399999999999 nanoseconds since midnight", "no time");
     throws([] { return UtcOffset::from_hms(26, 0, 0); }, FOTS_OFFSET_HOUR_OUT_OF_RANGE, "offset hour 26 is out of range -25 to 25", "26 hours");
     throws([] { return UtcOffset(fots_offset{FOTS_NO_VALUE}); }, FOTS_INVALID_OFFSET, "invalid offset; expected -93599 to 93599 seconds", "no offset");
-    throws([] { return Duration(fots_duration{1, -1}); }, FOTS_INVALID_DURATION, "invalid duration; expected -999999999 to 999999999 ns, signed like the seconds",
+    throws([] { return Duration(fots_duration{1, -1, 0}); }, FOTS_INVALID_DURATION, "invalid duration; expected -999999999 to 999999999 ns, signed like the seconds",
         "no duration");
     throws([] { return Duration::seconds(1) / 0; }, FOTS_RESULT_OUT_OF_RANGE, "the result is out of range, or does not exist", "a second by 0");
     try {

@@ -175,7 +175,7 @@ PG_FUNCTION_INFO_V1(cal_period);
 Datum cal_period(PG_FUNCTION_ARGS)
 {
     const fots_period_result found = fots_date_period_until_by(GET_DATE(0), GET_DATE(1), GET_NUMBER(fots_unit_names(), 2));
-    const fots_period period = {found.years, found.months, found.weeks, found.days, {0, 0}};
+    const fots_period period = {found.years, found.months, found.weeks, found.days, {0, 0, 0}};
     PG_RETURN_INTERVAL_P(from_period("period", found.status, period));
 }
 

@@ -35,7 +35,7 @@ static Datum series_row(FunctionCallInfo fcinfo, bool is_date)
 {
     FuncCallContext *const context = SRF_PERCALL_SETUP();
     sql_series *const series = &((rows *)context->user_fctx)->series;
-    fots_moment_result row = {FOTS_OK, {{0}, {0}, 0}};
+    fots_moment_result row = {FOTS_OK, 0, {{0}, {0}, 0}};
     enum sql_step step;
     NEXT_ROW(step, sql_series_step(series, &row.moment));
     if (step == SQL_FAILED) {
@@ -235,7 +235,7 @@ static void begin_times(FunctionCallInfo fcinfo, const fots_zone *zone, int argu
 static Datum times_row(FunctionCallInfo fcinfo)
 {
     FuncCallContext *const context = SRF_PERCALL_SETUP();
-    fots_moment_result row = {FOTS_OK, {{0}, {0}, 0}};
+    fots_moment_result row = {FOTS_OK, 0, {{0}, {0}, 0}};
     if (!recurrence_row(context, &row.moment)) {
         SRF_RETURN_DONE(context);
     }

@@ -41,7 +41,7 @@ static fots_parse_moment_result by_format(const char *bytes, size_t length, cons
 {
     if (form == DATE) {
         const fots_parse_date_result parsed = fots_date_parse_format(bytes, length, format);
-        const fots_parse_moment_result found = {parsed.status, parsed.date, 0, {0}, parsed.position};
+        const fots_parse_moment_result found = {parsed.status, parsed.date, 0, {0}, 0, parsed.position};
         return found;
     }
     return form == LOCAL ? fots_pair_parse_format(bytes, length, format) : fots_moment_parse_format(bytes, length, format);

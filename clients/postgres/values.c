@@ -98,7 +98,7 @@ Timestamp from_moment(const char *what, fots_moment_result found)
 
 Timestamp from_local(const char *what, int32 status, fots_date date, fots_time time)
 {
-    const fots_moment_result found = {status, {date, {0}, time}};
+    const fots_moment_result found = {status, 0, {date, {0}, time}};
     return from_moment(what, found);
 }
 
@@ -115,7 +115,7 @@ static void finite_interval(const Interval *interval)
 
 fots_period period_of(const Interval *interval)
 {
-    fots_period period = {0, 0, 0, 0, {0, 0}};
+    fots_period period = {0, 0, 0, 0, {0, 0, 0}};
     finite_interval(interval);
     period.years = interval->month / MONTHS_PER_YEAR;
     period.months = interval->month % MONTHS_PER_YEAR;

@@ -254,7 +254,7 @@ static inline void sql_times_text(sql_times *all, const fots_recurrence_text_res
 /* Starts with the first row, or for a COUNT with the start. */
 static inline void sql_times_restart(sql_times *all)
 {
-    const fots_duration nanosecond = {0, 1};
+    const fots_duration nanosecond = {0, 1, 0};
     const int is_from_start = all->is_counting || (!all->zone && all->count > 0) || fots_moment_compare(all->first, all->set.start).number < 0;
     all->from = is_from_start ? all->set.start : all->first;
     all->after = fots_moment_saturating_sub(all->first, nanosecond).moment;
@@ -287,7 +287,7 @@ static inline sql_fault sql_times_begin(sql_times *all, const char *text, size_t
  * local times that its end excludes, so they are read again. */
 static inline void sql_times_next_window(sql_times *all, int is_local)
 {
-    const fots_duration nanosecond = {0, 1}, two_days = {172800, 0};
+    const fots_duration nanosecond = {0, 1, 0}, two_days = {172800, 0, 0};
     const fots_moment next = sql_midnight(all->window + 1, 1, 1), cutoff = sql_midnight(all->window, 12, 28);
     if (fots_moment_compare(next, fots_moment_saturating_add(all->last, two_days).moment).number > 0) {
         return;
@@ -308,7 +308,7 @@ static inline void sql_times_next_window(sql_times *all, int is_local)
 /* Reads the next page of local times, or of instants. */
 static inline enum sql_step sql_times_page(sql_times *all)
 {
-    const fots_duration nanosecond = {0, 1};
+    const fots_duration nanosecond = {0, 1, 0};
     const int is_local = !all->zone || all->is_counting;
     const size_t page_length = is_local ? all->page_length : all->zoned_page_length;
     const fots_recurrence_result found = is_local ? fots_recurrence_readings(&all->set, all->from, all->page, page_length)
@@ -330,7 +330,7 @@ static inline enum sql_step sql_times_page(sql_times *all)
 /* Ends the recurrence with a local time, the last one of COUNT. */
 static inline enum sql_step sql_times_end_with(sql_times *all, fots_moment reading)
 {
-    const fots_duration up = {0, (int32_t)((1000000000 - reading.time % 1000000000) % 1000000000)};
+    const fots_duration up = {0, (int32_t)((1000000000 - reading.time % 1000000000) % 1000000000), 0};
     const fots_moment until = fots_moment_saturating_add(reading, up).moment;
     const fots_calendar_date_result date = fots_date_to_calendar_date(until.date);
     const fots_hms_nano_result time = fots_time_as_hms_nano(until.time);
@@ -347,7 +347,7 @@ static inline enum sql_step sql_times_end_with(sql_times *all, fots_moment readi
 /* Counts a page of local times, up to COUNT or until no instant up to `last` can follow. */
 static inline enum sql_step sql_times_count(sql_times *all)
 {
-    const fots_duration two_days = {172800, 0};
+    const fots_duration two_days = {172800, 0, 0};
     enum sql_step step = sql_times_page(all);
     int is_done = 0;
     if (step != SQL_PAUSE) {
@@ -448,7 +448,7 @@ static inline int sql_is_exception(const sql_recurrence *all, fots_moment row)
 static inline int32_t sql_recurrence_add_dates(sql_recurrence *all, fots_moment *dates, size_t length)
 {
     const fots_zone *const zone = all->has_times ? all->rule.times.zone : NULL;
-    fots_moment_result date = {FOTS_OK, {{0}, {0}, 0}};
+    fots_moment_result date = {FOTS_OK, 0, {{0}, {0}, 0}};
     size_t at, kept = 0;
     for (at = 0; at < length; at++) {
         date.moment = dates[at];
@@ -517,7 +517,7 @@ static inline int32_t sql_recurrence_add(sql_recurrence *all, fots_moment *dates
  * the rule can be the same instant, if one of both is in a gap. */
 static inline int sql_is_row(const sql_recurrence *all, fots_moment row)
 {
-    const fots_duration nanosecond = {0, 1};
+    const fots_duration nanosecond = {0, 1, 0};
     fots_recurrence_set set;
     fots_moment moment = row;
     size_t from = 0, to;

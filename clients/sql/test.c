@@ -65,7 +65,7 @@ static size_t rows_of(const fots_recurrence_set *set, const fots_zone *zone, fot
 static int is_same(fots_recurrence_set set, const fots_zone *zone, fots_moment first, fots_moment last)
 {
     static fots_moment rows[ROWS + 1], others[ROWS];
-    const fots_duration nanosecond = {0, 1};
+    const fots_duration nanosecond = {0, 1, 0};
     const size_t length = rows_of(&set, zone, first, last, rows);
     const size_t found = zone ? fots_recurrence_moments(&set, zone, fots_moment_checked_sub(first, nanosecond).moment, others, ROWS).length
                               : fots_recurrence_readings(&set, first, others, ROWS).length;

@@ -159,7 +159,7 @@ static void period(const sql_function *function, sqlite3_context *context, int c
     if (get_date(context, values[0], &date) && get_date(context, values[1], &other)
         && get_name(context, fots_unit_names(), count, values, 2, FOTS_YEAR, &unit)) {
         const fots_period_result found = fots_date_period_until_by(date, other, unit);
-        const fots_period parts = {found.years, found.months, found.weeks, found.days, {0, 0}};
+        const fots_period parts = {found.years, found.months, found.weeks, found.days, {0, 0, 0}};
         set_period(context, function->call->name, found.status, parts);
     }
 }
@@ -214,7 +214,7 @@ static void parse_duration(const sql_function *function, sqlite3_context *contex
 {
     const sql_text text = sql_text_of(values[0]);
     const fots_parse_duration_result parsed = fots_duration_parse(text.bytes, text.length);
-    const fots_duration_result found = {parsed.status, parsed.duration};
+    const fots_duration_result found = {parsed.status, 0, parsed.duration};
     (void)count;
     if (sql_check_text(context, "duration", text, parsed.status, parsed.position)) {
         set_seconds(context, function->call->name, found);

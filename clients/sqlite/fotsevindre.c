@@ -72,7 +72,7 @@ static int add_functions(sqlite3 *database)
     memset(shared, 0, sizeof *shared);
     shared->uses = 1;
     shared->date_format = fots_format_new("%Y-%m-%d", 8).format;
-    shared->weekdays = (fots_workdays_view){FOTS_MONDAY_TO_FRIDAY, &none, 0, &shared->no_holidays, 1};
+    shared->weekdays = (fots_workdays_view){FOTS_MONDAY_TO_FRIDAY, 0, &none, 0, &shared->no_holidays, 1};
     status = add_calls(database, shared, sql_date_calls);
     status = status == SQLITE_OK ? add_calls(database, shared, sql_text_calls) : status;
     status = status == SQLITE_OK ? add_calls(database, shared, sql_workday_calls) : status;

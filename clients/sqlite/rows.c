@@ -228,7 +228,7 @@ static int read_date(cursor *one, int is_day, sql_text text, fots_moment *moment
     fots_parse_moment_result parsed = fots_pair_parse(text.bytes, text.length);
     if (is_day) {
         const fots_parse_date_result day = fots_date_parse(text.bytes, text.length);
-        parsed = (fots_parse_moment_result){day.status, day.date, 0, {0}, day.position};
+        parsed = (fots_parse_moment_result){day.status, day.date, 0, {0}, 0, day.position};
     }
     moment->date = parsed.date;
     moment->time = parsed.time;
@@ -396,7 +396,7 @@ static int column(sqlite3_vtab_cursor *base, sqlite3_context *context, int numbe
 {
     const cursor *const one = (const cursor *)base;
     const table_kind *const kind = ((table *)base->pVtab)->kind;
-    const fots_moment_result row = {FOTS_OK, one->row};
+    const fots_moment_result row = {FOTS_OK, 0, one->row};
     if (one->step != SQL_ROW) {
         return SQLITE_OK;
     }

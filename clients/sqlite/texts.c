@@ -49,7 +49,7 @@ static int get_parsed(const sql_function *function, sqlite3_context *context, in
     }
     if (form == SQL_DATE) {
         const fots_parse_date_result parsed = fots_date_parse_format(text.bytes, text.length, format);
-        *found = (fots_parse_moment_result){parsed.status, parsed.date, 0, {0}, parsed.position};
+        *found = (fots_parse_moment_result){parsed.status, parsed.date, 0, {0}, 0, parsed.position};
     } else {
         *found = form == SQL_LOCAL ? fots_pair_parse_format(text.bytes, text.length, format)
                                    : fots_moment_parse_format(text.bytes, text.length, format);

@@ -75,7 +75,7 @@ sql_text sql_text_of(sqlite3_value *value)
 /* A date is a string of ISO 8601, or its Julian day as an integer. */
 fots_parse_moment_result sql_parse_date(sqlite3_value *value)
 {
-    fots_parse_moment_result found = {FOTS_OK, {0}, 0, {0}, SIZE_MAX};
+    fots_parse_moment_result found = {FOTS_OK, {0}, 0, {0}, 0, SIZE_MAX};
     if (sqlite3_value_type(value) == SQLITE_INTEGER) {
         const fots_date_result made = fots_date_from_julian_day(sqlite3_value_int64(value));
         found.status = made.status;
@@ -116,7 +116,7 @@ static int32_t seconds_of(sqlite3_value *value, fots_duration *duration)
 /* An instant is a Unix time, or a string of RFC 3339. */
 fots_parse_moment_result sql_parse_instant(sqlite3_value *value)
 {
-    fots_parse_moment_result found = {FOTS_OK, {0}, 0, {0}, SIZE_MAX};
+    fots_parse_moment_result found = {FOTS_OK, {0}, 0, {0}, 0, SIZE_MAX};
     if (sqlite3_value_type(value) == SQLITE_TEXT) {
         const sql_text text = sql_text_of(value);
         return fots_moment_parse(text.bytes, text.length);

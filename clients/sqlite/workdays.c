@@ -99,7 +99,7 @@ static int keep_calendar(sql_shared *all, unsigned place, sqlite3_context *conte
     sqlite3_free(all->calendars[place].blob);
     all->calendars[place].blob = kept;
     all->calendars[place].length = (int)size;
-    all->calendars[place].workdays = (fots_workdays_view){(uint32_t)kept->julian_day, kept + 1, holidays, counts, holidays + 1};
+    all->calendars[place].workdays = (fots_workdays_view){(uint32_t)kept->julian_day, 0, kept + 1, holidays, counts, holidays + 1};
     return 1;
 }
 

@@ -407,7 +407,7 @@ OF(ordinal_date, ordinal_date, Py_BuildValue("iI", (int)result.year, (unsigned)r
 OF(iso_week_date, iso_week_date, Py_BuildValue("iIO", (int)result.year, (unsigned)result.week,
     state->weekdays[result.weekday - 1]))
 OF(period, period, new_period(state, (fots_period){result.years, result.months, result.weeks,
-    result.days, {0, 0}}))
+    result.days, {0, 0, 0}}))
 OF(date_range, date_range, Py_BuildValue("NN", new_date(state, result.range.start),
     new_date(state, result.range.end)))
 OF(share, share, Py_BuildValue("II", (unsigned)result.common, (unsigned)result.days))

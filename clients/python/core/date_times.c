@@ -9,19 +9,19 @@ static fots_moment plain_assume_utc(fots_moment moment) { return moment; }
 static fots_moment_result plain_add_period(fots_moment moment, fots_period period)
 {
     fots_pair_result moved = fots_pair_add_period(moment.date, moment.time, period);
-    return (fots_moment_result){moved.status, {moved.date, utc, moved.time}};
+    return (fots_moment_result){moved.status, 0, {moved.date, utc, moved.time}};
 }
 
 static fots_moment_result plain_round(fots_moment moment, fots_duration unit, uint32_t mode)
 {
     fots_pair_result rounded = fots_pair_round(moment.date, moment.time, unit, mode);
-    return (fots_moment_result){rounded.status, {rounded.date, utc, rounded.time}};
+    return (fots_moment_result){rounded.status, 0, {rounded.date, utc, rounded.time}};
 }
 
 static fots_moment_result plain_nth_period(fots_moment moment, fots_period period, int32_t n)
 {
     fots_pair_result moved = fots_pair_nth_period(moment.date, moment.time, period, n);
-    return (fots_moment_result){moved.status, {moved.date, utc, moved.time}};
+    return (fots_moment_result){moved.status, 0, {moved.date, utc, moved.time}};
 }
 
 static fots_number_result plain_step_of(fots_moment start, fots_period period, fots_moment plain)
@@ -47,13 +47,13 @@ static fots_moment_result moment_to_utc(fots_moment own) { return fots_moment_to
 static fots_moment_result moment_checked_add_months(fots_moment moment, int32_t number)
 {
     fots_date_result moved = fots_date_add_months(moment.date, number);
-    return (fots_moment_result){moved.status, {moved.date, moment.offset, moment.time}};
+    return (fots_moment_result){moved.status, 0, {moved.date, moment.offset, moment.time}};
 }
 
 static fots_moment_result moment_checked_add_years(fots_moment moment, int32_t number)
 {
     fots_date_result moved = fots_date_add_years(moment.date, number);
-    return (fots_moment_result){moved.status, {moved.date, moment.offset, moment.time}};
+    return (fots_moment_result){moved.status, 0, {moved.date, moment.offset, moment.time}};
 }
 
 static fots_moment moment_replace_date(fots_moment m, fots_date date) { m.date = date; return m; }

@@ -149,7 +149,7 @@ static PyObject *moved(const State *state, PyObject *self, PyObject *other, int 
     PyTypeObject *type = Py_TYPE(self);
     int is_date_time = type == state->plain || type == state->moment;
     int is_delta = Py_TYPE(other) != state->duration;
-    fots_duration by = {0, 0};
+    fots_duration by = {0, 0, 0};
     if ((is_delta && !is_date_time && type != state->date) || !to_move(state, other, &by)) {
         return PyErr_Occurred() ? NULL : new_reference(Py_NotImplemented);
     }

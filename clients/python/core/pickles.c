@@ -71,13 +71,13 @@ static fots_time_result core_make_time(int64_t nanoseconds)
     fots_duration_result since = fots_duration_nanoseconds(nanoseconds);
     int is_time = nanoseconds >= 0 && (uint64_t)nanoseconds <= FOTS_MAX_TIME;
     return is_time ? fots_time_add(0, since.duration) :
-        (fots_time_result){FOTS_HOUR_OUT_OF_RANGE, 0};
+        (fots_time_result){FOTS_HOUR_OUT_OF_RANGE, 0, 0};
 }
 
 static fots_moment_result core_make_moment(int32_t julian_day, int64_t nanoseconds, int32_t seconds)
 {
     fots_time_result time = core_make_time(nanoseconds);
-    fots_moment_result none = {time.status, {{0}, {0}, 0}};
+    fots_moment_result none = {time.status, 0, {{0}, {0}, 0}};
     return time.status ? none :
         fots_moment_new((fots_date){julian_day}, time.time, (fots_offset){seconds});
 }

@@ -361,7 +361,7 @@ static fots_duration now(void)
 {
     struct timespec time;
     timespec_get(&time, TIME_UTC);
-    return (fots_duration){time.tv_sec, (int32_t)time.tv_nsec};
+    return (fots_duration){time.tv_sec, (int32_t)time.tv_nsec, 0};
 }
 
 static PyObject *moment_now(PyObject *self, PyObject *const *given, Py_ssize_t count)

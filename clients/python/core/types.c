@@ -74,7 +74,7 @@ static fots_duration_result duration_create(int64_t weeks, int64_t days, int64_t
     __int128 sum = second * 604800 * weeks + second * 86400 * days + second * 3600 * hours +
         second * 60 * minutes + second * seconds + (__int128)1000000 * milliseconds +
         (__int128)1000 * microseconds + nanoseconds;
-    fots_duration_result outside = {FOTS_RESULT_OUT_OF_RANGE, {0, 0}};
+    fots_duration_result outside = {FOTS_RESULT_OUT_OF_RANGE, 0, {0, 0, 0}};
     __int128 whole = sum / second;
     return whole < INT64_MIN || whole > INT64_MAX ? outside :
         fots_duration_new((int64_t)whole, (int32_t)(sum % second));
@@ -82,7 +82,7 @@ static fots_duration_result duration_create(int64_t weeks, int64_t days, int64_t
 
 static int sign_of(fots_duration duration)
 {
-    return fots_duration_compare(duration, (fots_duration){0, 0}).number;
+    return fots_duration_compare(duration, (fots_duration){0, 0, 0}).number;
 }
 
 static uint32_t duration_is_zero(fots_duration duration) { return sign_of(duration) == 0; }
@@ -160,7 +160,7 @@ static fots_exact_period_result period_create(int32_t years, int32_t months, int
     fots_period period = {years, months, weeks, days, duration};
     fots_pair_result moved = fots_pair_add_period((fots_date){UNIX_EPOCH}, (fots_time){0}, period);
     int is_invalid = moved.status == FOTS_INVALID_PERIOD;
-    return (fots_exact_period_result){is_invalid ? moved.status : FOTS_OK, period};
+    return (fots_exact_period_result){is_invalid ? moved.status : FOTS_OK, 0, period};
 }
 
 /* The least int32_t has no opposite. */
@@ -170,9 +170,9 @@ static fots_exact_period_result period_negative(fots_period own)
     int is_outside = own.years == INT32_MIN || own.months == INT32_MIN || own.weeks == INT32_MIN ||
         own.days == INT32_MIN || duration.status;
     if (is_outside) {
-        return (fots_exact_period_result){FOTS_RESULT_OUT_OF_RANGE, own};
+        return (fots_exact_period_result){FOTS_RESULT_OUT_OF_RANGE, 0, own};
     }
-    return (fots_exact_period_result){FOTS_OK,
+    return (fots_exact_period_result){FOTS_OK, 0,
         {-own.years, -own.months, -own.weeks, -own.days, duration.duration}};
 }
 

@@ -46,7 +46,7 @@ static PyObject *workdays_create(PyTypeObject *type, PyObject *arguments,
         Py_DECREF(self);
         return raise_status(workdays_state_of_type(type), made.status);
     }
-    *WORKDAYS(self) = (fots_workdays_view){weekmask, holidays, length, counts, length + 1};
+    *WORKDAYS(self) = (fots_workdays_view){weekmask, 0, holidays, length, counts, length + 1};
     return self;
 }
 

@@ -53,7 +53,7 @@ later-is j k u h there =
 
 -- The moment with a later Julian day j + k and the time u.
 pub later_moment : (j k l offset : ℤ) (t u : ℕ) → IsJulianDay j → t < day → IsJulianDay (j +ℤ k) → l ≡ j +ℤ k → u ≡ t
-    → IsMomentOrError RESULT_OUT_OF_RANGE (later (day_of j) k t) offset (record { status = OK; moment = record { date = l; offset = offset; time = u } })
+    → IsMomentOrError RESULT_OUT_OF_RANGE (later (day_of j) k t) offset (record { status = OK; unused = 0; moment = record { date = l; offset = offset; time = u } })
 later_moment j k l offset t u h below there same_day same_time =
     let n = day_of (j +ℤ k) in
     let is = later-is j k t h there in
@@ -61,5 +61,5 @@ later_moment j k l offset t u h below there same_day same_time =
     let times : u ≡ time_at (later (day_of j) k t) = same_time ∙ sym (ap time_at is ∙ time_at-date_time n t below) in
     record {
       none = λ out. absurd (out (subst IsDateTime (sym is) (IsDateTime-date_time n t (IsDate-day_of (j +ℤ k) there) below)));
-      moment = λ h i. record { status = OK; moment = record { date = dates i; offset = offset; time = times i } };
+      moment = λ h i. record { status = OK; unused = 0; moment = record { date = dates i; offset = offset; time = times i } };
     }

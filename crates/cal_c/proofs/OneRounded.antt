@@ -54,8 +54,9 @@ by_mode-one k = by_number-one mode_number mode_of mode-known k
 stable_time : (r s : TimeResult) → Stable (r ≡ s)
 stable_time r s never =
     let status = stable_z r.status s.status (of_field (λ (x : TimeResult). x.status) r s never) in
+    let unused = stable_n r.unused s.unused (of_field (λ (x : TimeResult). x.unused) r s never) in
     let time = stable_n r.time s.time (of_field (λ (x : TimeResult). x.time) r s never) in
-    λ i. record { status = status i; time = time i }
+    λ i. record { status = status i; unused = unused i; time = time i }
 
 time_result-one : (mode : RoundingMode) (u t : ℕ) (r s : TimeResult) → 0 < u → IsRoundedTimeResult mode u t r → IsRoundedTimeResult mode u t s → r ≡ s
 time_result-one mode u t r s some (a, h, e) (b, k, f) = e ∙ ap time_ok (time-one mode u t a b some h k) ∙ sym f

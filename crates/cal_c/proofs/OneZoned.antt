@@ -42,23 +42,27 @@ use Rattle.cal_c.specs.declared.schedule.periods.PeriodParts.{PeriodParts}
 pub stable_moment : (r s : MomentResult) → Stable (r ≡ s)
 stable_moment r s never =
     let status = stable_z r.status s.status (of_field (λ (x : MomentResult). x.status) r s never) in
+    let unused = stable_n r.unused s.unused (of_field (λ (x : MomentResult). x.unused) r s never) in
     let date = stable_z r.moment.date s.moment.date (of_field (λ (x : MomentResult). x.moment.date) r s never) in
     let offset = stable_z r.moment.offset s.moment.offset (of_field (λ (x : MomentResult). x.moment.offset) r s never) in
     let time = stable_n r.moment.time s.moment.time (of_field (λ (x : MomentResult). x.moment.time) r s never) in
-    λ i. record { status = status i; moment = record { date = date i; offset = offset i; time = time i } }
+    λ i. record { status = status i; unused = unused i; moment = record { date = date i; offset = offset i; time = time i } }
 
 pub stable_duration : (r s : DurationResult) → Stable (r ≡ s)
 stable_duration r s never =
     let status = stable_z r.status s.status (of_field (λ (x : DurationResult). x.status) r s never) in
+    let unused = stable_n r.unused s.unused (of_field (λ (x : DurationResult). x.unused) r s never) in
     let seconds = stable_z r.duration.seconds s.duration.seconds (of_field (λ (x : DurationResult). x.duration.seconds) r s never) in
     let nanoseconds = stable_z r.duration.nanoseconds s.duration.nanoseconds (of_field (λ (x : DurationResult). x.duration.nanoseconds) r s never) in
-    λ i. record { status = status i; duration = record { seconds = seconds i; nanoseconds = nanoseconds i } }
+    let past = stable_n r.duration.unused s.duration.unused (of_field (λ (x : DurationResult). x.duration.unused) r s never) in
+    λ i. record { status = status i; unused = unused i; duration = record { seconds = seconds i; nanoseconds = nanoseconds i; unused = past i } }
 
 stable_int64 : (r s : Int64Result) → Stable (r ≡ s)
 stable_int64 r s never =
     let status = stable_z r.status s.status (of_field (λ (x : Int64Result). x.status) r s never) in
+    let unused = stable_n r.unused s.unused (of_field (λ (x : Int64Result). x.unused) r s never) in
     let number = stable_z r.number s.number (of_field (λ (x : Int64Result). x.number) r s never) in
-    λ i. record { status = status i; number = number i }
+    λ i. record { status = status i; unused = unused i; number = number i }
 
 -- ---- numbers of policies and units
 policy_of : ℕ → Policy
@@ -218,15 +222,18 @@ end_of-one z m unit r s =
 pub stable_period : (r s : ExactPeriodResult) → Stable (r ≡ s)
 stable_period r s never =
     let status = stable_z r.status s.status (of_field (λ (x : ExactPeriodResult). x.status) r s never) in
+    let unused = stable_n r.unused s.unused (of_field (λ (x : ExactPeriodResult). x.unused) r s never) in
     let years = stable_z r.period.years s.period.years (of_field (λ (x : ExactPeriodResult). x.period.years) r s never) in
     let months = stable_z r.period.months s.period.months (of_field (λ (x : ExactPeriodResult). x.period.months) r s never) in
     let weeks = stable_z r.period.weeks s.period.weeks (of_field (λ (x : ExactPeriodResult). x.period.weeks) r s never) in
     let days = stable_z r.period.days s.period.days (of_field (λ (x : ExactPeriodResult). x.period.days) r s never) in
     let seconds = stable_z r.period.duration.seconds s.period.duration.seconds (of_field (λ (x : ExactPeriodResult). x.period.duration.seconds) r s never) in
     let nanoseconds = stable_z r.period.duration.nanoseconds s.period.duration.nanoseconds (of_field (λ (x : ExactPeriodResult). x.period.duration.nanoseconds) r s never) in
+    let past = stable_n r.period.duration.unused s.period.duration.unused (of_field (λ (x : ExactPeriodResult). x.period.duration.unused) r s never) in
     λ i. record {
       status = status i;
-      period = record { years = years i; months = months i; weeks = weeks i; days = days i; duration = record { seconds = seconds i; nanoseconds = nanoseconds i } };
+      unused = unused i;
+      period = record { years = years i; months = months i; weeks = weeks i; days = days i; duration = record { seconds = seconds i; nanoseconds = nanoseconds i; unused = past i } };
     }
 
 pub period_with-one : {Has : Parts → Type 0} (r s : ExactPeriodResult) → ((p q : Parts) → Has p → Has q → p ≡ q) → IsExactPeriodWith Has r → IsExactPeriodWith Has s → r ≡ s

@@ -23,18 +23,18 @@ need_by : {Is A B C D : Type 0} → (A → B) → (C → D) → need Is else A t
 need_by f g h = record { error = λ out. f (h.error out); value = λ is. g (h.value is) }
 
 -- ---- times of day
-time_same : (r x : TimeResult) (b : ℕ) → IsByteOf b r.status → IsByte x.status → r ≡ x → time_row r.time b ≡ x
-time_same r x b byte is e =
+time_same : (r x : TimeResult) (b : ℕ) → IsByteOf b r.status → IsByte x.status → 0 ≡ x.unused → r ≡ x → time_row r.time b ≡ x
+time_same r x b byte is zero e =
     let status = a_byte b r.status x.status byte (ap (λ y. y.status) e) is in
     let time = ap (λ y. y.time) e in
-    λ i. record { status = status i; time = time i }
+    λ i. record { status = status i; unused = zero i; time = time i }
 
 pub time_rounded : (time : ℕ) (unit : Duration) (mode : ℕ) (r : TimeResult) (b : ℕ) → IsByteOf b r.status → IsTimeRoundedTo time unit mode r → IsTimeRoundedTo time unit mode (time_row r.time b)
 time_rounded time unit mode r b byte h =
-    need_by (time_same r (time_error INVALID_TIME) b byte (omega (arith, ints), omega (arith, ints)))
-    (need_by (time_same r (time_error INVALID_ROUNDING_UNIT) b byte (omega (arith, ints), omega (arith, ints)))
-    (need_by (time_same r (time_error INVALID_ROUNDING_MODE) b byte (omega (arith, ints), omega (arith, ints)))
-    (λ found. (found.0, found.1, (found.2.0, found.2.1, time_same r (time_ok found.2.0) b byte (omega (arith, ints), omega (arith, ints)) found.2.2))))) h
+    need_by (time_same r (time_error INVALID_TIME) b byte (omega (arith, ints), omega (arith, ints)) refl)
+    (need_by (time_same r (time_error INVALID_ROUNDING_UNIT) b byte (omega (arith, ints), omega (arith, ints)) refl)
+    (need_by (time_same r (time_error INVALID_ROUNDING_MODE) b byte (omega (arith, ints), omega (arith, ints)) refl)
+    (λ found. (found.0, found.1, (found.2.0, found.2.1, time_same r (time_ok found.2.0) b byte (omega (arith, ints), omega (arith, ints)) refl found.2.2))))) h
 
 -- ---- dates and times of day
 pair_same : (r x : PairResult) (b : ℕ) → FitsSigned w32 r.date → IsByteOf b r.status → IsByte x.status → r ≡ x → pair_row (to_z w32 (of_z w32 r.date)) r.time b ≡ x
@@ -67,15 +67,15 @@ part_byte Hours = (omega (arith, ints), omega (arith, ints))
 part_byte Minutes = (omega (arith, ints), omega (arith, ints))
 part_byte Seconds = (omega (arith, ints), omega (arith, ints))
 
-pub duration_same : (r : ParseDurationResult) (d : Duration) (x : DurationResult) (b : ℕ) → d ≡ r.duration → IsByteOf b r.status → IsByte x.status → r.status ≡ x.status → r.duration ≡ x.duration
-    → duration_row d.seconds d.nanoseconds b ≡ x
-duration_same r d x b from byte is es ed =
+pub duration_same : (r : ParseDurationResult) (d : Duration) (x : DurationResult) (b : ℕ) → d ≡ r.duration → IsByteOf b r.status → IsByte x.status → 0 ≡ x.unused → 0 ≡ x.duration.unused → r.status ≡ x.status
+    → r.duration ≡ x.duration → duration_row d.seconds d.nanoseconds b ≡ x
+duration_same r d x b from byte is zero last_zero es ed =
     let status = a_byte b r.status x.status byte es is in
     let seconds = ap (λ y. y.seconds) (from ∙ ed) in
     let nanoseconds = ap (λ y. y.nanoseconds) (from ∙ ed) in
-    λ i. record { status = status i; duration = record { seconds = seconds i; nanoseconds = nanoseconds i } }
+    λ i. record { status = status i; unused = zero i; duration = record { seconds = seconds i; nanoseconds = nanoseconds i; unused = last_zero i } }
 
 pub duration_unreadable : (IsText : List ℕ → Type 0) (bytes : List ℕ) (r : ParseDurationResult) (d : Duration) (b : ℕ) → d ≡ r.duration → IsByteOf b r.status
     → IsSyntaxError IsText bytes parsed_duration_error_at r → (at : ℕ) × (s : ℤ) × StopsAt IsText bytes at s × (duration_row d.seconds d.nanoseconds b ≡ duration_error s)
 duration_unreadable IsText bytes r d b from byte its =
-    (its.0, its.1, its.2, duration_same r d (duration_error its.1) b from byte (stop_byte IsText bytes its.0 its.1 its.2) (ap (λ y. y.status) its.3) (ap (λ y. y.duration) its.3))
+    (its.0, its.1, its.2, duration_same r d (duration_error its.1) b from byte (stop_byte IsText bytes its.0 its.1 its.2) refl refl (ap (λ y. y.status) its.3) (ap (λ y. y.duration) its.3))

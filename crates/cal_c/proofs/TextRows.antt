@@ -75,12 +75,12 @@ date_of_unreadable IsText bytes r b fits byte its =
 -- ---- moments
 moment-row : (r : ParseMomentResult) (b : ℕ) (s d : ℤ) (t : ℕ) (o : ℤ) → FitsSigned w32 r.date → FitsSigned w32 r.offset → IsByteOf b r.status → IsByte s
     → r.status ≡ s → r.date ≡ d → r.time ≡ t → r.offset ≡ o
-    → moment_row (to_z w32 (of_z w32 r.date)) r.time (to_z w32 (of_z w32 r.offset)) b ≡ record { status = s; moment = record { date = d; offset = o; time = t } }
+    → moment_row (to_z w32 (of_z w32 r.date)) r.time (to_z w32 (of_z w32 r.offset)) b ≡ record { status = s; unused = 0; moment = record { date = d; offset = o; time = t } }
 moment-row r b s d t o fits fits_o byte is es ed et eo =
     ap (λ x. moment_row x r.time (to_z w32 (of_z w32 r.offset)) b) (to_z-of_z w32 r.date fits ∙ ed)
     ∙ ap (λ x. moment_row d x (to_z w32 (of_z w32 r.offset)) b) et
     ∙ ap (λ x. moment_row d t x b) (to_z-of_z w32 r.offset fits_o ∙ eo)
-    ∙ ap (λ x. record { status = x; moment = record { date = d; offset = o; time = t } }) (a_byte b r.status s byte es is)
+    ∙ ap (λ x. record { status = x; unused = 0; moment = record { date = d; offset = o; time = t } }) (a_byte b r.status s byte es is)
 
 pub moment_of_done : (r : ParseMomentResult) (b : ℕ) (m : LocalAndOffset) → FitsSigned w32 r.date → FitsSigned w32 r.offset → IsByteOf b r.status → r ≡ parsed_moment_ok m
     → moment_row (to_z w32 (of_z w32 r.date)) r.time (to_z w32 (of_z w32 r.offset)) b ≡ moment_ok m

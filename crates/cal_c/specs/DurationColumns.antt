@@ -19,13 +19,13 @@ use Rattle.cal_c.specs.declared.status.TheConstants.{OK, INVALID_BOUNDS, INVALID
 
 -- ---- a row of several arrays, which is the result of the single call
 abbrev pub time_row : ℕ → ℕ → TimeResult
-time_row time status = record { status = pos status; time = time }
+time_row time status = record { status = pos status; unused = 0; time = time }
 
 abbrev pub pair_row : ℤ → ℕ → ℕ → PairResult
 pair_row date time status = record { status = pos status; date = date; time = time }
 
 abbrev pub duration_row : ℤ → ℤ → ℕ → DurationResult
-duration_row seconds nanoseconds status = record { status = pos status; duration = record { seconds = seconds; nanoseconds = nanoseconds } }
+duration_row seconds nanoseconds status = record { status = pos status; unused = 0; duration = record { seconds = seconds; nanoseconds = nanoseconds; unused = 0 } }
 
 -- The result of `fots_duration_parse` without the position.
 pub record IsParsedDuration (bytes : List ℕ) (r : DurationResult) : Type 0 where
@@ -45,4 +45,4 @@ pub record IsDurationTextRow (d : Duration) (bytes : List ℕ) (status : ℕ) : 
 
 -- The duration of a row.
 abbrev pub duration_at : ℤ → ℤ → Duration
-duration_at seconds nanoseconds = record { seconds = seconds; nanoseconds = nanoseconds }
+duration_at seconds nanoseconds = record { seconds = seconds; nanoseconds = nanoseconds; unused = 0 }

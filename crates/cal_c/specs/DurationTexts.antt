@@ -31,16 +31,16 @@ of_duration_error error_at (OutOfRange why) = error_at (duration_part_status why
 
 -- The results of parsing: the position is the maximum u64 if the bytes have the form.
 abbrev pub parsed_duration_ok : ℤ → ParseDurationResult
-parsed_duration_ok v = record { status = OK; duration = (duration_ok v).duration; position = no_position }
+parsed_duration_ok v = record { status = OK; unused = 0; duration = (duration_ok v).duration; position = no_position }
 
 abbrev pub parsed_duration_error_at : ℤ → ℕ → ParseDurationResult
-parsed_duration_error_at s at = record { status = s; duration = (duration_error s).duration; position = at }
+parsed_duration_error_at s at = record { status = s; unused = 0; duration = (duration_error s).duration; position = at }
 
 abbrev pub parsed_period_ok : Parts → ParsePeriodResult
-parsed_period_ok p = record { status = OK; period = (exact_period_ok p).period; position = no_position }
+parsed_period_ok p = record { status = OK; unused = 0; period = (exact_period_ok p).period; position = no_position }
 
 abbrev pub parsed_period_error_at : ℤ → ℕ → ParsePeriodResult
-parsed_period_error_at s at = record { status = s; period = (exact_period_error s).period; position = at }
+parsed_period_error_at s at = record { status = s; unused = 0; period = (exact_period_error s).period; position = at }
 
 -- The result with the string of a period, filled with zeros up to 88 bytes.
 abbrev pub period_text_ok : List ℕ → PeriodTextResult

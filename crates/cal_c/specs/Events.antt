@@ -53,7 +53,7 @@ event_status OtherEnd = OTHER_END
 
 -- The result without an event.
 abbrev pub no_event : ℤ → ℕ → EventResult
-no_event s position = record { status = s; position = position; length = 0; next = no_position }
+no_event s position = record { status = s; unused = 0; position = position; length = 0; next = no_position }
 
 -- The position after an event, in a text of `size` bytes, from the bytes after it.
 abbrev pub end_of_event : ℕ → Option (Bor (List ℕ)) → ℕ
@@ -63,7 +63,7 @@ end_of_event size (Some rest) = size - length rest.now
 -- The result with the first event of a text of `size` bytes.
 abbrev pub found_event : ℕ → Result (Option Event) ParseEventError → EventResult
 found_event size (Ok None) = no_event RESULT_OUT_OF_RANGE no_position
-found_event size (Ok (Some e)) = record { status = OK; position = e.position; length = length e.lines.now; next = end_of_event size e.rest }
+found_event size (Ok (Some e)) = record { status = OK; unused = 0; position = e.position; length = length e.lines.now; next = end_of_event size e.rest }
 found_event size (Err e) = no_event (event_status e.reason) e.position
 
 -- ---- the first wrong line of a set
@@ -123,7 +123,7 @@ pub record IsSetTextWritten (text old new : List ℕ) (r : EventSetResult) : Typ
 -- The result with a day and a time of day at the offset 0. A date has the kind 1, a local time 2, and a
 -- time in UTC 3.
 abbrev pub start_at : ℕ → ℕ → ℕ → EventStartResult
-start_at n time kind = record { status = OK; line = 0; position = no_position; date = julian_day_at n; offset = pos 0; time = time; kind = kind }
+start_at n time kind = record { status = OK; line = 0; position = no_position; date = julian_day_at n; offset = pos 0; time = time; kind = kind; unused = 0 }
 
 -- The result with a start. A date is its midnight.
 abbrev pub event_start_ok : DateOrTime → EventStartResult
@@ -141,6 +141,7 @@ event_start_error error = record {
   offset = no_value;
   time = 18_446_744_073_709_551_615;
   kind = 0;
+  unused = 0;
 }
 
 -- ---- days

@@ -42,10 +42,10 @@ IsTextOfMoment items text m =
 -- ---- results
 -- The result with a time of day or an offset, or with an error at a position.
 abbrev pub parsed_time_ok : ℕ → ParseTimeResult
-parsed_time_ok t = record { status = OK; time = t; position = no_position }
+parsed_time_ok t = record { status = OK; unused = 0; time = t; position = no_position }
 
 abbrev pub parsed_time_error_at : ℤ → ℕ → ParseTimeResult
-parsed_time_error_at s at = record { status = s; time = 18_446_744_073_709_551_615; position = at }
+parsed_time_error_at s at = record { status = s; unused = 0; time = 18_446_744_073_709_551_615; position = at }
 
 abbrev pub parsed_offset_ok : ℤ → ParseOffsetResult
 parsed_offset_ok o = record { status = OK; offset = o; position = no_position }

@@ -6,14 +6,14 @@ use Rattle.cal_c.specs.declared.formats.results.LengthResult.{LengthResult}
 -- ---- the length of a string
 -- The result with the length of a string, or with an error.
 abbrev pub length_ok : ℕ → LengthResult
-length_ok n = record { status = OK; length = n }
+length_ok n = record { status = OK; unused = 0; length = n }
 
 abbrev pub length_error : ℤ → LengthResult
-length_error s = record { status = s; length = 0 }
+length_error s = record { status = s; unused = 0; length = 0 }
 
 -- The buffer is too short for a string of n bytes.
 abbrev pub too_short : ℕ → LengthResult
-too_short n = record { status = BUFFER_TOO_SHORT; length = n }
+too_short n = record { status = BUFFER_TOO_SHORT; unused = 0; length = n }
 
 -- The call fails, and the buffer stays as it is.
 pub record IsUnprinted (old new : List ℕ) (r error : LengthResult) : Type 0 where

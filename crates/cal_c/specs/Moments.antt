@@ -28,12 +28,12 @@ local_and_offset_in m = record { local = local_in m; offset = m.offset }
 -- The result with a moment.
 abbrev pub moment_ok : LocalAndOffset → MomentResult
 moment_ok m =
-    record { status = OK; moment = record { date = julian_day_at (date_at m.local); offset = m.offset; time = time_at m.local } }
+    record { status = OK; unused = 0; moment = record { date = julian_day_at (date_at m.local); offset = m.offset; time = time_at m.local } }
 
 -- The result with an error.
 abbrev pub moment_error : ℤ → MomentResult
 moment_error s =
-    record { status = s; moment = record { date = no_value; offset = no_value; time = 18_446_744_073_709_551_615 } }
+    record { status = s; unused = 0; moment = record { date = no_value; offset = no_value; time = 18_446_744_073_709_551_615 } }
 
 -- The result is the moment of a local date-time at an offset, or the error s if the local date-time
 -- is out of range.

@@ -56,24 +56,26 @@ IsPairAfter z p n r = IsPairAfterBy z (n *ℤ months_of p) (n *ℤ days_of p) (n
 abbrev pub exact_period_ok : Parts → ExactPeriodResult
 exact_period_ok p = record {
   status = OK;
+  unused = 0;
   period = record {
     years = p.years;
     months = p.months;
     weeks = p.weeks;
     days = p.days;
-    duration = record { seconds = cut p.exact (pos second); nanoseconds = subsec_nanoseconds p.exact };
+    duration = record { seconds = cut p.exact (pos second); nanoseconds = subsec_nanoseconds p.exact; unused = 0 };
   };
 }
 
 abbrev pub exact_period_error : ℤ → ExactPeriodResult
 exact_period_error s = record {
   status = s;
+  unused = 0;
   period = record {
     years = no_value;
     months = no_value;
     weeks = no_value;
     days = no_value;
-    duration = record { seconds = neg_ℤ (pos 9_223_372_036_854_775_808); nanoseconds = no_value };
+    duration = record { seconds = neg_ℤ (pos 9_223_372_036_854_775_808); nanoseconds = no_value; unused = 0 };
   };
 }
 

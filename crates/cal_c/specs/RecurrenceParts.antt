@@ -102,5 +102,5 @@ no_parts = record {
 
 -- The result of parsing: the parts of the recurrence, or the first wrong part of the string.
 abbrev pub parse_recurrence_result : Result Recurrence ParseRuleError → ParseRecurrenceResult
-parse_recurrence_result (Ok its) = record { status = OK; part = 0; position = no_position; recurrence = parts_of its }
-parse_recurrence_result (Err fault) = record { status = reason_status fault.reason; part = error_part fault.reason; position = fault.position; recurrence = no_parts }
+parse_recurrence_result (Ok its) = record { status = OK; part = 0; position = no_position; recurrence = parts_of its; unused = 0 }
+parse_recurrence_result (Err fault) = record { status = reason_status fault.reason; part = error_part fault.reason; position = fault.position; recurrence = no_parts; unused = 0 }

@@ -65,12 +65,12 @@ recurrence_parse_error fault =
 -- The result with a string, filled with zeros up to 4064 bytes.
 abbrev pub recurrence_text_ok : List ℕ → RecurrenceTextResult
 recurrence_text_ok text =
-    record { status = OK; part = 0; position = no_position; length = length text; bytes = text ++ replicate (4064 - length text) 0 }
+    record { status = OK; part = 0; position = no_position; length = length text; bytes = text ++ replicate (4064 - length text) 0; unused = 0 }
 
 -- The result with the first wrong part of the string.
 abbrev pub recurrence_text_error : ParseRuleError → RecurrenceTextResult
 recurrence_text_error fault =
-    record { status = reason_status fault.reason; part = error_part fault.reason; position = fault.position; length = 0; bytes = replicate 4064 0 }
+    record { status = reason_status fault.reason; part = error_part fault.reason; position = fault.position; length = 0; bytes = replicate 4064 0; unused = 0 }
 
 -- The result of parsing a string and writing its recurrence.
 abbrev pub recurrence_text_result : Result Recurrence ParseRuleError → RecurrenceTextResult

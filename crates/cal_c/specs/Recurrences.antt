@@ -143,11 +143,11 @@ set_in p = record {
 
 -- The result with a number of days written.
 abbrev pub days_ok : ℕ → DaysResult
-days_ok count = record { status = OK; length = count }
+days_ok count = record { status = OK; unused = 0; length = count }
 
 -- The result with an error.
 abbrev pub days_error : ℤ → DaysResult
-days_error s = record { status = s; length = 0 }
+days_error s = record { status = s; unused = 0; length = 0 }
 
 -- The first days of a list were written, as many as fit in the array, and the rest of the array is
 -- unchanged.

@@ -80,10 +80,10 @@ iso_week_date_error s = record { status = s; year = no_value; week = 0; weekday 
 -- ---- durations
 -- The result with the whole seconds and the remaining nanoseconds of v.
 abbrev pub duration_ok : ℤ → DurationResult
-duration_ok v = record { status = OK; duration = record { seconds = cut v (pos second); nanoseconds = subsec_nanoseconds v } }
+duration_ok v = record { status = OK; unused = 0; duration = record { seconds = cut v (pos second); nanoseconds = subsec_nanoseconds v; unused = 0 } }
 
 abbrev pub duration_error : ℤ → DurationResult
-duration_error s = record { status = s; duration = record { seconds = neg_ℤ (pos 9_223_372_036_854_775_808); nanoseconds = no_value } }
+duration_error s = record { status = s; unused = 0; duration = record { seconds = neg_ℤ (pos 9_223_372_036_854_775_808); nanoseconds = no_value; unused = 0 } }
 
 -- The result is a duration, or out of range for `None`.
 abbrev pub duration_or_out_of_range : Option ℤ → DurationResult
@@ -96,10 +96,10 @@ pub record IsDurationOrOutOfRange (v : ℤ) (r : DurationResult) : Type 0 where
   pub duration : IsDuration v → r ≡ duration_ok v
 
 abbrev pub int64_ok : ℤ → Int64Result
-int64_ok z = record { status = OK; number = z }
+int64_ok z = record { status = OK; unused = 0; number = z }
 
 abbrev pub int64_error : ℤ → Int64Result
-int64_error s = record { status = s; number = neg_ℤ (pos 9_223_372_036_854_775_808) }
+int64_error s = record { status = s; unused = 0; number = neg_ℤ (pos 9_223_372_036_854_775_808) }
 
 -- The result is the number z, or out of range if it doesn't fit in 64 bits.
 pub record IsInt64OrOutOfRange (z : ℤ) (r : Int64Result) : Type 0 where
@@ -108,11 +108,11 @@ pub record IsInt64OrOutOfRange (z : ℤ) (r : Int64Result) : Type 0 where
 
 -- ---- times
 abbrev pub time_ok : ℕ → TimeResult
-time_ok t = record { status = OK; time = t }
+time_ok t = record { status = OK; unused = 0; time = t }
 
 -- The maximum u64 is not a time of day.
 abbrev pub time_error : ℤ → TimeResult
-time_error s = record { status = s; time = 18_446_744_073_709_551_615 }
+time_error s = record { status = s; unused = 0; time = 18_446_744_073_709_551_615 }
 
 abbrev pub hms_nano_ok : ℕ → HmsNanoResult
 hms_nano_ok t = record { status = OK; hour = hour_of t; minute = minute_of t; second = second_of t; nanosecond = nanosecond_of t }

@@ -51,7 +51,7 @@ pub record ArePrinted (old new : List ℕ) (bounds : List ℤ) (statuses : List 
 
 -- ---- a row of several arrays, which is the result of the single call
 abbrev pub moment_row : ℤ → ℕ → ℤ → ℕ → MomentResult
-moment_row date time offset status = record { status = pos status; moment = record { date = date; offset = offset; time = time } }
+moment_row date time offset status = record { status = pos status; unused = 0; moment = record { date = date; offset = offset; time = time } }
 
 -- The result of `fots_date_parse` without the position.
 pub record IsParsedDate (bytes : List ℕ) (r : DateResult) : Type 0 where

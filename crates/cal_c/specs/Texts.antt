@@ -74,10 +74,10 @@ parsed_date_error s = parsed_date_error_at s no_position
 
 abbrev pub parsed_moment_ok : LocalAndOffset → ParseMomentResult
 parsed_moment_ok m =
-    record { status = OK; date = julian_day_at (date_at m.local); time = time_at m.local; offset = m.offset; position = no_position }
+    record { status = OK; date = julian_day_at (date_at m.local); time = time_at m.local; offset = m.offset; unused = 0; position = no_position }
 
 abbrev pub parsed_moment_error_at : ℤ → ℕ → ParseMomentResult
-parsed_moment_error_at s at = record { status = s; date = no_value; time = 18_446_744_073_709_551_615; offset = no_value; position = at }
+parsed_moment_error_at s at = record { status = s; date = no_value; time = 18_446_744_073_709_551_615; offset = no_value; unused = 0; position = at }
 
 abbrev pub parsed_moment_error : ℤ → ParseMomentResult
 parsed_moment_error s = parsed_moment_error_at s no_position

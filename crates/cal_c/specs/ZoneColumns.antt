@@ -18,7 +18,7 @@ abbrev pub offset_row : ℤ → ℕ → OffsetResult
 offset_row offset status = record { status = pos status; offset = offset }
 
 abbrev pub int64_row : ℤ → ℕ → Int64Result
-int64_row number status = record { status = pos status; number = number }
+int64_row number status = record { status = pos status; unused = 0; number = number }
 
 -- The result of `fots_zone_offset`.
 pub record IsOffsetAt (c : CheckedZone) (seconds : ℤ) (r : OffsetResult) : Type 0 where

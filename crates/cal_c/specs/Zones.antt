@@ -138,6 +138,7 @@ zone_status kinds.Trailing = TRAILING_BYTES
 -- The result has the parts of this zone.
 pub record IsPartsOf (bytes : List ℕ) (z : Timeline) (r : PartsResult) : Type 0 where
   pub status : r.status ≡ OK
+  pub unused : r.unused ≡ 0
   pub position : r.position ≡ no_position
   pub parts : HasParts bytes r.parts
   pub zone : zone_of_parts bytes r.parts ≡ z
@@ -145,6 +146,7 @@ pub record IsPartsOf (bytes : List ℕ) (z : Timeline) (r : PartsResult) : Type 
 -- The result has this error, and parts that each call rejects with any bytes.
 pub record IsPartsError (e : ZoneError) (r : PartsResult) : Type 0 where
   pub status : r.status ≡ zone_status e.kind
+  pub unused : r.unused ≡ 0
   pub position : r.position ≡ e.position
   pub rejected : (bytes : List ℕ) → HasParts bytes r.parts → ⊥
 
@@ -166,12 +168,13 @@ local_type_ok bytes t = record {
   status = OK;
   offset = t.offset;
   is_daylight = daylight_number t.is_daylight;
+  unused = 0;
   abbreviation = t.name_start;
   abbreviation_length = length (abbreviation bytes t.name_start t.name_end);
 }
 
 abbrev pub local_type_error : ℤ → LocalTypeResult
-local_type_error s = record { status = s; offset = no_value; is_daylight = 0; abbreviation = no_position; abbreviation_length = 0 }
+local_type_error s = record { status = s; offset = no_value; is_daylight = 0; unused = 0; abbreviation = no_position; abbreviation_length = 0 }
 
 -- The result is the Unix time of the next or the previous change, or out of range without one.
 pub data IsNextResult (z : Timeline) (seconds : ℤ) (r : Int64Result) : Type 0 where

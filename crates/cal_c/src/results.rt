@@ -17,6 +17,8 @@ use cal_time::{Date, SignedDuration, Time, UtcOffset};
 pub struct Duration {
     pub seconds: i64,
     pub nanoseconds: i32,
+    /// 0, in place of padding.
+    pub unused: u32,
 }
 
 /// A result with a date, as its Julian day. After an error it is `i32::MIN`.
@@ -40,6 +42,8 @@ pub struct NumberResult {
 #[derive(Clone, Copy, Debug)]
 pub struct DurationResult {
     pub status: i32,
+    /// 0, in place of padding.
+    pub unused: u32,
     pub duration: Duration,
 }
 
@@ -48,6 +52,8 @@ pub struct DurationResult {
 #[derive(Clone, Copy, Debug)]
 pub struct TimeResult {
     pub status: i32,
+    /// 0, in place of padding.
+    pub unused: u32,
     pub time: u64,
 }
 
@@ -96,6 +102,8 @@ pub struct OffsetHmsResult {
 #[derive(Clone, Copy, Debug)]
 pub struct Int64Result {
     pub status: i32,
+    /// 0, in place of padding.
+    pub unused: u32,
     pub number: i64,
 }
 
@@ -226,9 +234,11 @@ impl DurationResult {
     {
         DurationResult {
             status: OK,
+            unused: 0,
             duration: Duration {
                 seconds: duration.whole_seconds(),
                 nanoseconds: duration.subsec_nanoseconds(),
+                unused: 0,
             },
         }
     }
@@ -245,9 +255,11 @@ impl DurationResult {
     {
         DurationResult {
             status,
+            unused: 0,
             duration: Duration {
                 seconds: i64::MIN,
                 nanoseconds: i32::MIN,
+                unused: 0,
             },
         }
     }
@@ -259,6 +271,7 @@ impl TimeResult {
     {
         TimeResult {
             status: OK,
+            unused: 0,
             time: nanoseconds_since_midnight(time),
         }
     }
@@ -268,6 +281,7 @@ impl TimeResult {
     {
         TimeResult {
             status,
+            unused: 0,
             time: u64::MAX,
         }
     }
@@ -346,7 +360,11 @@ impl Int64Result {
     pub fn ok(number: i64) -> Self
         ensures { result ≡ int64_ok number }
     {
-        Int64Result { status: OK, number }
+        Int64Result {
+            status: OK,
+            unused: 0,
+            number,
+        }
     }
 
     /// Returns the result of a number, or of an error if it doesn't fit in an `i64`.
@@ -362,6 +380,7 @@ impl Int64Result {
     {
         Int64Result {
             status,
+            unused: 0,
             number: i64::MIN,
         }
     }
@@ -408,6 +427,8 @@ pub struct Moment {
 #[derive(Clone, Copy, Debug)]
 pub struct MomentResult {
     pub status: i32,
+    /// 0, in place of padding.
+    pub unused: u32,
     pub moment: Moment,
 }
 
@@ -417,6 +438,7 @@ impl MomentResult {
     {
         MomentResult {
             status: OK,
+            unused: 0,
             moment: Moment {
                 date: moment.date().to_julian_day(),
                 offset: moment.offset().whole_seconds(),
@@ -430,6 +452,7 @@ impl MomentResult {
     {
         MomentResult {
             status,
+            unused: 0,
             moment: Moment {
                 date: i32::MIN,
                 offset: i32::MIN,

@@ -45,6 +45,8 @@ pub struct ParseMomentResult {
     pub date: i32,
     pub time: u64,
     pub offset: i32,
+    /// 0, in place of padding.
+    pub unused: u32,
     pub position: usize,
 }
 
@@ -110,6 +112,7 @@ impl ParseMomentResult {
             date: moment.date().to_julian_day(),
             time: nanoseconds_since_midnight(moment.time()),
             offset: moment.offset().whole_seconds(),
+            unused: 0,
             position: usize::MAX,
         }
     }
@@ -128,6 +131,7 @@ impl ParseMomentResult {
             date: i32::MIN,
             time: u64::MAX,
             offset: i32::MIN,
+            unused: 0,
             position,
         }
     }

@@ -108,6 +108,7 @@ pub fn valid_duration(duration: Duration) -> Option<SignedDuration>
     let Duration {
         seconds,
         nanoseconds,
+        ..
     } = duration;
     if nanoseconds.unsigned_abs() >= NANOSECONDS_PER_SECOND {
         return None;

@@ -15,6 +15,8 @@ use cal_time::{Time, UtcOffset};
 #[derive(Clone, Copy, Debug)]
 pub struct ParseTimeResult {
     pub status: i32,
+    /// 0, in place of padding.
+    pub unused: u32,
     pub time: u64,
     pub position: usize,
 }
@@ -49,6 +51,7 @@ impl ParseTimeResult {
     {
         ParseTimeResult {
             status: OK,
+            unused: 0,
             time: nanoseconds_since_midnight(time),
             position: usize::MAX,
         }
@@ -65,6 +68,7 @@ impl ParseTimeResult {
     {
         ParseTimeResult {
             status,
+            unused: 0,
             time: u64::MAX,
             position,
         }

@@ -23,6 +23,8 @@ pub struct FormatResult {
 #[derive(Clone, Copy, Debug)]
 pub struct LengthResult {
     pub status: i32,
+    /// 0, in place of padding.
+    pub unused: u32,
     pub length: usize,
 }
 
@@ -57,13 +59,21 @@ impl LengthResult {
     pub fn ok(length: usize) -> Self
         ensures { result ≡ length_ok length }
     {
-        LengthResult { status: OK, length }
+        LengthResult {
+            status: OK,
+            unused: 0,
+            length,
+        }
     }
 
     pub fn error(status: i32) -> Self
         ensures { result ≡ length_error status }
     {
-        LengthResult { status, length: 0 }
+        LengthResult {
+            status,
+            unused: 0,
+            length: 0,
+        }
     }
 
     /// Returns the result of a string of this length that a buffer has no room for.
@@ -72,6 +82,7 @@ impl LengthResult {
     {
         LengthResult {
             status: BUFFER_TOO_SHORT,
+            unused: 0,
             length,
         }
     }

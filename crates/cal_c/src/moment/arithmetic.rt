@@ -57,6 +57,7 @@ fn at_later_day(moment: Moment, days: i64, time: Time) -> MomentResult
     );
     MomentResult {
         status: OK,
+        unused: 0,
         moment: Moment {
             date,
             offset: moment.offset,

@@ -25,6 +25,8 @@ use cal_zoned::{nth_period, period_until, step_of};
 #[derive(Clone, Copy, Debug)]
 pub struct ExactPeriodResult {
     pub status: i32,
+    /// 0, in place of padding.
+    pub unused: u32,
     pub period: PeriodParts,
 }
 
@@ -34,6 +36,7 @@ impl ExactPeriodResult {
     {
         ExactPeriodResult {
             status: OK,
+            unused: 0,
             period: PeriodParts {
                 years: period.years(),
                 months: period.months(),
@@ -42,6 +45,7 @@ impl ExactPeriodResult {
                 duration: Duration {
                     seconds: period.duration().whole_seconds(),
                     nanoseconds: period.duration().subsec_nanoseconds(),
+                    unused: 0,
                 },
             },
         }
@@ -52,6 +56,7 @@ impl ExactPeriodResult {
     {
         ExactPeriodResult {
             status,
+            unused: 0,
             period: PeriodParts {
                 years: i32::MIN,
                 months: i32::MIN,
@@ -60,6 +65,7 @@ impl ExactPeriodResult {
                 duration: Duration {
                     seconds: i64::MIN,
                     nanoseconds: i32::MIN,
+                    unused: 0,
                 },
             },
         }

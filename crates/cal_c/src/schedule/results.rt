@@ -31,6 +31,8 @@ pub struct YearFractionResult {
 #[derive(Clone, Copy, Debug)]
 pub struct DaysResult {
     pub status: i32,
+    /// 0, in place of padding.
+    pub unused: u32,
     pub length: usize,
 }
 
@@ -38,13 +40,21 @@ impl DaysResult {
     pub fn ok(length: usize) -> Self
         ensures { result ≡ days_ok length }
     {
-        DaysResult { status: OK, length }
+        DaysResult {
+            status: OK,
+            unused: 0,
+            length,
+        }
     }
 
     pub fn error(status: i32) -> Self
         ensures { result ≡ days_error status }
     {
-        DaysResult { status, length: 0 }
+        DaysResult {
+            status,
+            unused: 0,
+            length: 0,
+        }
     }
 }
 

@@ -43,6 +43,8 @@ pub struct PeriodTextResult {
 #[derive(Clone, Copy, Debug)]
 pub struct ParseDurationResult {
     pub status: i32,
+    /// 0, in place of padding.
+    pub unused: u32,
     pub duration: Duration,
     pub position: usize,
 }
@@ -52,6 +54,8 @@ pub struct ParseDurationResult {
 #[derive(Clone, Copy, Debug)]
 pub struct ParsePeriodResult {
     pub status: i32,
+    /// 0, in place of padding.
+    pub unused: u32,
     pub period: PeriodParts,
     pub position: usize,
 }
@@ -102,6 +106,7 @@ impl ParseDurationResult {
     {
         ParseDurationResult {
             status: OK,
+            unused: 0,
             duration: DurationResult::ok(duration).duration,
             position: usize::MAX,
         }
@@ -124,6 +129,7 @@ impl ParseDurationResult {
     {
         ParseDurationResult {
             status,
+            unused: 0,
             duration: DurationResult::error(status).duration,
             position,
         }
@@ -136,6 +142,7 @@ impl ParsePeriodResult {
     {
         ParsePeriodResult {
             status: OK,
+            unused: 0,
             period: ExactPeriodResult::ok(period).period,
             position: usize::MAX,
         }
@@ -158,6 +165,7 @@ impl ParsePeriodResult {
     {
         ParsePeriodResult {
             status,
+            unused: 0,
             period: ExactPeriodResult::error(status).period,
             position,
         }

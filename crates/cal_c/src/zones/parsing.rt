@@ -66,11 +66,13 @@ fn parts_result(parsed: Result<ZoneParts<'_>, ZoneError>) -> PartsResult
     match parsed {
         Ok(parts) => PartsResult {
             status: OK,
+            unused: 0,
             position: usize::MAX,
             parts: CheckedParts::new(parts),
         },
         Err(error) => PartsResult {
             status: zone_status(error.kind),
+            unused: 0,
             position: error.position,
             parts: CheckedParts::unset(),
         },

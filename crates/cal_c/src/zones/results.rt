@@ -13,6 +13,8 @@ use cal_zone::{Instants, LocalType};
 #[derive(Clone, Copy, Debug)]
 pub struct PartsResult {
     pub status: i32,
+    /// 0, in place of padding.
+    pub unused: u32,
     /// The position of the first wrong byte, from 0, or the length of bytes that end too early.
     pub position: usize,
     pub parts: CheckedParts,
@@ -26,6 +28,8 @@ pub struct LocalTypeResult {
     pub offset: i32,
     /// 1 for daylight saving time, else 0.
     pub is_daylight: u32,
+    /// 0, in place of padding.
+    pub unused: u32,
     /// The position of the abbreviation in the bytes of the zone.
     pub abbreviation: usize,
     pub abbreviation_length: usize,
@@ -53,6 +57,7 @@ impl LocalTypeResult {
             status: OK,
             offset: kind.offset,
             is_daylight: u32::from(kind.is_daylight),
+            unused: 0,
             abbreviation: kind.name_start,
             abbreviation_length: kind.abbreviation(bytes).len(),
         }
@@ -65,6 +70,7 @@ impl LocalTypeResult {
             status,
             offset: i32::MIN,
             is_daylight: 0,
+            unused: 0,
             abbreviation: usize::MAX,
             abbreviation_length: 0,
         }

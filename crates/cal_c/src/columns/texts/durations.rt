@@ -115,6 +115,7 @@ fn duration_text_row(seconds: i64, nanoseconds: i32) -> (ShortText, u8)
     let duration = Duration {
         seconds,
         nanoseconds,
+        unused: 0,
     };
     match valid_duration(duration) {
         Some(duration) => (duration::text(duration), OK as u8),

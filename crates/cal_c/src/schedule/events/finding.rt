@@ -14,6 +14,8 @@ use cal_ics::first_event;
 #[derive(Clone, Copy, Debug)]
 pub struct EventResult {
     pub status: i32,
+    /// 0, in place of padding.
+    pub unused: u32,
     /// The position of the first byte of the lines, or of the wrong line.
     pub position: usize,
     /// The number of bytes of the lines.
@@ -28,6 +30,7 @@ impl EventResult {
     {
         EventResult {
             status,
+            unused: 0,
             position,
             length: 0,
             next: usize::MAX,
@@ -56,6 +59,7 @@ pub extern "C" fn fots_event_first(text: &[u8]) -> EventResult
     match first_event(text) {
         Ok(Some(event)) => EventResult {
             status: OK,
+            unused: 0,
             position: event.position,
             length: event.lines.len(),
             next: end_of_event(text, event.rest),

@@ -27,6 +27,8 @@ pub struct EventStartResult {
     pub time: u64,
     /// 1 for a date, 2 for a local time, 3 for a time in UTC.
     pub kind: u32,
+    /// 0, in place of padding.
+    pub unused: u32,
 }
 
 impl EventStartResult {
@@ -41,6 +43,7 @@ impl EventStartResult {
             offset: 0,
             time,
             kind,
+            unused: 0,
         }
     }
 
@@ -71,6 +74,7 @@ impl EventStartResult {
             offset: i32::MIN,
             time: u64::MAX,
             kind: 0,
+            unused: 0,
         }
     }
 }

@@ -23,6 +23,8 @@ pub struct RecurrenceTextResult {
     pub position: usize,
     pub length: u32,
     pub bytes: [u8; CAPACITY],
+    /// 0, in place of padding.
+    pub unused: u32,
 }
 
 impl RecurrenceTextResult {
@@ -38,6 +40,7 @@ impl RecurrenceTextResult {
             position: usize::MAX,
             length: text.len() as u32,
             bytes,
+            unused: 0,
         }
     }
 
@@ -50,6 +53,7 @@ impl RecurrenceTextResult {
             position: fault.position,
             length: 0,
             bytes: [0; CAPACITY],
+            unused: 0,
         }
     }
 }

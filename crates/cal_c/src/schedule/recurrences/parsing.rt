@@ -18,6 +18,8 @@ pub struct ParseRecurrenceResult {
     /// The position of the wrong part.
     pub position: usize,
     pub recurrence: RecurrenceParts,
+    /// 0, in place of padding.
+    pub unused: u32,
 }
 
 /// Parses a recurrence. `FREQ=MONTHLY;BYDAY=-1FR;COUNT=3` gives the frequency 3, the interval 1,
@@ -32,12 +34,14 @@ pub extern "C" fn fots_recurrence_parse(text: &[u8]) -> ParseRecurrenceResult
             part: 0,
             position: usize::MAX,
             recurrence: RecurrenceParts::from_recurrence(&recurrence),
+            unused: 0,
         },
         Err(fault) => ParseRecurrenceResult {
             status: reason_status(fault.reason),
             part: error_part(fault.reason),
             position: fault.position,
             recurrence: RecurrenceParts::empty(),
+            unused: 0,
         },
     }
 }

@@ -22,6 +22,8 @@ pub struct RuleParts<'a> {
     pub interval: u32,
     /// The first weekday of a week, from 1 for Monday.
     pub week_start: u32,
+    /// 0, in place of padding.
+    pub unused: u32,
     pub months: &'a [u8],
     pub weeks: &'a [i8],
     pub year_days: &'a [i16],

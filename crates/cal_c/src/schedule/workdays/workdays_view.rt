@@ -5,6 +5,8 @@
 #[derive(Clone, Copy, Debug)]
 pub struct WorkdaysView<'a> {
     pub weekmask: u32,
+    /// 0, in place of padding.
+    pub unused: u32,
     /// The holidays in ascending order.
     pub holidays: &'a [i32],
     /// The number of holidays before each index that have a marked weekday. It has one index more

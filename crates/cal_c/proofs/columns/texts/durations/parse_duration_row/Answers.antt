@@ -16,9 +16,9 @@ returns c =
     record {
       duration = λ v has.
           let e = its.value v has in
-          duration_same r r.duration (duration_ok v) b refl byte (omega (arith, ints), omega (arith, ints)) (ap (λ x. x.status) e) (ap (λ x. x.duration) e);
+          duration_same r r.duration (duration_ok v) b refl byte (omega (arith, ints), omega (arith, ints)) refl refl (ap (λ x. x.status) e) (ap (λ x. x.duration) e);
       form = λ no. duration_unreadable _ _ r r.duration b refl byte (its.syntax_error no);
       component = λ why h.
           let e = its.out_of_range why h in
-          duration_same r r.duration (duration_error (duration_part_status why)) b refl byte (part_byte why) (ap (λ x. x.status) e) (ap (λ x. x.duration) e);
+          duration_same r r.duration (duration_error (duration_part_status why)) b refl byte (part_byte why) refl refl (ap (λ x. x.status) e) (ap (λ x. x.duration) e);
     }

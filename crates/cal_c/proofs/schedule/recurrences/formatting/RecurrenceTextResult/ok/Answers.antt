@@ -6,7 +6,7 @@ use Rattle.cal_c.proofs.Filled.{copied-over}
 use Rattle.cal_c.proofs.schedule.recurrences.formatting.RecurrenceTextResult.ok.Goals as goal
 
 abbrev written_with : List ℕ → List ℕ → RecurrenceTextResult
-written_with text bytes = record { status = OK; part = 0; position = no_position; length = length text; bytes = bytes }
+written_with text bytes = record { status = OK; part = 0; position = no_position; length = length text; bytes = bytes; unused = 0 }
 
 pub returns : goal.returns
 returns c =

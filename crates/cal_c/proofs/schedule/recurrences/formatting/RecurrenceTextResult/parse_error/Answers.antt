@@ -6,7 +6,7 @@ use Rattle.cal_c.specs.declared.schedule.recurrences.formatting.RecurrenceTextRe
 use Rattle.cal_c.proofs.schedule.recurrences.formatting.RecurrenceTextResult.parse_error.Goals as goal
 
 abbrev with_reason : ParseRuleError → ℤ → ℕ → RecurrenceTextResult
-with_reason fault status part = record { status = status; part = part; position = fault.position; length = 0; bytes = replicate 4064 0 }
+with_reason fault status part = record { status = status; part = part; position = fault.position; length = 0; bytes = replicate 4064 0; unused = 0 }
 
 pub returns : goal.returns
 returns c =
