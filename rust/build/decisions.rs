@@ -117,7 +117,7 @@ const HIDDEN: &[(&str, &[&str])] = &[
     ("", &["push_fraction", "scan_more_decimals"]),
     ("", &["name_at", "print", "scan"]),
     ("", &["parse_date", "parse_time", "parse_date_time", "parse_offset_date_time"]),
-    ("", &["has_room", "values_of", "put", "split", "insert_date"]),
+    ("", &["has_room", "values_of", "put", "split", "insert_date", "add_date", "add_rule"]),
 ];
 
 /// Functions without a condition that only the crate calls, because Rust has a trait for each, or

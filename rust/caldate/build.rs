@@ -27,6 +27,7 @@ fn main() -> ExitCode {
             "cal_tzif",
             "cal_recurrence",
             "cal_holidays",
+            "cal_holiday_text",
             "caldate_lines",
             "caldate_answers",
             "caldate_args",

@@ -37,6 +37,16 @@ fn parse_line(position: usize, line: &[u8]) -> Result<Option<HolidayRule>, usize
     parse_words(position, cut(without_return(line), b'#').0)
 }
 
+/// Parses one line of [`parse_holiday_rules`], without its line feed. Returns the rule, `None` for a
+/// line without words, or the position of the first invalid word.
+///
+/// `11-4TH # Thanksgiving` has the rule of `11-4TH`, and `11-4TH SU+1 Friday` the error 12.
+pub fn parse_holiday_rule(line: &[u8]) -> Result<Option<HolidayRule>, usize>
+    ensures { result ≡ line_rule 0 line.now }
+{
+    parse_line(0, line)
+}
+
 /// Adds a rule, if there is one, to those at the front of the buffer. Returns how many it then has,
 /// or `None` if it has no room.
 fn add_rule(rules: &mut [HolidayRule], count: usize, rule: Option<HolidayRule>) -> Option<usize>

@@ -53,7 +53,10 @@ fn find_date(days: &[Date], date: Date) -> Result<usize, usize>
 }
 
 /// Inserts a date as [`insert_date`] does, or returns `None` if the buffer has no room for it.
-pub(crate) fn add_date(days: &mut [Date], count: usize, date: Date) -> Option<usize>
+///
+/// With 2024-12-24 and 2024-12-26 in a buffer of two dates, the result is `None` for 2024-12-25, and
+/// 2 for 2024-12-26.
+pub fn add_date(days: &mut [Date], count: usize, date: Date) -> Option<usize>
     requires most { count ≤ length days.old }
     requires rising { IsRising julian_day_at (take count days.old) }
     ensures most { IfSome result (λ more. more ≤ length days.new) }

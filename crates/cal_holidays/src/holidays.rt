@@ -45,9 +45,12 @@ fn add_holiday(
     }
 }
 
-/// Adds the holidays of a rule from one date through another to the dates at the front of the
-/// buffer. Returns how many dates the buffer then has, or `None` if it has no room.
-fn add_rule(
+/// Adds the holidays of a rule from one date through another to the first `count` dates of the
+/// buffer, which are in ascending order. Returns how many dates the buffer then has at its front, in
+/// ascending order and each once, or `None` if it has no room for them.
+///
+/// With 2024-12-25 at the front, the rule of 26 December and the dates of 2024, the result is 2.
+pub fn add_rule(
     rule: HolidayRule,
     first: Date,
     last: Date,

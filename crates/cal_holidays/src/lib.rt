@@ -16,6 +16,6 @@ pub use calendars::{CALENDARS, calendar_rules};
 pub use gregorian::easter;
 pub use holiday_day::HolidayDay;
 pub use holiday_rule::HolidayRule;
-pub use holidays::holidays_between;
+pub use holidays::{add_rule, holidays_between};
 pub use julian::julian_easter;
 pub use workdays::workdays_from_rules;

@@ -95,8 +95,9 @@ Options, before or after a command:
                         white space for white space
   --pivot YEAR          with --lenient: the first of the 100 years of %y
   --holidays FILE       with workdays: the dates in that file aren't workdays,
-                        or those of a calendar: target, us-federal, nyse,
-                        england-and-wales, or de-bw and so on
+                        nor those of its rules, such as 11-4TH, or those of a
+                        calendar: target, us-federal, nyse, england-and-wales,
+                        or de-bw and so on
   --invalid MODE        what is written for a line without an answer: keep for
                         the line (the default with --field and --scan), answer
                         for the reason (the default without them), drop for

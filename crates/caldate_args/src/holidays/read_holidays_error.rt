@@ -12,8 +12,19 @@ use caldate_lines::output::buffer::Buffer;
 pub enum ReadHolidaysError {
     /// The file can't be read.
     File(FileError),
-    /// The line with this number, counted from 1, is not a date.
-    Line(usize, ParseError),
+    /// The line with this number, counted from 1, has no holidays, or has too many.
+    Line(usize, HolidayLineError),
+}
+
+/// A reason why a line has no holidays.
+#[derive(Clone, Copy, Debug, PartialEq, Eq)]
+pub enum HolidayLineError {
+    /// The line is not a date, and doesn't begin with the day of a rule.
+    NoDate(ParseError),
+    /// The word at this position, after the day of a rule, is invalid.
+    InvalidRule(usize),
+    /// The lines up to this one have more than 8192 holidays.
+    TooMany,
 }
 
 /// Appends the reason, such as `not found` or `line 3: unreadable at 4`.
@@ -27,7 +38,22 @@ pub fn push_holidays_error(line: &mut Buffer, error: ReadHolidaysError)
             line.push(b"line ");
             line.push_number(number as u64);
             line.push(b": ");
-            push_reason(line, reason_of(error));
+            push_line_error(line, error);
         }
+    }
+}
+
+/// Appends the reason, such as `invalid rule of a holiday at 6`.
+fn push_line_error(line: &mut Buffer, error: HolidayLineError)
+    requires { length line.old ≤ 927 }
+    ensures short { length line.new ≤ length line.old + 80 }
+{
+    match error {
+        HolidayLineError::NoDate(error) => push_reason(line, reason_of(error)),
+        HolidayLineError::InvalidRule(position) => {
+            line.push(b"invalid rule of a holiday at ");
+            line.push_number(position as u64);
+        }
+        HolidayLineError::TooMany => line.push(b"too many holidays; expected at most 8192"),
     }
 }

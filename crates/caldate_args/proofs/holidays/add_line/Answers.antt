@@ -1,36 +1,17 @@
-use Rattle.std.proofs.Common.{◌∙◌, ap, sym, subst}
-use Rattle.std.specs.Prelude.{take}
-use Rattle.cal_text.specs.DateForms.{IsDateText}
-use Rattle.caldate_args.specs.Holidays.{IsHoliday, is_left_out}
-use Rattle.caldate_args.proofs.HolidayLines.{line_dated, line_left_out}
+use Rattle.std.proofs.Common.{take}
+use Rattle.caldate_args.proofs.HolidayLines.{line_added, line_invalid, too_many}
 use Rattle.caldate_args.proofs.holidays.add_line.Goals as goal
 
-pub returns-then-is_left_out-clause-days : goal.returns-then-is_left_out-clause-days
-returns-then-is_left_out-clause-days c = λ lines h.
-    let out = ap is_left_out (sym c.cut_return-has_return.ensures.text) ∙ sym c.is_left_out.ensures.value ∙ c.if-is_left_out.true in
-    line_left_out lines c.args.line.now (take c.args.count c.args.days.now) out h
+pub returns-in-Some-clause-days : goal.returns-in-Some-clause-days
+returns-in-Some-clause-days c = λ lines h.
+    line_added lines c.args.line.now c.in-Ok.meaning (take c.args.count c.args.days.now) _ c.in-Ok.ensures.value
+    (λ other is. let e = c.in-Ok.ensures.every other is in cc) c.in-Some.ensures.rising c.in-Some.ensures.days h
 
-pub returns-in-Ok-clause-days : goal.returns-in-Ok-clause-days
-returns-in-Ok-clause-days c = λ lines h.
-    let text = c.cut_return-has_return.ensures.text in
-    let counts = ap is_left_out (sym text) ∙ sym c.is_left_out.ensures.value ∙ c.if-is_left_out.false in
-    let own : IsHoliday c.args.line.now c.in-Ok.date = record {
-      counts = counts;
-      in_range = c.in-Ok.ensures.value.0;
-      text_is = subst (λ t. IsDateText t c.in-Ok.date) text c.in-Ok.ensures.value.1;
-    } in
-    line_dated lines c.args.line.now c.in-Ok.date _ _ own
-    (λ m date is. let same = c.in-Ok.ensures.every m date (subst (λ t. IsDateText t m) (sym text) is) in cc)
-    c.insert_date.ensures.rising c.insert_date.ensures.days h
+pub returns-in-None-clause-error : goal.returns-in-None-clause-error
+returns-in-None-clause-error c = λ lines h. (
+  (c.in-Ok.meaning, c.in-Ok.ensures.value),
+  too_many lines c.args.line.now c.in-Ok.meaning (take c.args.count c.args.days.now) _ c.in-Ok.ensures.value h c.in-None.ensures.full,
+)
 
 pub returns-in-Err-clause-error : goal.returns-in-Err-clause-error
-returns-in-Err-clause-error c =
-    let text = c.cut_return-has_return.ensures.text in
-    record {
-      counts = ap is_left_out (sym text) ∙ sym c.is_left_out.ensures.value ∙ c.if-is_left_out.false;
-      syntax =
-          let syntax = rw text at c.in-Err.ensures.syntax_error in
-          (λ e h. syntax.0 e h.0 h.1, λ none. syntax.1 (λ form h. none (form, h)));
-      position = rw text at c.in-Err.ensures.position;
-      component = rw text at c.in-Err.ensures.out_of_range;
-    }
+returns-in-Err-clause-error c = λ lines h. line_invalid lines c.args.line.now c.in-Err.error c.in-Err.ensures.error

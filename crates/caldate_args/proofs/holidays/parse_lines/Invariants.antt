@@ -1,11 +1,11 @@
-use Rattle.std.proofs.Common.{◌+◌, ◌*◌, ◌≤◌, length, take}
+use Rattle.std.proofs.Common.{◌+◌, ◌≤◌, length, take}
 use Rattle.caldate_args.proofs.HolidayLines.{IsSoFar}
 use Rattle.caldate_args.proofs.holidays.parse_lines.Given as goal
 
--- the dates of the lines so far; each line has a line feed, and that of a date one more byte
+-- the holidays of the lines so far
 abbrev pub invariant-loop-rest : goal.invariant-loop-rest
 invariant-loop-rest l = record {
-  few : 2 * l.count + length l.rest ≤ 16384;
+  most : l.count ≤ 8192;
   numbered : l.number + length l.rest ≤ 16385;
   so_far : IsSoFar l.bytes l.rest l.number (take l.count l.days);
 }
