@@ -748,12 +748,16 @@ fots_sentence fots_component_error_text(int32_t status, const fots_components *c
 /* Returns the sentence of a status and its position after a call that parses a text, a format or a
  * zone: "unexpected "x" at position 9", or "unexpected byte 0xE2 at position 4" if the byte isn't
  * printable ASCII, "unexpected end at position 9", "weekday contradicts the other components" or
- * "unknown item at position 3". */
+ * "unknown item "%Q" at position 3". A component that a text of ISO 8601 or RFC 3339 shows has its value
+ * and its range: FOTS_DAY_OUT_OF_RANGE for "2023-02-29" is as for fots_component_error_text. */
 fots_sentence fots_parse_error_text(int32_t status, size_t position, const char *text, size_t text_length);
 
-/* Returns the sentence of a status after a call with a format. FOTS_INSUFFICIENT_FORMAT has a remedy
- * if there is one, such as "\"%y\" has no century: use %Y or a pivot". */
-fots_sentence fots_format_error_text(int32_t status, const fots_format *format);
+/* Returns the sentence of a status and its position after a call that parses a text by a format, with
+ * the pivot of a lenient call, or a negative number: FOTS_DAY_OUT_OF_RANGE for "30/02/2024" by
+ * %d/%m/%Y is "day 30 is out of range 1 to 29 (February 2024)". FOTS_INSUFFICIENT_FORMAT has a remedy if
+ * there is one, such as "\"%y\" has no century: use %Y or a pivot". */
+fots_sentence fots_format_error_text(int32_t status, size_t position, const char *text, size_t text_length, const fots_format *format,
+    int32_t pivot);
 
 /* Returns the sentence of an error in the text of a recurrence, such as "invalid value of BYDAY at
  * position 11". */

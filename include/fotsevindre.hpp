@@ -159,26 +159,18 @@ template <class Result> Result parsed_or_throw(Result result, std::string_view t
     return result;
 }
 
+// Returns the pivot of a lenient format, or FOTS_NO_PIVOT for another one.
+template <class Format> auto pivot_of(const Format &format, int) -> decltype(format.pivot()) { return format.pivot(); }
+template <class Format> std::int32_t pivot_of(const Format &, long) { return FOTS_NO_PIVOT; }
+
 // Returns the result of a function that parses a text by a format, or throws an error.
 template <class Result, class Format> Result parsed_or_throw(Result result, std::string_view text, const Format &format)
 {
-    if (result.status == FOTS_INSUFFICIENT_FORMAT) {
-        throw error(result.status, result.position, fots_format_error_text(result.status, format.c()));
+    if (result.status != FOTS_OK) {
+        throw error(result.status, result.position,
+            fots_format_error_text(result.status, result.position, data(text), text.size(), format.c(), pivot_of(format, 0)));
     }
-    return parsed_or_throw(result, text);
-}
-
-// Returns the result of a function that makes a format of a text, or throws an error that has the wrong item.
-inline fots_format_result format_or_throw(fots_format_result result, std::string_view text)
-{
-    const std::string_view rest = result.status == FOTS_UNKNOWN_ITEM ? text.substr(result.position) : std::string_view();
-    if (!rest.empty() && (rest[0] == '%' || rest[0] == '[')) {
-        // An item of strftime ends with its first letter.
-        const std::size_t last = rest[0] == '[' ? rest.find(']') : rest.find_first_not_of("-_^#:0123456789", 1);
-        const std::string item(rest.substr(0, last == std::string_view::npos ? last : last + 1));
-        throw error(result.status, result.position, "unknown item \"" + item + "\" at position " + std::to_string(result.position));
-    }
-    return parsed_or_throw(result, text);
+    return result;
 }
 
 template <class... Of> fots_moment moment_or_throw(fots_parse_moment_result result, const Of &...of)
@@ -311,7 +303,7 @@ public:
     [[nodiscard]] const fots_format *c() const noexcept { return &value_; }
 
 private:
-    Format(const fots_format_result &result, std::string_view text) : value_(detail::format_or_throw(result, text).format) {}
+    Format(const fots_format_result &result, std::string_view text) : value_(detail::parsed_or_throw(result, text).format) {}
 
     fots_format value_;
 };

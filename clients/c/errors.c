@@ -289,11 +289,22 @@ static void conditional(void)
 
 /* ---- texts */
 
-static fots_sentence of_text(const char *text)
-{
-    const fots_parse_date_result parsed = fots_date_parse(text, strlen(text));
-    return fots_parse_error_text(parsed.status, parsed.position, text, strlen(text));
-}
+#define PARSED(name, type, parse) \
+    static fots_sentence of_##name(const char *text) \
+    { \
+        const fots_parse_##type##_result parsed = parse(text, strlen(text)); \
+        return fots_parse_error_text(parsed.status, parsed.position, text, strlen(text)); \
+    }
+PARSED(text, date, fots_date_parse)
+PARSED(iso_date, date, fots_date_parse_iso)
+PARSED(time, time, fots_time_parse)
+PARSED(iso_time, time, fots_time_parse_iso)
+PARSED(offset, offset, fots_offset_parse)
+PARSED(pair, moment, fots_pair_parse)
+PARSED(iso_pair, moment, fots_pair_parse_iso)
+PARSED(moment, moment, fots_moment_parse)
+PARSED(offset_date_time, moment, fots_offset_date_time_parse)
+PARSED(iso_moment, moment, fots_moment_parse_iso)
 
 static fots_sentence of_zone(const char *text)
 {
@@ -328,10 +339,31 @@ static void texts(void)
         {of_text, "2024\xe2\x80\x93""02", "unexpected byte 0xE2 at position 4"},
         {of_text, "2023-02-2", "unexpected end at position 9"},
         {of_text, "", "unexpected end at position 0"},
-        {of_text, "2023-13-01", "month is out of range"},
+        {of_text, "2023-13-01", "month 13 is out of range 1 to 12"},
+        {of_text, "2023-02-29", "day 29 is out of range 1 to 28 (February 2023)"},
+        {of_text, "+1000000-01-01", "year 1000000 is out of range -999999 to 999999"},
+        {of_text, "-0001-366", "ordinal 366 is out of range 1 to 365 (-1)"},
+        {of_text, "2023-W53-1", "week 53 is out of range 1 to 52 (2023)"},
+        {of_iso_date, "20230229", "day 29 is out of range 1 to 28 (February 2023)"},
+        {of_iso_date, "2023W53", "week 53 is out of range 1 to 52 (2023)"},
+        {of_time, "9:60", "minute 60 is out of range 0 to 59"},
+        {of_iso_time, "2460", "hour 24 is out of range 0 to 23"},
+        {of_iso_time, "T235960,5", "second 60 is out of range 0 to 59"},
+        {of_offset, "-26:00", "offset hour -26 is out of range -25 to 25"},
+        {of_offset, "+01:60", "offset minute 60 is out of range -59 to 59"},
+        {of_offset, "+01:00:99", "offset second 99 is out of range -59 to 59"},
+        {of_pair, "2024-02-29 23:60", "minute 60 is out of range 0 to 59"},
+        {of_iso_pair, "20240229T24", "hour 24 is out of range 0 to 23"},
+        {of_moment, "2024-02-29T23:00:00+24:00", "offset hour 24 is out of range -23 to 23"},
+        {of_moment, "2023-02-29T23:00:00.1234567890123Z", "day 29 is out of range 1 to 28 (February 2023)"},
+        {of_offset_date_time, "2024-02-29T23:00:00 +26:00", "offset hour 26 is out of range -25 to 25"},
+        {of_iso_moment, "20240229T2300-26", "offset hour -26 is out of range -25 to 25"},
         {of_zone, "CET", "invalid POSIX offset at position 3; expected an offset of at most 24 hours"},
         {of_zone, "CET-1CEST,M3.5.0,M10.5.0/3x", "trailing bytes at position 26; expected the end"},
-        {of_format, "%d %Q", "unknown item at position 3"},
+        {of_format, "%d %Q", "unknown item \"%Q\" at position 3"},
+        {of_format, "%F %-10!%d", "unknown item \"%-10!\" at position 3"},
+        {of_format, "ab%", "unknown item \"%\" at position 2"},
+        {of_format, "%\xC3\xA9", "unknown item at position 0"},
         {of_format, "a\xff", "unexpected byte 0xFF at position 1"},
         {of_recurrence, "FREQ=DAILY;X=1", "unknown part at position 11"},
         {of_recurrence, "FREQ=DAILY;UNTIL=20241231;COUNT=3", "duplicate COUNT at position 26"},
@@ -394,10 +426,82 @@ static void formats(void)
     for (int k = 0; k < COUNT(rows); k++) {
         made = fots_format_new(rows[k].format, strlen(rows[k].format));
         check(made.status == FOTS_OK, rows[k].format, made.status, 0);
-        says(fots_format_error_text(FOTS_INSUFFICIENT_FORMAT, &made.format), rows[k].sentence);
-        says(fots_format_error_text(FOTS_UNSUPPORTED_ITEM, &made.format), sentences[FOTS_UNSUPPORTED_ITEM]);
+        says(fots_format_error_text(FOTS_INSUFFICIENT_FORMAT, SIZE_MAX, "x", 1, &made.format, FOTS_NO_PIVOT), rows[k].sentence);
+        says(fots_format_error_text(FOTS_UNSUPPORTED_ITEM, SIZE_MAX, "x", 1, &made.format, FOTS_NO_PIVOT), sentences[FOTS_UNSUPPORTED_ITEM]);
         made.format.length = FOTS_MAX_ITEMS + 1;
-        says(fots_format_error_text(FOTS_INSUFFICIENT_FORMAT, &made.format), sentences[FOTS_INSUFFICIENT_FORMAT]);
+        says(fots_format_error_text(FOTS_INSUFFICIENT_FORMAT, SIZE_MAX, "x", 1, &made.format, FOTS_NO_PIVOT), sentences[FOTS_INSUFFICIENT_FORMAT]);
+    }
+}
+
+static const int32_t not_lenient = -2;
+
+static fots_sentence of_date_by(const char *text, const fots_format *format, int32_t pivot)
+{
+    const size_t length = strlen(text);
+    const fots_parse_date_result parsed =
+        pivot == not_lenient ? fots_date_parse_format(text, length, format) : fots_date_parse_leniently(text, length, format, pivot);
+    return fots_format_error_text(parsed.status, parsed.position, text, length, format, pivot);
+}
+
+static fots_sentence of_time_by(const char *text, const fots_format *format, int32_t pivot)
+{
+    const size_t length = strlen(text);
+    const fots_parse_time_result parsed =
+        pivot == not_lenient ? fots_time_parse_format(text, length, format) : fots_time_parse_leniently(text, length, format, pivot);
+    return fots_format_error_text(parsed.status, parsed.position, text, length, format, pivot);
+}
+
+static fots_sentence of_moment_by(const char *text, const fots_format *format, int32_t pivot)
+{
+    const size_t length = strlen(text);
+    const fots_parse_moment_result parsed =
+        pivot == not_lenient ? fots_moment_parse_format(text, length, format) : fots_moment_parse_leniently(text, length, format, pivot);
+    return fots_format_error_text(parsed.status, parsed.position, text, length, format, pivot);
+}
+
+static void strings_of_formats(void)
+{
+    static const struct row {
+        fots_sentence (*of)(const char *text, const fots_format *format, int32_t pivot);
+        const char *text;
+        const char *format;
+        int32_t pivot;
+        const char *sentence;
+    } rows[] = {
+        {of_date_by, "30/02/2024", "%d/%m/%Y", -2, "day 30 is out of range 1 to 29 (February 2024)"},
+        {of_date_by, "32/02/2024", "%d/%m/%Y", -2, "day 32 is out of range 1 to 29 (February 2024)"},
+        {of_date_by, "00/02/2024", "%d/%m/%Y", -2, "day 0 is out of range 1 to 29 (February 2024)"},
+        {of_date_by, "29/13/2024", "%d/%m/%Y", -2, "month 13 is out of range 1 to 12"},
+        {of_date_by, "32/13/2024", "%d/%m/%Y", -2, "day is out of range"},
+        {of_date_by, "29 February 2100", "%d %B %Y", -2, "day 29 is out of range 1 to 28 (February 2100)"},
+        {of_date_by, "29/02/2100", "%d/%m/%C%y", -2, "day 29 is out of range 1 to 28 (February 2100)"},
+        {of_date_by, "2023-366", "%Y-%j", -2, "ordinal 366 is out of range 1 to 365 (2023)"},
+        {of_date_by, "2023-W53-1", "%G-W%V-%u", -2, "week 53 is out of range 1 to 52 (2023)"},
+        {of_date_by, "2023-W52-8", "%G-W%V-%u", -2, "weekday 8 is out of range 1 to 7"},
+        {of_date_by, "2024-02-29 7", "%F %w", -2, "weekday 7 is out of range 0 to 6"},
+        {of_date_by, "2024-02-29 54", "%F %U", -2, "week 54 is out of range 0 to 53"},
+        {of_date_by, "2024-02-29 54", "%F %W", -2, "week 54 is out of range 0 to 53"},
+        {of_date_by, "2024-02-29 5", "%F %u", -2, "weekday contradicts the other components"},
+        {of_date_by, "30/02/202x", "%d/%m/%Y", -2, "unexpected \"x\" at position 9"},
+        {of_date_by, "29/02/23", "%d/%m/%y", -2, "\"%y\" has no century: use %Y or a pivot"},
+        {of_date_by, "2/30/24", "%m/%d/%y", 1970, "day 30 is out of range 1 to 29 (February 2024)"},
+        {of_date_by, "2/29/71", "%m/%d/%y", 1970, "day 29 is out of range 1 to 28 (February 1971)"},
+        {of_date_by, "2/29/00", "%m/%d/%y", 2001, "day 29 is out of range 1 to 28 (February 2100)"},
+        {of_date_by, "30 FEB 2024", "%d %B %Y", FOTS_NO_PIVOT, "day 30 is out of range 1 to 29 (February 2024)"},
+        {of_time_by, "13:00 PM", "%I:%M %p", -2, "hour 13 is out of range 1 to 12"},
+        {of_time_by, "0:00 AM", "%-I:%M %p", -2, "hour 0 is out of range 1 to 12"},
+        {of_time_by, "25:00:00", "%T", -2, "hour 25 is out of range 0 to 23"},
+        {of_time_by, "23:60:00", "%T", -2, "minute 60 is out of range 0 to 59"},
+        {of_time_by, "23:59:60", "%T", -2, "second 60 is out of range 0 to 59"},
+        {of_moment_by, "2024-02-29 23:00 -2600", "%F %R %z", -2, "offset hour -26 is out of range -25 to 25"},
+        {of_moment_by, "2024-02-29 23:00 +0160", "%F %R %z", -2, "offset minute 60 is out of range -59 to 59"},
+        {of_moment_by, "99999999999999", "%s", -2, "timestamp 99999999999999 is out of range -31619087596800 to 31494784780799"},
+        {of_moment_by, "-99999999999999", "%s", -2, "timestamp -99999999999999 is out of range -31619087596800 to 31494784780799"},
+    };
+    for (int k = 0; k < COUNT(rows); k++) {
+        const fots_format_result made = fots_format_new(rows[k].format, strlen(rows[k].format));
+        check(made.status == FOTS_OK, rows[k].format, made.status, 0);
+        says(rows[k].of(rows[k].text, &made.format, rows[k].pivot), rows[k].sentence);
     }
 }
 
@@ -409,5 +513,6 @@ int main(void)
     texts();
     other_positions();
     formats();
+    strings_of_formats();
     return ended("errors");
 }

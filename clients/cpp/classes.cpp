@@ -112,10 +112,15 @@ void errors()
     throws([] { return Date::parse(""); }, FOTS_UNEXPECTED_END, "unexpected end at position 0", "no text");
     throws([] { return Date::parse(std::string_view()); }, FOTS_UNEXPECTED_END, "unexpected end at position 0", "no text at all");
     throws([] { return Time::parse("9:05x"); }, FOTS_UNEXPECTED_BYTE, "unexpected \"x\" at position 4", "a time with a letter");
-    throws([] { return Time::parse("24:00"); }, FOTS_HOUR_OUT_OF_RANGE, "hour is out of range", "24:00");
+    throws([] { return Time::parse("24:00"); }, FOTS_HOUR_OUT_OF_RANGE, "hour 24 is out of range 0 to 23", "24:00");
     throws([] { return UtcOffset::parse("+01"); }, FOTS_UNEXPECTED_END, "unexpected end at position 3", "an offset without minutes");
     throws([] { return PlainDateTime::parse("2024-02-29"); }, FOTS_UNEXPECTED_END, "unexpected end at position 10", "a date without a time");
-    throws([] { return PlainDateTime::parse("2023-02-29T9:05"); }, FOTS_DAY_OUT_OF_RANGE, "day is out of range", "29 February with a time");
+    throws([] { return PlainDateTime::parse("2023-02-29T9:05"); }, FOTS_DAY_OUT_OF_RANGE, "day 29 is out of range 1 to 28 (February 2023)",
+        "29 February with a time");
+    throws([] { return Date::parse("30/02/2024", Format("%d/%m/%Y")); }, FOTS_DAY_OUT_OF_RANGE, "day 30 is out of range 1 to 29 (February 2024)",
+        "30 February by a format");
+    throws([] { return Date::parse("2/29/71", LenientFormat(Format("%m/%d/%y"), 1970)); }, FOTS_DAY_OUT_OF_RANGE,
+        "day 29 is out of range 1 to 28 (February 1971)", "29 February by a lenient format");
     throws([] { return OffsetDateTime::parse("2024-02-29T9:05"); }, FOTS_UNEXPECTED_END, "unexpected end at position 15", "a time without an offset");
     throws([] { return Date::max() + Duration::days(1); }, FOTS_RESULT_OUT_OF_RANGE, "the result is out of range, or does not exist",
         "a day after the last one");

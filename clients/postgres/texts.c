@@ -47,6 +47,12 @@ static fots_parse_moment_result by_format(const char *bytes, size_t length, cons
     return form == LOCAL ? fots_pair_parse_format(bytes, length, format) : fots_moment_parse_format(bytes, length, format);
 }
 
+/* The format in argument 1, or NULL without it. */
+static const fots_format *format_if_any(FunctionCallInfo fcinfo)
+{
+    return PG_NARGS() == 1 ? NULL : format_of(fcinfo, 1);
+}
+
 /* Parses argument 0, by the format in argument 1 if there is one. */
 static fots_parse_moment_result parse(FunctionCallInfo fcinfo, enum form form)
 {
@@ -69,7 +75,7 @@ static fots_parse_moment_result parse_or_fail(FunctionCallInfo fcinfo, enum form
     static const char *const names[] = {"date", "local time", "instant"};
     const fots_parse_moment_result parsed = parse(fcinfo, form);
     if (parsed.status != FOTS_OK) {
-        fail_text(names[form], PG_GETARG_TEXT_PP(0), parsed.status, parsed.position);
+        fail_format(names[form], PG_GETARG_TEXT_PP(0), parsed.status, parsed.position, format_if_any(fcinfo));
     }
     return parsed;
 }
@@ -105,7 +111,7 @@ static Datum error_of(FunctionCallInfo fcinfo, enum form form)
     if (parsed.status == FOTS_OK) {
         PG_RETURN_NULL();
     }
-    reason_of(reason, PG_GETARG_TEXT_PP(0), parsed.status, parsed.position);
+    reason_of(reason, PG_GETARG_TEXT_PP(0), parsed.status, parsed.position, format_if_any(fcinfo));
     PG_RETURN_TEXT_P(text_of(reason, strlen(reason)));
 }
 

@@ -24,16 +24,22 @@ void fail(const char *what, int32 status)
     ereport(ERROR, (errcode(code_of(status)), errmsg("%s: %s", what, fots_error_text(status).bytes)));
 }
 
-void reason_of(char bytes[SQL_REASON_BYTES], const text *value, int32 status, size_t position)
+void reason_of(char bytes[SQL_REASON_BYTES], const text *value, int32 status, size_t position, const fots_format *format)
 {
-    const bool has_position = position <= (size_t)VARSIZE_ANY_EXHDR(value);
-    sql_reason(bytes, status, position, has_position ? (size_t)pg_mbstrlen_with_len(VARDATA_ANY(value), (int)position) + 1 : 0);
+    const size_t length = VARSIZE_ANY_EXHDR(value);
+    const size_t character = position <= length ? (size_t)pg_mbstrlen_with_len(VARDATA_ANY(value), (int)position) + 1 : 0;
+    sql_reason(bytes, status, position, character, VARDATA_ANY(value), length, format);
 }
 
 void fail_text(const char *what, const text *value, int32 status, size_t position)
 {
+    fail_format(what, value, status, position, NULL);
+}
+
+void fail_format(const char *what, const text *value, int32 status, size_t position, const fots_format *format)
+{
     char reason[SQL_REASON_BYTES];
-    reason_of(reason, value, status, position);
+    reason_of(reason, value, status, position, format);
     ereport(ERROR, (errcode(code_of(status)), errmsg("invalid %s: \"%s\"", what, text_to_cstring(value)), errdetail_internal("%s", reason)));
 }
 

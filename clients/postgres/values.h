@@ -20,11 +20,12 @@
 /* Raises an error of the library: `what`, and the name of the status. */
 extern void fail(const char *what, int32 status) pg_attribute_noreturn();
 
-/* Writes why a string isn't valid, with the position of its first wrong character. */
-extern void reason_of(char bytes[SQL_REASON_BYTES], const text *value, int32 status, size_t position);
+/* Writes why a string isn't valid, by a format or NULL, with the position of its first wrong character. */
+extern void reason_of(char bytes[SQL_REASON_BYTES], const text *value, int32 status, size_t position, const fots_format *format);
 
-/* Raises an error of a string, with the position of its first wrong character. */
+/* Raise an error of a string, without a format or by one, with the position of its first wrong character. */
 extern void fail_text(const char *what, const text *value, int32 status, size_t position) pg_attribute_noreturn();
+extern void fail_format(const char *what, const text *value, int32 status, size_t position, const fots_format *format) pg_attribute_noreturn();
 
 static inline void succeed(const char *what, int32 status)
 {

@@ -42,12 +42,15 @@ static inline enum sql_error sql_error_of(int32_t status)
 
 #define SQL_REASON_BYTES sizeof(((fots_sentence *)0)->bytes)
 
-/* Writes why a string isn't valid, such as "day is out of range". `character` is the one at the
- * position, counted from 1, or 0 if the error has no position. */
-static inline void sql_reason(char bytes[SQL_REASON_BYTES], int32_t status, size_t position, size_t character)
+/* Writes why a string isn't valid, by a format or NULL, such as "day 29 is out of range 1 to 28 (February
+ * 2023)". `character` is the one at the position, counted from 1, or 0 if the error has no position. */
+static inline void sql_reason(char bytes[SQL_REASON_BYTES], int32_t status, size_t position, size_t character, const char *text, size_t length,
+    const fots_format *format)
 {
     if (status == FOTS_CONTRADICTION || character == 0) {
-        const fots_sentence sentence = fots_parse_error_text(status, status == FOTS_CONTRADICTION ? position : SIZE_MAX, "", 0);
+        const size_t place = status == FOTS_CONTRADICTION ? position : SIZE_MAX;
+        const fots_sentence sentence = format ? fots_format_error_text(status, place, text, length, format, FOTS_NO_PIVOT)
+                                              : fots_parse_error_text(status, place, text, length);
         memcpy(bytes, sentence.bytes, sizeof sentence.bytes);
     } else {
         snprintf(bytes, SQL_REASON_BYTES, "%s at character %llu", fots_status_name(status), (unsigned long long)character);

@@ -34,12 +34,14 @@ static int get_format(const sql_function *function, sqlite3_context *context, in
     return *format != NULL;
 }
 
-/* Parses the first argument, by a format if there is one. */
-static int get_parsed(const sql_function *function, sqlite3_context *context, int count, sqlite3_value **values, fots_parse_moment_result *found)
+/* Parses the first argument, by a format if there is one, which is NULL otherwise. */
+static int get_parsed(const sql_function *function, sqlite3_context *context, int count, sqlite3_value **values, fots_parse_moment_result *found,
+    const fots_format **by)
 {
     const sql_text text = sql_text_of(values[0]);
     const int form = function->call->form;
     const fots_format *format;
+    *by = NULL;
     if (count == 1 && form != SQL_DATE) {
         *found = form == SQL_LOCAL ? fots_pair_parse(text.bytes, text.length) : fots_moment_parse(text.bytes, text.length);
         return 1;
@@ -47,6 +49,7 @@ static int get_parsed(const sql_function *function, sqlite3_context *context, in
     if (!get_format(function, context, count, values, 1, &format)) {
         return 0;
     }
+    *by = format;
     if (form == SQL_DATE) {
         const fots_parse_date_result parsed = fots_date_parse_format(text.bytes, text.length, format);
         *found = (fots_parse_moment_result){parsed.status, parsed.date, 0, {0}, 0, parsed.position};
@@ -60,7 +63,8 @@ static int get_parsed(const sql_function *function, sqlite3_context *context, in
 static void valid(const sql_function *function, sqlite3_context *context, int count, sqlite3_value **values)
 {
     fots_parse_moment_result parsed;
-    if (get_parsed(function, context, count, values, &parsed)) {
+    const fots_format *format;
+    if (get_parsed(function, context, count, values, &parsed, &format)) {
         sqlite3_result_int(context, parsed.status == FOTS_OK);
     }
 }
@@ -70,8 +74,9 @@ static void error(const sql_function *function, sqlite3_context *context, int co
 {
     char reason[SQL_REASON_BYTES];
     fots_parse_moment_result parsed;
-    if (get_parsed(function, context, count, values, &parsed) && parsed.status != FOTS_OK) {
-        sql_text_reason(reason, sql_text_of(values[0]), parsed.status, parsed.position);
+    const fots_format *format;
+    if (get_parsed(function, context, count, values, &parsed, &format) && parsed.status != FOTS_OK) {
+        sql_text_reason(reason, sql_text_of(values[0]), parsed.status, parsed.position, format);
         set_text(context, reason, strlen(reason));
     }
 }
@@ -81,8 +86,12 @@ static void parse(const sql_function *function, sqlite3_context *context, int co
     static const char *const names[] = {"date", "local time", "instant"};
     const int form = function->call->form;
     fots_parse_moment_result parsed;
-    if (!get_parsed(function, context, count, values, &parsed)
-        || !sql_check_text(context, names[form], sql_text_of(values[0]), parsed.status, parsed.position)) {
+    const fots_format *format;
+    if (!get_parsed(function, context, count, values, &parsed, &format)) {
+        return;
+    }
+    if (parsed.status != FOTS_OK) {
+        sql_fail(context, sql_format_message(names[form], sql_text_of(values[0]), parsed.status, parsed.position, format));
         return;
     }
     if (form == SQL_DATE) {

@@ -14,24 +14,29 @@ char *sql_message(const char *what, int32_t status)
     return sqlite3_mprintf("%s: %s", what, fots_error_text(status).bytes);
 }
 
-void sql_text_reason(char bytes[SQL_REASON_BYTES], sql_text text, int32_t status, size_t position)
+void sql_text_reason(char bytes[SQL_REASON_BYTES], sql_text text, int32_t status, size_t position, const fots_format *format)
 {
     size_t character = position <= text.length, at;
     for (at = 0; position <= text.length && at < position; at++) {
         character += (text.bytes[at] & 0xC0) != 0x80;
     }
-    sql_reason(bytes, status, position, character);
+    sql_reason(bytes, status, position, character, text.bytes, text.length, format);
+}
+
+char *sql_text_message(const char *what, sql_text text, int32_t status, size_t position)
+{
+    return sql_format_message(what, text, status, position, NULL);
 }
 
 /* Shows at most 60 bytes, up to the end of a character. */
-char *sql_text_message(const char *what, sql_text text, int32_t status, size_t position)
+char *sql_format_message(const char *what, sql_text text, int32_t status, size_t position, const fots_format *format)
 {
     char reason[SQL_REASON_BYTES];
     size_t shown = text.length < 60 ? text.length : 60;
     while (shown < text.length && shown > 0 && (text.bytes[shown] & 0xC0) == 0x80) {
         shown--;
     }
-    sql_text_reason(reason, text, status, position);
+    sql_text_reason(reason, text, status, position, format);
     return sqlite3_mprintf("invalid %s: \"%.*s\": %s", what, (int)shown, text.bytes, reason);
 }
 

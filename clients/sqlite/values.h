@@ -61,12 +61,13 @@ typedef struct sql_text {
 
 sql_text sql_text_of(sqlite3_value *value);
 
-/* Writes why a string isn't valid, with the position of its first wrong character. */
-void sql_text_reason(char bytes[SQL_REASON_BYTES], sql_text text, int32_t status, size_t position);
+/* Writes why a string isn't valid, by a format or NULL, with the position of its first wrong character. */
+void sql_text_reason(char bytes[SQL_REASON_BYTES], sql_text text, int32_t status, size_t position, const fots_format *format);
 
 /* Return a message in memory of SQLite. */
 char *sql_message(const char *what, int32_t status);
 char *sql_text_message(const char *what, sql_text text, int32_t status, size_t position);
+char *sql_format_message(const char *what, sql_text text, int32_t status, size_t position, const fots_format *format);
 
 int sql_check(sqlite3_context *context, const char *what, int32_t status);
 int sql_check_text(sqlite3_context *context, const char *what, sql_text text, int32_t status, size_t position);

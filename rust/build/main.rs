@@ -19,7 +19,7 @@ use strip::{Edits, Fault, Options, Source};
 use zones::Zones;
 
 /// The libraries, as modules of the crate.
-const CRATES: [&str; 24] = [
+const CRATES: [&str; 25] = [
     "cal_units",
     "cal_errors",
     "cal_span",
@@ -41,6 +41,7 @@ const CRATES: [&str; 24] = [
     "cal_holidays",
     "cal_tzif",
     "cal_recurrence",
+    "cal_string_errors",
     "cal_holiday_text",
     "cal_ics",
     "cal_c",

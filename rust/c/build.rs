@@ -10,7 +10,7 @@ use std::path::{Path, PathBuf};
 use std::process::ExitCode;
 
 /// The libraries, as modules of the crate.
-const CRATES: [&str; 22] = [
+const CRATES: [&str; 23] = [
     "cal_units",
     "cal_errors",
     "cal_span",
@@ -30,6 +30,7 @@ const CRATES: [&str; 22] = [
     "cal_interval",
     "cal_rounding",
     "cal_recurrence",
+    "cal_string_errors",
     "cal_holiday_text",
     "cal_ics",
     "cal_c",

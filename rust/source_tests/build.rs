@@ -32,6 +32,7 @@ fn main() -> ExitCode {
             "cal_holidays",
             "cal_tzif",
             "cal_recurrence",
+            "cal_string_errors",
             "cal_holiday_text",
             "cal_ics",
             "caldate_lines",

@@ -364,6 +364,18 @@ static fots_sentence core_component_text(int32_t status, int64_t value, int64_t 
     return fots_component_error_text(status, &components);
 }
 
+/* Returns the sentence of a component of a string, and of one by a format, with a pivot or -1. */
+static fots_sentence core_parse_error_text(int32_t status, const char *text, size_t text_length)
+{
+    return fots_parse_error_text(status, SIZE_MAX, text, text_length);
+}
+
+static fots_sentence core_format_error_text(int32_t status, const char *text, size_t text_length,
+    const fots_format *format, int32_t pivot)
+{
+    return fots_format_error_text(status, SIZE_MAX, text, text_length, format, pivot);
+}
+
 /* Returns the year, the Month and the day, quicker than Py_BuildValue. */
 static PyObject *tuple_of(const State *state, fots_calendar_date_result date)
 {

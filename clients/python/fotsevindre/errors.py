@@ -292,4 +292,4 @@ def format_error(status: int, position: int, format: str, is_description: bool) 
 
 def insufficient_format(format: Any) -> ValueError:
     """Returns the error of a format that doesn't determine a value."""
-    return ValueError(explanations.remedy(getattr(format, "_text", format)) or _MESSAGES[41])
+    return ValueError(explanations.remedy(format))

@@ -9,36 +9,16 @@ from typing import Any, Callable
 from . import _core, errors
 from .messages import CALLS, NAMES
 
-# The statuses of components, and the range of an hour of %I.
+# The statuses of components.
 _STATUSES = {name: status for status, name in NAMES.items()}
-_HALF_DAY = (1, 12)
+_INSUFFICIENT_FORMAT = 41
 # The names of arguments that differ from the names of the components.
 _ARGUMENTS = {"offset hour": "hours", "offset minute": "minutes", "offset second": "seconds"}
-# The components of strings of ISO 8601.
-_ISO = re.compile(
-    r"(?:(?P<year>[+-]?\d+(?=-)|\d{4})-?(?:W(?P<week>\d\d)(?:-?\d)?|(?P<month>\d\d)-?(?P<day>\d\d)|(?P<ordinal>\d{3})))?"
-    r"(?:[Tt ]?(?P<hour>\d\d?)(?::?(?P<minute>\d\d)(?::?(?P<second>\d\d)(?:[.,]\d+)?)?)?)?"
-    r"(?: ?(?:[Zz]|[+-](?P<hours>\d\d?)(?::?(?P<minutes>\d\d)(?::?(?P<seconds>\d\d))?)?))?", re.ASCII)
-# The components that items of a format show, and longer items.
-_SHOWN = {
-    "Y": r"(?P<year>[+-]?\d+)", "G": r"(?P<year>[+-]?\d+)", "y": r"(?P<short>\d\d)", "m": r"(?P<month>\d+)", "B": r"(?P<name>[A-Za-z]+)",
-    "b": r"(?P<name>[A-Za-z]+)", "d": r"(?P<day>\d+)", "e": r" ?(?P<day>\d+)", "j": r"(?P<ordinal>\d+)", "V": r"(?P<week>\d+)",
-    "H": r"(?P<hour>\d+)", "k": r" ?(?P<hour>\d+)", "I": r"(?P<hour>\d+)", "l": r" ?(?P<hour>\d+)", "M": r"(?P<minute>\d+)", "S": r"(?P<second>\d+)",
-    "u": r"(?P<weekday>\d)", "%": "%",
-}
-_LONGER = {"F": "%Y-%m-%d", "T": "%H:%M:%S", "R": "%H:%M", "D": "%m/%d/%y", "h": "%b"}
-_ITEM = re.compile(r"%[-_0^#]*(.)|(\s+)|(.)", re.DOTALL)
-_MONTHS = ("jan", "feb", "mar", "apr", "may", "jun", "jul", "aug", "sep", "oct", "nov", "dec")
 # The items of a format that show names.
 _NAMES = re.compile(r"%[-_0^#]*[aAbBhpPcrv]|\[(?:month|weekday|period)")
 # The characters that can follow, besides a digit: without names, and with them.
 _NEXT = "-+:./, @DHJMPRSTWYZ"
 _NEXT_IN_NAMES = f"{_NEXT[:8]}{string.ascii_letters}"
-# An item of a format that needs another one, those, and the remedy.
-_REMEDIES = [
-    (r"%[-_0^#]*y", r"%[-_0^#]*[YCGsFc]", '"%y" has no century: use %Y or a pivot'),
-    (r"%[-_0^#]*[Il]", r"%[-_0^#]*[pP]", '"%I" has no half of the day: use %H or add %p'),
-]
 
 
 def arguments(call: int, given: tuple[Any, ...]) -> tuple[str, dict[str, Any]]:
@@ -47,59 +27,38 @@ def arguments(call: int, given: tuple[Any, ...]) -> tuple[str, dict[str, Any]]:
     return method, {name: one for name, one in zip(names, given) if one is not None}
 
 
-def _pattern_of(format: str) -> str:
-    """Returns a pattern of the strings of a format, with a group for the first of each component."""
-    pattern, groups = "", set[str]()
-    items = re.sub(r"%([FTRDh])", lambda found: _LONGER[found[1]], format)
-    for item, space, other in _ITEM.findall(items):
-        shown = _SHOWN.get(item, ".+?") if item else r"\s+" if space else re.escape(other)
-        group = re.search(r"\?P<(\w+)>", shown)
-        pattern += ".+?" if group and group[1] in groups else shown
-        groups.update(group.groups() if group else ())
-    return pattern
-
-
-def _read(given: dict[str, Any]) -> dict[str, int]:
-    """Returns the components of the string of a call."""
-    format = given.get("format")
-    text = getattr(format, "_text", format)
-    match = (_ISO if text is None else re.compile(_pattern_of(text), re.ASCII)).fullmatch(given["text"])
-    found = {name: one for name, one in match.groupdict().items() if one} if match else {}
-    if "name" in found:
-        found["month"] = str(_MONTHS.index(found.pop("name")[:3].lower()) + 1)
-    if "short" in found:
-        pivot = format._pivot  # type: ignore[union-attr]
-        found["year"] = str(pivot + (int(found["short"]) - pivot) % 100)
-    return {name: int(one) for name, one in found.items()}
+def _of_string(status: int, text: str, format: Any = None) -> str:
+    """Returns the sentence of a status for a string, and a format if there is one."""
+    if format is None:
+        return _core.parse_error_text(status, text)
+    pivot = getattr(format, "_pivot", None)
+    return _core.format_error_text(status, text, format, -1 if pivot is None else pivot)
 
 
 def of_component(name: str, owner: Any, method: str, given: dict[str, Any]) -> str | None:
     """Returns the sentence of a component that is out of range: one of the arguments, of the string, or
     of the value in which a method replaces it."""
+    # Some methods take a part of the range, of which this knows nothing.
+    words = _of_string(_STATUSES[name], **given) if "text" in given else _of_value(name, owner, method, given)
+    return words if " is out of range " in words else None
+
+
+def _of_value(name: str, owner: Any, method: str, given: dict[str, Any]) -> str:
+    """Returns the sentence of a component that is an argument, or a component of the owner."""
     if "number" in given:
         given[method.removeprefix("replace_")] = given["number"]
-    found = _read(given) if "text" in given else given
 
     def component(name: str) -> int:
         key = _ARGUMENTS.get(name, name)
-        return operator.index(found[key] if key in found or "text" in given else getattr(owner, key))
+        return operator.index(given[key] if key in given else getattr(owner, key))
 
     value = component(name)
     year = component("year") if name in ("day", "ordinal", "week") else 0
     month = component("month") if name == "day" else 0
-    words: str = _core.component_text(_STATUSES[name], value, year, month)
-    if name == "hour" and re.search(r"%[-_0]*[Il]", str(getattr(given.get("format"), "_text", given.get("format")))):
-        return _outside(name, value, *_HALF_DAY)
-    if name == "offset hour" and method == "parse_rfc3339":
-        return _outside(name, value, -23, 23)
-    # Some methods take a part of the range, of which this knows nothing. C has numbers of 64 bits.
+    words = _core.component_text(_STATUSES[name], value, year, month)
+    # C has numbers of 64 bits.
     near = max(-2**63, min(value, 2**63 - 1))
-    return words.replace(str(near), str(value), 1) if " is out of range " in words else None
-
-
-def _outside(name: str, value: int, low: int, high: int) -> str | None:
-    """Returns the sentence of a component that is out of a range."""
-    return None if low <= value <= high else f"{name} {value} is out of range {low} to {high}"
+    return words.replace(str(near), str(value), 1)
 
 
 def _digits(digits: list[str]) -> list[str]:
@@ -159,10 +118,6 @@ def item_at(format: str) -> str:
     return _quoted(item[0] if item else "")
 
 
-def remedy(format: str) -> str | None:
-    """Returns the sentence of a format that lacks an item for another one."""
-    items = format.replace("%%", "")
-    for item, other, words in _REMEDIES:
-        if re.search(item, items) and not re.search(other, items):
-            return words
-    return None
+def remedy(format: Any) -> str:
+    """Returns the sentence of a format that doesn't determine a value, with an item that it lacks."""
+    return _of_string(_INSUFFICIENT_FORMAT, "", format)

@@ -54,9 +54,12 @@ COMPONENTS = [
     (lambda: Date.strptime("2023-W53-1", "%G-W%V-%u"), "week 53 is out of range 1 to 52 (2023)"),
     (lambda: Time.strptime("13:00 PM", "%I:%M %p"), "hour 13 is out of range 1 to 12"),
     (lambda: PlainDateTime.strptime("2024-02-29T25:00:00", "%FT%T"), "hour 25 is out of range 0 to 23"),
+    (lambda: Date.strptime("2023-366x", Format.from_description("[year]-[ordinal]x")), "ordinal 366 is out of range 1 to 365 (2023)"),
+    (lambda: Date.strptime("2023-W53-1", Format.from_description("[year base:iso_week]-W[week_number]-[weekday repr:monday]")),
+        "week 53 is out of range 1 to 52 (2023)"),
+    (lambda: OffsetDateTime.strptime("2024-02-29 23:00 -2600", "%F %R %z"), "offset hour -26 is out of range -25 to 25"),
     # Without a sentence of their own.
     (lambda: Date.strptime("2024-366x", Format.from_description("[year]-[ordinal]x")), None),
-    (lambda: Date.strptime("2023-366x", Format.from_description("[year]-[ordinal]x")), "ordinal was not in range"),
     (lambda: OffsetDateTime.from_unix_timestamp(10**15), "timestamp was not in range"),
     (lambda: Period.parse(f"P{10**20}Y"), "years was not in range"),
 ]

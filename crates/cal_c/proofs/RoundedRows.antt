@@ -1,5 +1,5 @@
 -- The result of a call that rounds, and of one that parses a duration, in a row of columns.
-use Rattle.std.proofs.Common.{◌≡◌, ◌∙◌, ℕ, ℤ, List, ap, arith, FitsSigned, w32, to_z, of_z}
+use Rattle.std.proofs.Common.{◌≡◌, ◌∙◌, ℕ, ℤ, List, ap, refl, arith, FitsSigned, w32, to_z, of_z}
 use Rattle.std.proofs.lemmas.Int.{ints, to_z-of_z}
 use Rattle.std.specs.Prelude.{Option, Some, None}
 use Rattle.cal_duration.specs.declared.error.DurationComponent.{DurationComponent}

@@ -1,7 +1,7 @@
 -- Which sentence a call returns for a status.
-use Rattle.std.specs.Prelude.{◌≡◌, ℕ, ◌-◌, ℤ, pos, Bool, not, ◌&&◌, List, ◌++◌, codes, length, replicate, Option, Some, None, slice_get, if◌then◌else◌}
+use Rattle.std.specs.Prelude.{◌≡◌, ℕ, ◌-◌, ℤ, pos, Bool, not, ◌&&◌, ◌⊎◌, List, ◌++◌, codes, length, replicate, Option, Some, None, slice_get, if◌then◌else◌}
 use Rattle.cal_errors.specs.Sentences.{position_text}
-use Rattle.cal_errors.specs.Statuses.{sentence}
+use Rattle.cal_errors.specs.Statuses.{sentence, with_position}
 use Rattle.cal_format.specs.Lenient.{lacks_century}
 use Rattle.cal_format.specs.Reading.{any_shows}
 use Rattle.cal_format.specs.declared.item.Component.TheVariants as shown
@@ -9,7 +9,9 @@ use Rattle.cal_format.specs.declared.item.Item.{Item}
 use Rattle.cal_recurrence.specs.FaultText.{reason_text}
 use Rattle.cal_recurrence.specs.declared.fault.ParseRuleErrorKind.{ParseRuleErrorKind}
 use Rattle.cal_recurrence.specs.declared.fault.ParseRuleErrorKind.TheVariants.{Twice, TooMany, Value}
+use Rattle.cal_string_errors.specs.Formats.{IsFormatSentence, IsLenientSentence}
 use Rattle.cal_time.specs.declared.error.Component.{Component}
+use Rattle.cal_c.specs.LenientParsing.{lenient_of}
 use Rattle.cal_c.specs.RecurrenceTexts.{part_number}
 use Rattle.cal_c.specs.Statuses.{component_status}
 use Rattle.cal_c.specs.declared.errors.ErrorText.{ErrorText}
@@ -23,6 +25,11 @@ error_text text = record { length = length text; bytes = text ++ replicate (220 
 abbrev pub component_text : ℤ → Option (List ℕ) → List ℕ
 component_text s None = sentence s
 component_text s (Some text) = text
+
+-- The sentence of a component of a string, or the sentence of its status with a position.
+abbrev pub text_or_sentence : ℤ → ℕ → Option (List ℕ) → List ℕ
+text_or_sentence s at None = with_position at (sentence s)
+text_or_sentence s at (Some text) = text
 
 -- ---- strings
 -- The status has a wrong byte, which is b.
@@ -53,3 +60,9 @@ abbrev pub remedy : List Item → List ℕ
 remedy items =
     if lacks_century items then codes "\"%y\" has no century: use %Y or a pivot"
     else (if lacks_period items then codes "\"%I\" has no half of the day: use %H or add %p" else sentence INSUFFICIENT_FORMAT)
+
+-- The sentence of a component of a string that the items print, or else that they read leniently.
+abbrev pub IsReadSentence : Component → List Item → List ℕ → ℤ → Option (List ℕ) → Type 0
+IsReadSentence c items text pivot None = IsFormatSentence c items text None × IsLenientSentence c (lenient_of items pivot) text None
+IsReadSentence c items text pivot (Some s) =
+    IsFormatSentence c items text (Some s) ⊎ (IsFormatSentence c items text None × IsLenientSentence c (lenient_of items pivot) text (Some s))

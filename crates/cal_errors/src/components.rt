@@ -54,7 +54,22 @@ pub struct Components {
 pub fn component_sentence(component: Component, components: &Components) -> Option<Sentence>
     ensures { result ≡ sentence_in component (bounds_of component components.now) }
 {
-    let bounds = bounds_of(component, components)?;
+    sentence_in(component, bounds_of(component, components))
+}
+
+/// Returns the sentence of a component that is out of a range: `hour 13 is out of range 1 to 12` for an
+/// hour 13 from 1 to 12. Returns `None` if the value is in the range.
+pub fn range_sentence(component: Component, value: i64, min: i64, max: i64) -> Option<Sentence>
+    ensures { result ≡ sentence_in component (Some (always value min max)) }
+{
+    sentence_in(component, always(value, min, max))
+}
+
+/// Returns the sentence of a component with a value and a range, if the value is out of it.
+fn sentence_in(component: Component, bounds: Option<Bounds>) -> Option<Sentence>
+    ensures { result ≡ sentence_in component bounds }
+{
+    let bounds = bounds?;
     if bounds.is_outside() {
         Some(bounds.sentence(component))
     } else {

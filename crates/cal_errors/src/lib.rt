@@ -8,7 +8,7 @@ mod sentence;
 mod statuses;
 mod strings;
 
-pub use components::{Components, component_sentence};
+pub use components::{Components, component_sentence, range_sentence};
 pub use sentence::Sentence;
 pub use statuses::{sentence_at, sentence_of};
-pub use strings::{contradiction, unexpected};
+pub use strings::{contradiction, unexpected, unknown_item};

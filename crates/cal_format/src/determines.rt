@@ -5,9 +5,9 @@ ghost use Rattle.cal_format.specs.Reading.{any_shows, is_apart, begins_apart, be
 use crate::format::Format;
 use crate::item::{Component, Item, Padding};
 
-/// Returns `true` if an item shows the component.
+/// Returns `true` if an item shows the component. `%F` shows the month, and `%Y` doesn't.
 #[inline(always)]
-pub(crate) fn any_shows(items: &Format, component: Component) -> bool
+pub fn any_shows(items: &Format, component: Component) -> bool
     ensures { result ≡ any_shows component items.now }
 {
     items.shown.shows(component)

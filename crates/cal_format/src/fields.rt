@@ -257,9 +257,9 @@ impl Fields {
         Some(0)
     }
 
-    /// Returns the number of a component.
+    /// Returns the number of a component, or 0 without one.
     #[inline(always)]
-    pub(crate) fn get(&self, component: Component) -> u64
+    pub fn get(&self, component: Component) -> u64
         ensures { result ≡ number_at component self.now }
     {
         self.numbers[component.index()]

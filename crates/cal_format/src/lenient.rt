@@ -61,7 +61,8 @@ impl LenientFormat {
 
     /// Returns the items that determine the value: the items that are read and, with a pivot, the
     /// century. Returns `None` if two values could have the same text, or if the pivot doesn't fit.
-    pub(crate) fn known_items(&self) -> Option<Format>
+    /// `%D` with the pivot 1970 has the century and the items of `%D`.
+    pub fn known_items(&self) -> Option<Format>
         ensures some { IsSome result ↔ CanRead self.now }
         ensures items { IfSome result (λ items. items ≡ items_of self.now) }
     {

@@ -43,7 +43,7 @@ pub(crate) fn parse_leniently(
 
 /// Parses the numbers of the known items up to the end of a text. With a pivot the first number is
 /// the century.
-fn scan_known(format: &LenientFormat, scanner: &mut Scanner, numbers: &mut [u64]) -> bool
+pub(crate) fn scan_known(format: &LenientFormat, scanner: &mut Scanner, numbers: &mut [u64]) -> bool
     requires read { CanRead format.now }
     requires length { length numbers.old ≡ length (items_of format.now) }
     ensures value { IsTrue result

@@ -40,6 +40,7 @@ mod lenient_parsing;
 mod letters;
 mod moment;
 mod numbers;
+mod numbers_of_texts;
 mod offset_parts;
 mod one_pass;
 mod parsing;
@@ -52,6 +53,7 @@ mod value;
 mod value_formats;
 mod variants;
 
+pub use determines::any_shows;
 pub use error::ParseError;
 pub use fields::Fields;
 pub use format::{Format, FormatError};

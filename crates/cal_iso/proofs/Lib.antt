@@ -4,3 +4,4 @@ pub mod ClockShapes
 pub mod ClockReads
 pub mod MomentShapes
 pub mod MomentReads
+pub mod LongForms

@@ -1,5 +1,5 @@
 //! Dates in ISO 8601, such as `20240229`.
-ghost use Rattle.std.specs.Prelude.{◌≡◌, ◌↔◌, ℕ, IfErr, IfOk, Ok};
+ghost use Rattle.std.specs.Prelude.{◌≡◌, ◌↔◌, ℕ, IfErr, IfOk, IfSome, Ok, Some};
 ghost use Rattle.cal_time.specs.declared.error.ComponentRange.{ComponentRange};
 ghost use Rattle.cal_text.specs.declared.date_numbers.DateNumbers.{DateNumbers};
 ghost use Rattle.cal_text.specs.Parsing.{FailsWithComponent, FailsWithSyntax, HasError, IsDateError};
@@ -7,7 +7,7 @@ ghost use Rattle.cal_text.specs.Position.{HasSome, IsErrorAtStop};
 ghost use Rattle.cal_iso.specs.DateForm.{HasIsoDate, IsIsoDateText};
 
 use crate::date::form::scan_whole_date;
-use cal_text::{ParseError, Scanner, date_from_numbers};
+use cal_text::{DateNumbers, ParseError, Scanner, date_from_numbers};
 use cal_time::Date;
 
 pub(crate) mod form;
@@ -40,4 +40,14 @@ pub fn parse(text: &[u8]) -> Result<Date, ParseError>
             Err(ParseError::unexpected(position, text.len()))
         }
     }
+}
+
+/// Returns the numbers of a date that [`parse`] accepts, in range or not. Returns `None` for any other
+/// form. `20230229` has the year 2023, the month 2 and the day 29.
+pub fn parse_numbers(text: &[u8]) -> Option<DateNumbers>
+    ensures every { (f : DateNumbers) → HasIsoDate text.now f → result ≡ Some f }
+    ensures value { IfSome result (HasIsoDate text.now) }
+{
+    let mut scanner = Scanner { rest: text };
+    scan_whole_date(&mut scanner)
 }

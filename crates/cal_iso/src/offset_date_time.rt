@@ -1,5 +1,5 @@
 //! Date-times at an offset in ISO 8601, such as `20240229T2259Z`.
-ghost use Rattle.std.specs.Prelude.{◌≡◌, ◌↔◌, IfErr, IfOk, Ok};
+ghost use Rattle.std.specs.Prelude.{◌≡◌, ◌↔◌, IfErr, IfOk, IfSome, Ok, Some};
 ghost use Rattle.cal_time.specs.declared.error.ComponentRange.{ComponentRange};
 ghost use Rattle.cal_datetime.specs.OffsetDateTime.{LocalAndOffset};
 ghost use Rattle.cal_text.specs.declared.offset_date_time.numbers.OffsetDateTimeNumbers.{OffsetDateTimeNumbers};
@@ -10,7 +10,7 @@ ghost use Rattle.cal_iso.specs.MomentForm.{HasIsoMoment, IsIsoMomentText};
 
 use crate::offset_date_time::form::scan_moment;
 use cal_datetime::OffsetDateTime;
-use cal_text::{ParseError, Scanner, moment_from_numbers};
+use cal_text::{OffsetDateTimeNumbers, ParseError, Scanner, moment_from_numbers};
 
 pub(crate) mod form;
 
@@ -41,4 +41,14 @@ pub fn parse(text: &[u8]) -> Result<OffsetDateTime, ParseError>
             Err(ParseError::unexpected(position, text.len()))
         }
     }
+}
+
+/// Returns the numbers of a date-time that [`parse`] accepts, in range or not. Returns `None` for any
+/// other form. `20230229T24-26` has the day 29, the hour 24, a minus sign and the hours 26.
+pub fn parse_numbers(text: &[u8]) -> Option<OffsetDateTimeNumbers>
+    ensures every { (m : OffsetDateTimeNumbers) → HasIsoMoment text.now m → result ≡ Some m }
+    ensures value { IfSome result (HasIsoMoment text.now) }
+{
+    let mut scanner = Scanner { rest: text };
+    scan_moment(&mut scanner)
 }

@@ -1,5 +1,5 @@
 //! Local date-times in ISO 8601, such as `20240229T2259`.
-ghost use Rattle.std.specs.Prelude.{◌≡◌, ◌↔◌, ℤ, IfErr, IfOk, Ok};
+ghost use Rattle.std.specs.Prelude.{◌≡◌, ◌↔◌, ℤ, IfErr, IfOk, IfSome, Ok, Some};
 ghost use Rattle.cal_time.specs.declared.error.ComponentRange.{ComponentRange};
 ghost use Rattle.cal_text.specs.declared.plain.numbers.PlainNumbers.{PlainNumbers};
 ghost use Rattle.cal_text.specs.Parsing.{FailsWithComponent, FailsWithSyntax, HasError};
@@ -9,7 +9,7 @@ ghost use Rattle.cal_iso.specs.MomentForm.{HasIsoPlain, IsIsoPlainText};
 
 use crate::plain::form::scan_whole_plain;
 use cal_datetime::PlainDateTime;
-use cal_text::{ParseError, Scanner, plain_from_numbers};
+use cal_text::{ParseError, PlainNumbers, Scanner, plain_from_numbers};
 
 pub(crate) mod form;
 
@@ -38,4 +38,14 @@ pub fn parse(text: &[u8]) -> Result<PlainDateTime, ParseError>
             Err(ParseError::unexpected(position, text.len()))
         }
     }
+}
+
+/// Returns the numbers of a date-time that [`parse`] accepts, in range or not. Returns `None` for any
+/// other form. `20230229T24` has the day 29 and the hour 24.
+pub fn parse_numbers(text: &[u8]) -> Option<PlainNumbers>
+    ensures every { (p : PlainNumbers) → HasIsoPlain text.now p → result ≡ Some p }
+    ensures value { IfSome result (HasIsoPlain text.now) }
+{
+    let mut scanner = Scanner { rest: text };
+    scan_whole_plain(&mut scanner)
 }

@@ -1,5 +1,5 @@
 //! Times of day in ISO 8601, such as `T2259`.
-ghost use Rattle.std.specs.Prelude.{◌≡◌, ◌↔◌, ℕ, IfErr, IfOk, Ok};
+ghost use Rattle.std.specs.Prelude.{◌≡◌, ◌↔◌, ℕ, IfErr, IfOk, IfSome, Ok, Some};
 ghost use Rattle.cal_time.specs.declared.error.ComponentRange.{ComponentRange};
 ghost use Rattle.cal_text.specs.declared.time.numbers.TimeNumbers.{TimeNumbers};
 ghost use Rattle.cal_text.specs.Parsing.{FailsWithComponent, FailsWithSyntax, HasError};
@@ -8,7 +8,7 @@ ghost use Rattle.cal_text.specs.TimeForm.{IsTimeError};
 ghost use Rattle.cal_iso.specs.TimeForm.{HasIsoTime, IsIsoTimeText};
 
 use crate::time::form::scan_whole_time;
-use cal_text::{ParseError, Scanner, time_from_numbers};
+use cal_text::{ParseError, Scanner, TimeNumbers, time_from_numbers};
 use cal_time::Time;
 
 pub(crate) mod form;
@@ -40,4 +40,14 @@ pub fn parse(text: &[u8]) -> Result<Time, ParseError>
             Err(ParseError::unexpected(position, text.len()))
         }
     }
+}
+
+/// Returns the numbers of a time of day that [`parse`] accepts, in range or not. Returns `None` for any
+/// other form. `2460` has the hour 24 and the minute 60.
+pub fn parse_numbers(text: &[u8]) -> Option<TimeNumbers>
+    ensures every { (t : TimeNumbers) → HasIsoTime text.now t → result ≡ Some t }
+    ensures value { IfSome result (HasIsoTime text.now) }
+{
+    let mut scanner = Scanner { rest: text };
+    scan_whole_time(&mut scanner)
 }

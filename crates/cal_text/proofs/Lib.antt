@@ -24,6 +24,7 @@ pub mod PlainShapes
 pub mod OffsetDateTimeShapes
 pub mod Stops
 pub mod Positions
+pub mod Found
 pub mod Parts
 pub mod Forms
 pub mod DigitForms

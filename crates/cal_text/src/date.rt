@@ -1,5 +1,5 @@
 //! Dates in the three forms of ISO 8601.
-ghost use Rattle.std.specs.Prelude.{◌≡◌, ℕ, ◌↔◌, IfOk, IfErr, Ok};
+ghost use Rattle.std.specs.Prelude.{◌≡◌, ℕ, ◌↔◌, IfOk, IfErr, IfSome, Ok, Some};
 ghost use Rattle.cal_time.specs.Date.{IsDate};
 ghost use Rattle.cal_time.specs.declared.error.ComponentRange.{ComponentRange};
 ghost use Rattle.cal_text.specs.declared.date_numbers.DateNumbers.{DateNumbers};
@@ -8,7 +8,8 @@ ghost use Rattle.cal_text.specs.Position.{HasSome, IsErrorAtStop};
 ghost use Rattle.cal_text.specs.Parsing.{IsDateError, HasError, FailsWithComponent, FailsWithSyntax};
 
 use crate::date::from_numbers::date_from_numbers;
-use crate::date_numbers::parse_numbers;
+use crate::date_numbers;
+use crate::date_numbers::DateNumbers;
 use crate::error::ParseError;
 use cal_time::Date;
 
@@ -38,11 +39,20 @@ pub fn parse(text: &[u8]) -> Result<Date, ParseError>
     ensures out_of_range { (why : ComponentRange)
         → FailsWithComponent why result ↔ HasError HasForm IsDateError text.now why }
 {
-    match parse_numbers(text) {
+    match date_numbers::parse_numbers(text) {
         Ok(form) => match date_from_numbers(form) {
             Ok(date) => Ok(date),
             Err(error) => Err(ParseError::OutOfRange(error)),
         },
         Err(position) => Err(ParseError::unexpected(position, text.len())),
     }
+}
+
+/// Returns the numbers of a date that [`parse`] accepts, in range or not. Returns `None` for any other
+/// form. `2023-02-29` has the year 2023, the month 2 and the day 29.
+pub fn parse_numbers(text: &[u8]) -> Option<DateNumbers>
+    ensures every { (form : DateNumbers) → HasForm text.now form → result ≡ Some form }
+    ensures value { IfSome result (HasForm text.now) }
+{
+    date_numbers::parse_numbers(text).ok()
 }

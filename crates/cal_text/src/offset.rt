@@ -1,5 +1,5 @@
 //! Offsets from UTC.
-ghost use Rattle.std.specs.Prelude.{◌≡◌, ℤ, ◌↔◌, IfOk, IfErr, Ok};
+ghost use Rattle.std.specs.Prelude.{◌≡◌, ℤ, ◌↔◌, IfOk, IfErr, IfSome, Ok, Some};
 ghost use Rattle.cal_time.specs.declared.error.ComponentRange.{ComponentRange};
 ghost use Rattle.cal_text.specs.declared.offset.numbers.OffsetNumbers.{OffsetNumbers};
 ghost use Rattle.cal_text.specs.Position.{HasSome, IsErrorAtStop};
@@ -9,6 +9,7 @@ ghost use Rattle.cal_text.specs.OffsetForm.{HasOffsetForm, IsOffsetError, IsOffs
 use crate::error::ParseError;
 use crate::offset::form::scan_offset;
 use crate::offset::from_numbers::offset_from_numbers;
+use crate::offset::numbers::OffsetNumbers;
 use crate::scanner::Scanner;
 use cal_time::UtcOffset;
 
@@ -44,4 +45,14 @@ pub fn parse(text: &[u8]) -> Result<UtcOffset, ParseError>
             Err(ParseError::unexpected(position, text.len()))
         }
     }
+}
+
+/// Returns the numbers of an offset that [`parse`] accepts, in range or not. Returns `None` for any
+/// other form. `-26:60` has a minus sign, the hours 26 and the minutes 60.
+pub fn parse_numbers(text: &[u8]) -> Option<OffsetNumbers>
+    ensures every { (o : OffsetNumbers) → HasOffsetForm text.now o → result ≡ Some o }
+    ensures value { IfSome result (HasOffsetForm text.now) }
+{
+    let mut scanner = Scanner { rest: text };
+    scan_offset(&mut scanner)
 }

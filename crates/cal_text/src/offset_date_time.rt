@@ -1,5 +1,5 @@
 //! Moments: date-times with an offset.
-ghost use Rattle.std.specs.Prelude.{◌≡◌, ◌↔◌, IfOk, IfErr, Ok};
+ghost use Rattle.std.specs.Prelude.{◌≡◌, ◌↔◌, IfOk, IfErr, IfSome, Ok, Some};
 ghost use Rattle.cal_time.specs.declared.error.ComponentRange.{ComponentRange};
 ghost use Rattle.cal_datetime.specs.OffsetDateTime.{LocalAndOffset};
 ghost use Rattle.cal_text.specs.declared.offset_date_time.numbers.OffsetDateTimeNumbers.{OffsetDateTimeNumbers};
@@ -10,6 +10,7 @@ ghost use Rattle.cal_text.specs.OffsetDateTimeForm.{HasOffsetDateTimeForm, IsOff
 use crate::error::ParseError;
 use crate::offset_date_time::form::scan_offset_date_time;
 use crate::offset_date_time::from_numbers::moment_from_numbers;
+use crate::offset_date_time::numbers::OffsetDateTimeNumbers;
 use crate::scanner::Scanner;
 use cal_datetime::OffsetDateTime;
 
@@ -45,4 +46,14 @@ pub fn parse(text: &[u8]) -> Result<OffsetDateTime, ParseError>
             Err(ParseError::unexpected(position, text.len()))
         }
     }
+}
+
+/// Returns the numbers of a date-time that [`parse`] accepts, in range or not. Returns `None` for any
+/// other form. `2023-02-29T24:00-26:00` has the day 29, the hour 24, a minus sign and the hours 26.
+pub fn parse_numbers(text: &[u8]) -> Option<OffsetDateTimeNumbers>
+    ensures every { (m : OffsetDateTimeNumbers) → HasOffsetDateTimeForm text.now m → result ≡ Some m }
+    ensures value { IfSome result (HasOffsetDateTimeForm text.now) }
+{
+    let mut scanner = Scanner { rest: text };
+    scan_offset_date_time(&mut scanner)
 }

@@ -1,5 +1,5 @@
 //! Date-times without an offset.
-ghost use Rattle.std.specs.Prelude.{◌≡◌, ℤ, ◌↔◌, IfOk, IfErr, Ok};
+ghost use Rattle.std.specs.Prelude.{◌≡◌, ℤ, ◌↔◌, IfOk, IfErr, IfSome, Ok, Some};
 ghost use Rattle.cal_time.specs.declared.error.ComponentRange.{ComponentRange};
 ghost use Rattle.cal_text.specs.declared.plain.numbers.PlainNumbers.{PlainNumbers};
 ghost use Rattle.cal_text.specs.Position.{HasSome, IsErrorAtStop};
@@ -9,6 +9,7 @@ ghost use Rattle.cal_text.specs.PlainForm.{HasPlainForm, IsPlainError, IsPlainTe
 use crate::error::ParseError;
 use crate::plain::form::scan_whole_plain;
 use crate::plain::from_numbers::plain_from_numbers;
+use crate::plain::numbers::PlainNumbers;
 use crate::scanner::Scanner;
 use cal_datetime::PlainDateTime;
 
@@ -44,4 +45,14 @@ pub fn parse(text: &[u8]) -> Result<PlainDateTime, ParseError>
             Err(ParseError::unexpected(position, text.len()))
         }
     }
+}
+
+/// Returns the numbers of a date-time that [`parse`] accepts, in range or not. Returns `None` for any
+/// other form. `2023-02-29T24:00` has the day 29 and the hour 24.
+pub fn parse_numbers(text: &[u8]) -> Option<PlainNumbers>
+    ensures every { (p : PlainNumbers) → HasPlainForm text.now p → result ≡ Some p }
+    ensures value { IfSome result (HasPlainForm text.now) }
+{
+    let mut scanner = Scanner { rest: text };
+    scan_whole_plain(&mut scanner)
 }

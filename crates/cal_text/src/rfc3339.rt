@@ -1,5 +1,5 @@
 //! Moments of RFC 3339.
-ghost use Rattle.std.specs.Prelude.{◌≡◌, ◌↔◌, IfOk, IfErr, Ok};
+ghost use Rattle.std.specs.Prelude.{◌≡◌, ◌↔◌, IfOk, IfErr, IfSome, Ok, Some};
 ghost use Rattle.cal_time.specs.declared.error.ComponentRange.{ComponentRange};
 ghost use Rattle.cal_datetime.specs.OffsetDateTime.{LocalAndOffset};
 ghost use Rattle.cal_text.specs.declared.rfc3339.numbers.Numbers.{Numbers};
@@ -19,6 +19,7 @@ mod numbers;
 mod text;
 
 pub(crate) use form::{is_separator, scan_separator};
+pub use numbers::{Numbers, TimeOffset};
 pub use text::Text;
 
 /// Parses a moment of RFC 3339, such as `2024-02-29T23:59:59.25+01:00`.
@@ -55,4 +56,14 @@ pub fn parse(text: &[u8]) -> Result<OffsetDateTime, ParseError>
             Err(ParseError::unexpected(position, text.len()))
         }
     }
+}
+
+/// Returns the numbers of a moment that [`parse`] accepts, in range or not. Returns `None` for any
+/// other form. `2023-02-29T24:00:00-24:00` has the day 29, the hour 24 and the hours -24 of the offset.
+pub fn parse_numbers(text: &[u8]) -> Option<Numbers>
+    ensures every { (m : Numbers) → HasMomentForm text.now m → result ≡ Some m }
+    ensures value { IfSome result (HasMomentForm text.now) }
+{
+    let mut scanner = Scanner { rest: text };
+    scan_numbers(&mut scanner)
 }

@@ -1,5 +1,5 @@
 //! Times of day.
-ghost use Rattle.std.specs.Prelude.{◌≡◌, ℕ, ◌↔◌, IfOk, IfErr, Ok};
+ghost use Rattle.std.specs.Prelude.{◌≡◌, ℕ, ◌↔◌, IfOk, IfErr, IfSome, Ok, Some};
 ghost use Rattle.cal_time.specs.declared.error.ComponentRange.{ComponentRange};
 ghost use Rattle.cal_text.specs.declared.time.numbers.TimeNumbers.{TimeNumbers};
 ghost use Rattle.cal_text.specs.Position.{HasSome, IsErrorAtStop};
@@ -10,6 +10,7 @@ use crate::error::ParseError;
 use crate::scanner::Scanner;
 use crate::time::form::scan_whole_time;
 use crate::time::from_numbers::time_from_numbers;
+use crate::time::numbers::TimeNumbers;
 use cal_time::Time;
 
 pub(crate) mod form;
@@ -43,4 +44,14 @@ pub fn parse(text: &[u8]) -> Result<Time, ParseError>
             Err(ParseError::unexpected(position, text.len()))
         }
     }
+}
+
+/// Returns the numbers of a time of day that [`parse`] accepts, in range or not. Returns `None` for any
+/// other form. `24:60` has the hour 24 and the minute 60.
+pub fn parse_numbers(text: &[u8]) -> Option<TimeNumbers>
+    ensures every { (t : TimeNumbers) → HasTimeForm text.now t → result ≡ Some t }
+    ensures value { IfSome result (HasTimeForm text.now) }
+{
+    let mut scanner = Scanner { rest: text };
+    scan_whole_time(&mut scanner)
 }

@@ -50,7 +50,7 @@ SELECT * FROM (VALUES
 
 -- errors: a text that isn't one, a value out of range, another argument; and where
 SELECT * FROM (VALUES
-    (1, pg_temp.error_of($$SELECT cal_parse('2023-02-29')$$), '22008 invalid date: "2023-02-29" / day is out of range'),
+    (1, pg_temp.error_of($$SELECT cal_parse('2023-02-29')$$), '22008 invalid date: "2023-02-29" / day 29 is out of range 1 to 28 (February 2023)'),
     (2, pg_temp.error_of($$SELECT cal_parse('2024-02-2x')$$), '22007 invalid date: "2024-02-2x" / unexpected byte at character 10'),
     (3, pg_temp.error_of($$SELECT cal_parse('2024-02')$$), '22007 invalid date: "2024-02" / unexpected end at character 8'),
     (4, pg_temp.error_of($$SELECT cal_parse('2024–02-29')$$), '22007 invalid date: "2024–02-29" / unexpected byte at character 5'),
@@ -85,19 +85,19 @@ SELECT * FROM (VALUES
 
 -- why a string isn't valid: the words of the error, NULL for a valid one, and an error for a format that can't say
 SELECT * FROM (VALUES
-    (1, cal_error('2024-02-29'), NULL), (2, cal_error(NULL), NULL), (3, cal_error('2023-02-29'), 'day is out of range'),
-    (4, cal_error('2024-13-01'), 'month is out of range'), (5, cal_error('2024-02-2x'), 'unexpected byte at character 10'),
+    (1, cal_error('2024-02-29'), NULL), (2, cal_error(NULL), NULL), (3, cal_error('2023-02-29'), 'day 29 is out of range 1 to 28 (February 2023)'),
+    (4, cal_error('2024-13-01'), 'month 13 is out of range 1 to 12'), (5, cal_error('2024-02-2x'), 'unexpected byte at character 10'),
     (6, cal_error('2024–02-29'), 'unexpected byte at character 5'), (7, cal_error(''), 'unexpected end at character 1'),
-    (8, cal_error('29.02.2024', '%d.%m.%Y'), NULL), (9, cal_error('31.04.2024', '%d.%m.%Y'), 'day is out of range'),
+    (8, cal_error('29.02.2024', '%d.%m.%Y'), NULL), (9, cal_error('31.04.2024', '%d.%m.%Y'), 'day 31 is out of range 1 to 30 (April 2024)'),
     (10, cal_error('Wed 2024-02-29', '%a %Y-%m-%d'), 'weekday contradicts the other components'),
-    (11, cal_error_local('2024-02-29 9:05'), NULL), (12, cal_error_local('2024-02-29 24:00'), 'hour is out of range'),
-    (13, cal_error_local('9:65 29.02.2024', '%-H:%M %d.%m.%Y'), 'minute is out of range'),
+    (11, cal_error_local('2024-02-29 9:05'), NULL), (12, cal_error_local('2024-02-29 24:00'), 'hour 24 is out of range 0 to 23'),
+    (13, cal_error_local('9:65 29.02.2024', '%-H:%M %d.%m.%Y'), 'minute 65 is out of range 0 to 59'),
     (14, cal_error_instant('2024-02-29T23:59:59Z'), NULL), (15, cal_error_instant('2024-02-29T23:59:59'), 'unexpected end at character 20'),
-    (16, cal_error_instant('2024-02-29 9:05 +26:00', '%Y-%m-%d %-H:%M %:z'), 'offset hour is out of range'),
+    (16, cal_error_instant('2024-02-29 9:05 +26:00', '%Y-%m-%d %-H:%M %:z'), 'offset hour 26 is out of range -25 to 25'),
     (17, pg_temp.error_of($$SELECT cal_error('05', '%m')$$), '22023 format: the texts of a format don''t determine such a value'),
     (18, pg_temp.error_of($$SELECT cal_error('05', '%Q')$$), '22023 invalid format: "%Q" / unknown item at character 1'),
     (19, (SELECT string_agg(t || ': ' || cal_error(t), '; ' ORDER BY t) FROM unnest(ARRAY['2024-02-29', NULL, '2023-02-29', '29.2.']) AS t WHERE NOT cal_valid(t)),
-        '2023-02-29: day is out of range; 29.2.: unexpected byte at character 3')
+        '2023-02-29: day 29 is out of range 1 to 28 (February 2023); 29.2.: unexpected byte at character 3')
 ) AS row(id, result, expected) WHERE result IS DISTINCT FROM expected;
 
 -- other dates and exceptions: in any order, twice, in both, before the start, outside the range, in a gap, NULL, infinity, too many

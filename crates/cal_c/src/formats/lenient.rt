@@ -52,7 +52,7 @@ macro_rules! result_of {
 }
 
 /// Returns the lenient format, with a pivot unless the number is negative.
-fn lenient(format: Format, pivot: i32) -> LenientFormat
+pub(crate) fn lenient(format: Format, pivot: i32) -> LenientFormat
     ensures { result ≡ lenient_of format pivot }
 {
     if pivot < 0 {

@@ -1,0 +1,2 @@
+mod Nothing
+mod FieldSentences
