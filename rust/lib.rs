@@ -144,6 +144,28 @@ pub mod error {
     #[cfg(feature = "std")]
     pub use crate::std_zones::NamedZoneError;
     pub use crate::values::TooManyValues;
+
+    /// Sentences of errors, which say the value and its range, or the unknown item of a format. The
+    /// errors themselves print the words of the crate `time`.
+    ///
+    /// ```
+    /// use fotsevindre::Date;
+    /// use fotsevindre::error::sentences::{Components, component_sentence, string_sentence};
+    /// use fotsevindre::error::{Component, ParseError};
+    ///
+    /// let text = "2023-02-29";
+    /// let Err(ParseError::OutOfRange(error)) = text.parse::<Date>() else { panic!("{text} is a date") };
+    /// assert_eq!(error.to_string(), "day was not in range");
+    /// let sentence = string_sentence(error.component(), text.as_bytes()).unwrap();
+    /// assert_eq!(sentence.to_string(), "day 29 is out of range 1 to 28 (February 2023)");
+    ///
+    /// let components = Components { year: 2023, month: 2, day: 29, ..Components::default() };
+    /// assert_eq!(component_sentence(Component::Day, &components).unwrap().to_string(), sentence.to_string());
+    /// ```
+    pub mod sentences {
+        pub use crate::cal_errors::{Components, Sentence, component_sentence, contradiction, unexpected, unknown_item};
+        pub use crate::cal_string_errors::{format_sentence, lenient_sentence, string_sentence};
+    }
 }
 
 /// Events of calendar files (iCalendar, RFC 5545) and their recurrence sets.

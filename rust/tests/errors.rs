@@ -145,3 +145,32 @@ fn makers_of_durations_end_where_durations_do() {
         }
     }
 }
+
+#[test]
+fn sentences_of_strings() {
+    use fotsevindre::error::Component;
+    use fotsevindre::error::sentences::{
+        contradiction, format_sentence, lenient_sentence, string_sentence, unexpected, unknown_item,
+    };
+    use fotsevindre::format::Format;
+
+    for (component, text, sentence) in [
+        (Component::Day, "20230229", "day 29 is out of range 1 to 28 (February 2023)"),
+        (Component::Hour, "24:00", "hour 24 is out of range 0 to 23"),
+        (Component::OffsetHour, "2024-02-29T23:00:00+24:00", "offset hour 24 is out of range -23 to 23"),
+    ] {
+        assert_eq!(string_sentence(component, text.as_bytes()).unwrap().to_string(), sentence);
+    }
+    assert!(string_sentence(Component::Day, b"2024-02-29").is_none());
+    assert!(string_sentence(Component::Day, b"29 February").is_none());
+    let format = Format::new("%d/%m/%y").unwrap();
+    let lenient = format.clone().lenient().with_pivot(1970);
+    assert_eq!(
+        lenient_sentence(Component::Day, &lenient, b"29/2/71").unwrap().to_string(),
+        "day 29 is out of range 1 to 28 (February 1971)"
+    );
+    assert_eq!(format_sentence(Component::Month, &format, b"29/13/71").unwrap().to_string(), "month 13 is out of range 1 to 12");
+    assert_eq!(format!("{:>9}|{:.5}", unexpected(b'x', 4), unexpected(0xE2, 4)), "unexpected \"x\" at position 4|unexp");
+    assert_eq!(contradiction(Component::Weekday).to_string(), "weekday contradicts the other components");
+    assert_eq!(unknown_item(b"%Q %d", 3).to_string(), "unknown item \"%Q\" at position 3");
+}
