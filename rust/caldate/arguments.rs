@@ -16,6 +16,8 @@ use cal_schedule::CalendarUnit;
 use cal_text::DateOrMoment;
 use cal_time::{Date, Month, Time, UtcOffset};
 use cal_zone::{Policy, Zone};
+use caldate_answers::language::{Language, names_of};
+use caldate_answers::reading::in_language::LanguageKind;
 use caldate_answers::reading::reader::Reader;
 use caldate_answers::reading::value_format::ValueFormat;
 use caldate_answers::reading::yearless::AssumedYear;
@@ -294,11 +296,30 @@ fn value_format_text(format: &ValueFormat) -> String {
         ValueFormat::Dates(_) => format!("date:{}", printed(format.as_format())),
         ValueFormat::Moments(_) => format!("moment:{}", printed(format.as_format())),
         ValueFormat::DateTimes(_) => format!("local:{}", printed(format.as_format())),
+        ValueFormat::InLanguage(named) => {
+            let kind = match named.kind() {
+                LanguageKind::Dates(_) => "date",
+                LanguageKind::Moments(_) => "moment",
+                LanguageKind::DateTimes(_) => "local",
+            };
+            format!("{} {kind}:{}", named_text(named.language()), printed(format.as_format()))
+        }
         ValueFormat::Lenient(_) => {
             let text = printed(format.as_format());
             format!("lenient {}:{text} from {}", kind_read(format, &text), first_year(format))
         }
     }
+}
+
+/// Returns the name of February in the language, which no other language has.
+fn named_text(language: Language) -> String {
+    let names = names_of(language);
+    format!("{}/{}", names.months[1], names.weekdays[3])
+}
+
+/// Returns the same and a space, or nothing without a language.
+fn language_text(language: Option<Language>) -> String {
+    language.map_or_else(String::new, |language| format!("{} ", named_text(language)))
 }
 
 /// Returns what the format reads: a date, a moment, or a moment at any offset that is assumed.
@@ -376,7 +397,7 @@ fn request_text(request: &Request<'_>) -> String {
     match request {
         Request::To(form) => format!("to {}", form_name(*form)),
         Request::ToIso => "to iso".into(),
-        Request::Print(format) => format!("print {}", printed(format)),
+        Request::Print(format, language) => format!("print {}{}", language_text(*language), printed(format)),
         Request::Move(by) => move_text(*by),
         Request::MoveAt(clock, by) => {
             format!("at {} {}", clock_text(clock), move_text(*by))
@@ -384,7 +405,9 @@ fn request_text(request: &Request<'_>) -> String {
         Request::Until(own, target, measure) => format!("{}until {}", own_text(own), target_text(target, *measure)),
         Request::Since(own, target, measure) => format!("{}since {}", own_text(own), target_text(target, *measure)),
         Request::At(place, form) => format!("at {} to {}", place_text(place), form_name(*form)),
-        Request::PrintAt(place, format) => format!("at {} print {}", place_text(place), printed(format)),
+        Request::PrintAt(place, format, language) => {
+            format!("at {} print {}{}", place_text(place), language_text(*language), printed(format))
+        }
         Request::Keep(Bounds::FromTo(first, last)) => {
             format!("keep from {} to {}", found_text(first), found_text(last))
         }

@@ -10,11 +10,13 @@ use Rattle.cal_text.specs.declared.any.DateOrMoment.{DateOrMoment}
 use Rattle.cal_text.specs.declared.any.DateOrMoment.TheVariants as read
 use Rattle.cal_text.specs.declared.any.MomentForm.TheVariants.{Rfc3339, Unix}
 use Rattle.cal_duration.specs.DurationText.{period_text}
+use Rattle.cal_format.specs.declared.item.Item.{Item}
 use Rattle.cal_schedule.specs.Workdays.{WorkWeek}
 use Rattle.caldate_lines.specs.declared.no_answer.NoAnswer.{NoAnswer}
 use Rattle.caldate_answers.specs.Answers.{Answer, HasNone, IsAnswer, IsAnswerBy, IsAnswerTo, IsBetween, IsBetweenBy, IsMeasured, IsMeasuredOn, IsMoved, clock_of, form_iso, IsMovedAt, IsMovedBy, IsNotRead, IsReadAs, IsWhyNotMoved, IsWhyUnanswered, IsWhyUnmoved, compares, day_of, floored, form_read, leaves_out, moment_of, on_day, own_clock, why_unmoved}
 use Rattle.caldate_answers.specs.Bounds.{lies_in}
-use Rattle.caldate_answers.specs.Forms.{IsInForm, format_text}
+use Rattle.caldate_answers.specs.Forms.{IsInForm, IsPrinted}
+use Rattle.caldate_answers.specs.declared.language.Language.{Language}
 use Rattle.caldate_answers.specs.declared.request.Filter.{Filter}
 use Rattle.caldate_answers.specs.declared.request.Form.{Form}
 use Rattle.caldate_answers.specs.declared.request.Form.TheVariants.{Date, Weekday, Moment, ShortWeekday, Month, Quarter, Basic}
@@ -48,6 +50,13 @@ in_form (form.Unix unit) m a b h k = h ∙ sym k
 
 in_form_at : (form : Form) (m n : LocalAndOffset) (a b : List ℕ) → m ≡ n → IsInForm form m a → IsInForm form n b → a ≡ b
 in_form_at form m n a b e h k = in_form form n a b (subst (λ m. IsInForm form m a) e h) k
+
+printed : (language : Option Language) (items : List Item) (m : LocalAndOffset) (a b : List ℕ) → IsPrinted language items m a → IsPrinted language items m b → a ≡ b
+printed None items m a b h k = h ∙ sym k
+printed (Some language) items m a b h k = h.1 ∙ sym k.1
+
+printed_at : (language : Option Language) (items : List Item) (m n : LocalAndOffset) (a b : List ℕ) → m ≡ n → IsPrinted language items m a → IsPrinted language items n b → a ≡ b
+printed_at language items m n a b e h k = printed language items n a b (subst (λ m. IsPrinted language items m a) e h) k
 
 measured : (workdays : WorkWeek) (m : Measure) (from to : DateOrMoment) (a b : List ℕ) → IsMeasured workdays m from to a → IsMeasured workdays m from to b → a ≡ b
 measured workdays (measure.Units unit) from to a b h k = h.2 ∙ ap signed_decimal (one_count workdays unit (moment_of from) (moment_of to) h.0 k.0 h.1 k.1) ∙ sym k.2
@@ -110,7 +119,7 @@ one_answer_to : (clock : Option Clock) (workdays : WorkWeek) (q : Request) (text
     → IsOneClock clock → IsOneRequest q → IsAnswerTo clock workdays q text found a → IsAnswerTo clock workdays q text found b → a ≡ b
 one_answer_to clock workdays (To form) text found a b one own h k = in_form form (moment_of found) a b h k
 one_answer_to clock workdays ToIso text found a b one own h k = in_form (form_iso found) (moment_of found) a b h k
-one_answer_to clock workdays (Print items) text found a b one own h k = h ∙ sym k
+one_answer_to clock workdays (Print items language) text found a b one own h k = printed language items (moment_of found) a b h k
 one_answer_to clock workdays (Move by) text found a b one own h k = one_moved_by clock workdays by found a b one h k
 one_answer_to clock workdays (MoveAt other by) text found a b one own h k = one_moved_at other workdays by (Moment Rfc3339) (moment_of found) a b (own other refl) h k
 one_answer_to clock workdays (Until before (target.Text to) m) text found a b one own h k = between_by (own_clock before clock) workdays m found to a b (own_one before clock one own) h k
@@ -120,7 +129,7 @@ one_answer_to clock workdays (Since before (target.Text from) m) text found a b 
 one_answer_to clock workdays (Since before (target.Fields numbers) m) text found a b one own h k = absurd h
 one_answer_to clock workdays (Since before (target.Name name) m) text found a b one own h k = absurd h
 one_answer_to clock workdays (At place form) text found a b one own h k = in_form_at form _ _ a b (h.1.value ∙ sym k.1.value) h.2 k.2
-one_answer_to clock workdays (PrintAt place items) text found a b one own h k = h.2 ∙ ap (format_text items) (h.1.value ∙ sym k.1.value) ∙ sym k.2
+one_answer_to clock workdays (PrintAt place items language) text found a b one own h k = printed_at language items _ _ a b (h.1.value ∙ sym k.1.value) h.2 k.2
 one_answer_to clock workdays (Keep bounds) text found a b one own h k = h.1 ∙ sym k.1
 
 -- a line with an answer is not left out
@@ -128,13 +137,13 @@ stays : (clock : Option Clock) (workdays : WorkWeek) (q : Request) (text : List 
 stays clock workdays (Keep bounds) text found words h out = false≢true (sym (ap (λ lies. option_map_or not lies false) h.0) ∙ out)
 stays clock workdays (To form) text found words h out = false≢true out
 stays clock workdays ToIso text found words h out = false≢true out
-stays clock workdays (Print items) text found words h out = false≢true out
+stays clock workdays (Print items language) text found words h out = false≢true out
 stays clock workdays (Move by) text found words h out = false≢true out
 stays clock workdays (MoveAt other by) text found words h out = false≢true out
 stays clock workdays (Until before target unit) text found words h out = false≢true out
 stays clock workdays (Since before target unit) text found words h out = false≢true out
 stays clock workdays (At place form) text found words h out = false≢true out
-stays clock workdays (PrintAt place items) text found words h out = false≢true out
+stays clock workdays (PrintAt place items language) text found words h out = false≢true out
 
 -- a line without an answer is left out if `keep` compares it
 by_bounds : (lies : Option Bool) → (lies ≡ Some true → ⊥) → option_map_or not lies false ≡ is_some lies
@@ -146,13 +155,13 @@ pub left_out : (clock : Option Clock) (workdays : WorkWeek) (q : Request) (text 
 left_out clock workdays (Keep bounds) text found lacks = by_bounds (lies_in bounds found) (λ lies. lacks text (lies, refl))
 left_out clock workdays (To form) text found lacks = refl
 left_out clock workdays ToIso text found lacks = refl
-left_out clock workdays (Print items) text found lacks = refl
+left_out clock workdays (Print items language) text found lacks = refl
 left_out clock workdays (Move by) text found lacks = refl
 left_out clock workdays (MoveAt other by) text found lacks = refl
 left_out clock workdays (Until before target unit) text found lacks = refl
 left_out clock workdays (Since before target unit) text found lacks = refl
 left_out clock workdays (At place form) text found lacks = refl
-left_out clock workdays (PrintAt place items) text found lacks = refl
+left_out clock workdays (PrintAt place items language) text found lacks = refl
 
 -- ---- one reason
 one_unmoved : (clock : Clock) (workdays : WorkWeek) (by : AnyMove) (m : LocalAndOffset) (a b : NoAnswer) → OneLocal clock.zone → IsWhyUnmoved clock workdays by m a → IsWhyUnmoved clock workdays by m b → a ≡ b
@@ -169,11 +178,11 @@ one_why clock workdays (Move by) found a b one own h k = one_not_moved clock wor
 one_why clock workdays (MoveAt other by) found a b one own h k = one_unmoved other workdays by (moment_of found) a b (own other refl) h k
 one_why clock workdays (To form) found a b one own h k = h ∙ sym k
 one_why clock workdays ToIso found a b one own h k = h ∙ sym k
-one_why clock workdays (Print items) found a b one own h k = h ∙ sym k
+one_why clock workdays (Print items language) found a b one own h k = h ∙ sym k
 one_why clock workdays (Until before target unit) found a b one own h k = h ∙ sym k
 one_why clock workdays (Since before target unit) found a b one own h k = h ∙ sym k
 one_why clock workdays (At place form) found a b one own h k = h ∙ sym k
-one_why clock workdays (PrintAt place items) found a b one own h k = h ∙ sym k
+one_why clock workdays (PrintAt place items language) found a b one own h k = h ∙ sym k
 one_why clock workdays (Keep bounds) found a b one own h k = h ∙ sym k
 
 -- ---- the answer for what a reader says of the text

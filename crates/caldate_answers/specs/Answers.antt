@@ -23,13 +23,14 @@ use Rattle.caldate_answers.specs.Clocks.{IsPlaced}
 use Rattle.caldate_answers.specs.Counts.{IsCount}
 use Rattle.caldate_answers.specs.ClockCounts.{IsCountOn}
 use Rattle.caldate_answers.specs.Bounds.{lies_in}
-use Rattle.caldate_answers.specs.Forms.{IsInForm, format_text}
+use Rattle.caldate_answers.specs.Forms.{IsInForm, IsPrinted}
 pub use Rattle.caldate_answers.specs.Found.{day_of, form_iso, form_read, is_date, moment_of}
 use Rattle.caldate_answers.specs.ClockMoves.{IsMovedOn}
 pub use Rattle.caldate_answers.specs.Moves.{floored, on_day}
 use Rattle.caldate_answers.specs.Moves.{IsNearest, MovesTo}
 use Rattle.caldate_answers.specs.Periods.{IsAfter, IsPeriodBetween, IsPeriodOn, IsPeriodText, duration_from, hours_text}
 use Rattle.caldate_answers.specs.Readers.{IsFoundBy, IsUnread}
+use Rattle.caldate_answers.specs.declared.language.Language.{Language}
 use Rattle.caldate_answers.specs.declared.request.Clock.{Clock}
 use Rattle.caldate_answers.specs.declared.request.DayMove.{DayMove}
 use Rattle.caldate_answers.specs.declared.request.Filter.{Filter}
@@ -93,8 +94,8 @@ offset_in (place.Zone zone) from = offset_at zone (unix_seconds (instant from))
 abbrev pub IsAt : Place → Form → LocalAndOffset → List ℕ → Type 0
 IsAt place form from words = (m : LocalAndOffset) × IsShownAt (offset_in place from) from m × IsInForm form m words
 
-abbrev pub IsPrintedAt : Place → List Item → LocalAndOffset → List ℕ → Type 0
-IsPrintedAt place items from words = (m : LocalAndOffset) × IsShownAt (offset_in place from) from m × (words ≡ format_text items m)
+abbrev pub IsPrintedAt : Place → Option Language → List Item → LocalAndOffset → List ℕ → Type 0
+IsPrintedAt place language items from words = (m : LocalAndOffset) × IsShownAt (offset_in place from) from m × IsPrinted language items m words
 
 -- The words are the moved day in the form that was read, at the same time of day.
 abbrev pub IsOnMovedDay : WorkWeek → DayMove → DateOrMoment → List ℕ → Type 0
@@ -161,13 +162,13 @@ clock_of other = None
 abbrev pub IsAnswerTo : Option Clock → WorkWeek → Request → List ℕ → DateOrMoment → List ℕ → Type 0
 IsAnswerTo clock workdays (To form) text found words = IsInForm form (moment_of found) words
 IsAnswerTo clock workdays ToIso text found words = IsInForm (form_iso found) (moment_of found) words
-IsAnswerTo clock workdays (Print items) text found words = words ≡ format_text items (moment_of found)
+IsAnswerTo clock workdays (Print items language) text found words = IsPrinted language items (moment_of found) words
 IsAnswerTo clock workdays (Move by) text found words = IsMovedBy clock workdays by found words
 IsAnswerTo clock workdays (MoveAt other by) text found words = IsMovedAt other workdays by (Moment Rfc3339) (moment_of found) words
 IsAnswerTo clock workdays (Until own (target.Text to) unit) text found words = IsBetweenBy (own_clock own clock) workdays unit found to words
 IsAnswerTo clock workdays (Since own (target.Text from) unit) text found words = IsBetweenBy (own_clock own clock) workdays unit from found words
 IsAnswerTo clock workdays (At place form) text found words = IsAt place form (moment_of found) words
-IsAnswerTo clock workdays (PrintAt place items) text found words = IsPrintedAt place items (moment_of found) words
+IsAnswerTo clock workdays (PrintAt place items language) text found words = IsPrintedAt place language items (moment_of found) words
 IsAnswerTo clock workdays (Keep bounds) text found words = (lies_in bounds found ≡ Some true) × (words ≡ text)
 IsAnswerTo clock workdays other text found words = ⊥
 

@@ -7,6 +7,7 @@ pub mod Clocks
 pub mod Counts
 pub mod Forms
 pub mod Found
+pub mod Languages
 pub mod Leniency
 pub mod Moves
 pub mod Nearness

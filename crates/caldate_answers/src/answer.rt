@@ -9,7 +9,7 @@ ghost use Rattle.caldate_lines.specs.declared.no_answer.NoAnswer.{NoAnswer};
 ghost use Rattle.caldate_answers.specs.Answers.{IsAnswer, IsAnswerAfter, IsAnswerLater, IsAnswerNearest, IsAnswerTo, IsAt, IsBetween, IsBetweenBy, IsBetweenOn, IsMeasured, IsMeasuredOn, IsPrintedAt, form_iso, IsDayLater, IsLater, IsMomentLater, IsMoved, IsMovedAt, IsMovedBy, IsNotRead, IsOnMovedDay, IsReadAs, compares, floored, form_read, is_date, keeps, moment_of, offset_in, on_day, own_clock, until_text};
 ghost use Rattle.caldate_answers.specs.Bounds.{lies_in};
 ghost use Rattle.caldate_answers.specs.ClockCounts.{IsCountOn};
-ghost use Rattle.caldate_answers.specs.Forms.{IsInForm, format_text};
+ghost use Rattle.caldate_answers.specs.Forms.{IsInForm, IsPrinted, format_text};
 ghost use Rattle.caldate_answers.specs.Periods.{IsPeriodBetween, IsPeriodOn, IsPeriodText};
 ghost use Rattle.caldate_answers.specs.Readers.{IsUnreadIn};
 ghost use Rattle.caldate_answers.specs.Readings.{IsTextIn};
@@ -45,13 +45,15 @@ use crate::answer::texts::{
     push_basic, push_date, push_month, push_quarter, push_rfc3339, push_signed, push_unix,
     push_whole_unix,
 };
+use crate::language::{Language, names_of};
 use crate::reading::reader::Reader;
 use crate::reading::{Reading, first_reason, read, read_in, reason_of};
 use crate::request::{
     Bounds, Clock, DayMove, Filter, Form, Measure, Move, Place, Request, Target, TimeUnit,
 };
 use cal_datetime::OffsetDateTime;
-use cal_format::Format;
+use cal_format::{Format, Moment};
+use cal_named_format::print;
 use cal_rounding::RoundingUnit;
 use cal_schedule::{Period, Workdays};
 use cal_text::{DateForm, DateOrMoment, MomentForm};
@@ -63,6 +65,9 @@ use caldate_lines::output::buffer::Buffer;
 
 /// The maximum length of a string that a format prints: 15 bytes for each of 64 items.
 const LONGEST_PRINTED: usize = 960;
+
+/// The maximum length of an answer.
+const LONGEST_ANSWER: usize = 1000;
 
 /// Appends the answer to `text`, and returns whether its line goes out.
 // The results of rare calls are matched, so that no line waits for one in memory.
@@ -236,9 +241,8 @@ fn push_answer_to(
     match request {
         Request::To(form) => push_in_form(buffer, *form, moment_of(found)),
         Request::ToIso => push_in_form(buffer, form_iso(found), moment_of(found)),
-        Request::Print(format) => {
-            push_printed(buffer, format, moment_of(found));
-            true
+        Request::Print(format, language) => {
+            push_printed(buffer, format, *language, moment_of(found))
         }
         Request::Move(by) => push_moved_by(buffer, clock, workdays, by, found),
         Request::MoveAt(clock, by) => {
@@ -256,8 +260,8 @@ fn push_answer_to(
         Request::Since(_, Target::Fields(_), _) => false,
         Request::Since(_, Target::Name(_), _) => false,
         Request::At(place, form) => push_at(buffer, place, *form, moment_of(found)),
-        Request::PrintAt(place, format) => {
-            push_printed_at(buffer, place, format, moment_of(found))
+        Request::PrintAt(place, format, language) => {
+            push_printed_at(buffer, place, format, *language, moment_of(found))
         }
         Request::Keep(bounds) => push_kept(buffer, bounds, text, found),
     }
@@ -365,10 +369,61 @@ fn push_in_form(buffer: &mut Buffer, form: Form, moment: OffsetDateTime) -> bool
     true
 }
 
+/// Appends a moment in a format, perhaps with the names of a language, or nothing. Returns whether
+/// it has such a string of at most 1000 bytes.
+fn push_printed(
+    buffer: &mut Buffer,
+    format: &Format,
+    language: Option<Language>,
+    moment: OffsetDateTime,
+) -> bool
+    requires { HasRoom longest_answer buffer.old }
+    ensures has { result ≡ true
+        → AppendsSome (IsPrinted language format.now moment) buffer.old buffer.new }
+    ensures none { result ≡ false → (buffer.new ≡ buffer.old)
+        × ((words : List ℕ) → ¬ IsPrinted language format.now moment words) }
+    ensures short { length buffer.new ≤ length buffer.old + longest_answer }
+{
+    match language {
+        Some(language) => push_in_language(buffer, format, language, moment),
+        None => {
+            push_english(buffer, format, moment);
+            true
+        }
+    }
+}
+
+/// Appends a moment in a format with the names of a language, or nothing. Returns whether the
+/// string has at most 1000 bytes.
+#[inline(never)]
+fn push_in_language(
+    buffer: &mut Buffer,
+    format: &Format,
+    language: Language,
+    moment: OffsetDateTime,
+) -> bool
+    requires { HasRoom longest_answer buffer.old }
+    ensures has { result ≡ true
+        → AppendsSome (IsPrinted (Some language) format.now moment) buffer.old buffer.new }
+    ensures none { result ≡ false → (buffer.new ≡ buffer.old)
+        × ((words : List ℕ) → ¬ IsPrinted (Some language) format.now moment words) }
+    ensures short { length buffer.new ≤ length buffer.old + longest_answer }
+{
+    let moment = Moment::of_offset_date_time(moment);
+    let mut text = [0u8; LONGEST_ANSWER];
+    match print(format.items(), &names_of(language), &moment, &mut text, 0) {
+        Some(end) => {
+            buffer.push(&text[..end]);
+            true
+        }
+        None => false,
+    }
+}
+
 /// Appends a moment in a format.
 #[inline(never)]
 #[tactic(auto, using(crate::proofs::Printed::printable))]
-fn push_printed(buffer: &mut Buffer, format: &Format, moment: OffsetDateTime)
+fn push_english(buffer: &mut Buffer, format: &Format, moment: OffsetDateTime)
     requires { HasRoom longest_answer buffer.old }
     ensures text { buffer.new ≡ buffer.old ++ format_text format.now moment }
     ensures short { length buffer.new ≤ length buffer.old + longest_answer }
@@ -567,26 +622,25 @@ fn push_at(buffer: &mut Buffer, place: &Place<'_>, form: Form, moment: OffsetDat
     }
 }
 
-/// Appends the moment in the place in a format, or nothing. Returns whether it is in range there.
+/// Appends the moment in the place in a format, perhaps with the names of a language, or nothing.
+/// Returns whether it is in range there and has such a string of at most 1000 bytes.
 #[inline(never)]
 fn push_printed_at(
     buffer: &mut Buffer,
     place: &Place<'_>,
     format: &Format,
+    language: Option<Language>,
     moment: OffsetDateTime,
 ) -> bool
     requires { HasRoom longest_answer buffer.old }
     ensures has { result ≡ true
-        → AppendsSome (IsPrintedAt place.now format.now moment) buffer.old buffer.new }
+        → AppendsSome (IsPrintedAt place.now language format.now moment) buffer.old buffer.new }
     ensures none { result ≡ false → (buffer.new ≡ buffer.old)
-        × ((words : List ℕ) → ¬ IsPrintedAt place.now format.now moment words) }
+        × ((words : List ℕ) → ¬ IsPrintedAt place.now language format.now moment words) }
     ensures short { length buffer.new ≤ length buffer.old + longest_answer }
 {
     match moment.checked_to_offset(offset_in(place, moment)) {
-        Some(there) => {
-            push_printed(buffer, format, there);
-            true
-        }
+        Some(there) => push_printed(buffer, format, language, there),
         None => false,
     }
 }

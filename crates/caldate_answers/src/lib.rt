@@ -2,6 +2,7 @@
 #![tactic(auto)]
 
 pub mod answer;
+pub mod language;
 pub mod reading;
 pub mod request;
 pub mod scan;

@@ -3,6 +3,7 @@ ghost use Rattle.std.specs.Prelude.{◌≡◌, MatchOption, None, Some};
 ghost use Rattle.caldate_answers.specs.Answers.{clock_of, keeps};
 ghost use Rattle.caldate_answers.specs.Targets.{target_fields, target_name};
 
+use crate::language::Language;
 use crate::reading::Readers;
 use crate::reading::reader::Assumptions;
 use cal_format::Format;
@@ -162,8 +163,8 @@ pub enum Request<'a> {
     To(Form),
     /// `to iso`: a date as a calendar date, a moment in RFC 3339.
     ToIso,
-    /// `to FORMAT`: the same date or moment in this format.
-    Print(Format),
+    /// `to FORMAT`: the same date or moment in this format, perhaps with the names of a language.
+    Print(Format, Option<Language>),
     /// The moved date or moment, such as `add N UNIT`.
     Move(Move),
     /// `at ZONE` or `at OFFSET`, and a move: the moment moved by these clocks, at their offset.
@@ -178,7 +179,7 @@ pub enum Request<'a> {
     /// offset of the zone, in this form.
     At(Place<'a>, Form),
     /// `at OFFSET` or `at ZONE`, and `to FORMAT`: the same in this format.
-    PrintAt(Place<'a>, Format),
+    PrintAt(Place<'a>, Format, Option<Language>),
     /// `keep BOUNDS`: the line itself if it lies within the bounds, otherwise nothing.
     Keep(Bounds),
 }
@@ -226,6 +227,14 @@ impl<'a> Request<'a> {
             Request::MoveAt(clock, _) => Some(clock),
             Request::Until(Some(clock), _, _) => Some(clock),
             Request::Since(Some(clock), _, _) => Some(clock),
+            _ => None,
+        }
+    }
+
+    /// Returns the language whose names the request prints, if there is one.
+    pub fn language(&self) -> Option<Language> {
+        match self {
+            Request::Print(_, language) | Request::PrintAt(_, _, language) => *language,
             _ => None,
         }
     }

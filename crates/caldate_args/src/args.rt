@@ -22,14 +22,14 @@ pub mod words;
 
 use crate::args::bounds::bounds_at;
 use crate::args::clock_words::{is_day_word, now_in, now_on};
-use crate::args::formats::{to_at_place_of, to_of};
+use crate::args::formats::{is_in_language, to_at_place_of, to_of};
 use crate::args::listing::list_of;
 use crate::args::names::{CommandName, MoveVerb, Verb};
 use crate::args::numbers::counts_of;
 use crate::args::offset::offset_of;
 use crate::args::options::{
-    Options, ReaderChoices, assumptions_in, field_of, no_options, parse_options, readers_in,
-    unmet_in, zone_of,
+    Options, ReaderChoices, assumptions_in, field_of, language_in, no_options, parse_options,
+    readers_in, unmet_in, zone_of,
 };
 use crate::args::requirement::Requirement;
 use crate::args::spelling::{
@@ -48,6 +48,7 @@ use cal_text::MomentForm;
 use cal_time::{SignedDuration, Weekday};
 use cal_zone::{Policy, Zone};
 use caldate_answers::answer::moves;
+use caldate_answers::language::Language;
 use caldate_answers::request::{Clock, DayMove, Filter, Form, Move, Place, Request, TimeUnit};
 use caldate_lines::field::Field;
 use caldate_lines::field_name::FieldName;
@@ -103,6 +104,8 @@ pub fn parse_args<'a, D: DataFiles<'a>>(
 }
 
 /// Parses the string after `--date`, options and a request.
+// Filters and requests are large, so the frames of the callers don't have their copies.
+#[inline(never)]
 fn once_of<'a, D: DataFiles<'a>>(
     words: &'a [u8],
     now: Option<PlainDateTime>,
@@ -174,6 +177,7 @@ fn filter_at<'a, D: DataFiles<'a>>(
 {
     let (at, is_day) = start;
     let mut options = no_options();
+    options.language = language_in(rest);
     let at = parse_options(&mut options, rest, at, files)?;
     if let (true, Some(index)) = (options.lenient, options.ambiguous) {
         return Err(usage_error_at(index, Expected::LenientFormat));
@@ -182,7 +186,11 @@ fn filter_at<'a, D: DataFiles<'a>>(
         return Err(requirement_at(at, requirement));
     }
     let now = now_in(&options.zone, now);
-    let request = request_at(words, at, policy_of(options.policy), now, files)?;
+    let choices = RequestChoices {
+        policy: policy_of(options.policy),
+        language: options.language,
+    };
+    let request = request_at(words, at, choices, now, files)?;
     filter_with(at, options, request)
 }
 
@@ -214,9 +222,16 @@ fn unmet_by(options: &Options<'_>, request: &Request<'_>) -> Option<Requirement>
         Some(Requirement::WorkdaysOnly)
     } else if options.policy.is_some() && options.zone.is_none() && !request.moves_at() {
         Some(Requirement::ZoneOption)
+    } else if options.has_language && !uses_language(options, request) {
+        Some(Requirement::LanguageFormat)
     } else {
         None
     }
+}
+
+/// Returns whether a format is read or printed with the names of the language.
+fn uses_language(options: &Options<'_>, request: &Request<'_>) -> bool {
+    request.language().is_some() || options.readers.as_slice().iter().any(|reader| is_in_language(reader))
 }
 
 fn filter_of<'a>(options: Options<'a>, request: Request<'a>) -> Filter<'a> {
@@ -297,11 +312,21 @@ fn default_mode(request: &Request<'_>, part: bool) -> OnInvalid {
     }
 }
 
+/// The options for the request.
+#[derive(Clone, Copy)]
+struct RequestChoices {
+    /// The policy of `--ambiguous`.
+    policy: Policy,
+    /// The language of `--language`.
+    language: Option<Language>,
+}
+
 /// Parses the request whose verb has this index.
+#[inline(never)]
 fn request_at<'a, D: DataFiles<'a>>(
     words: &'a [u8],
     at: usize,
-    policy: Policy,
+    choices: RequestChoices,
     now: Option<OffsetDateTime>,
     files: &mut D,
 ) -> Result<Request<'a>, UsageError<'a>>
@@ -310,11 +335,11 @@ fn request_at<'a, D: DataFiles<'a>>(
     let verb = word_as(words, at, verb_of, expected_verb(at))?;
     let at = at + 1;
     match verb {
-        Verb::To => to_at(words, at),
+        Verb::To => to_at(words, at, choices.language),
         Verb::Move(verb) => Ok(Request::Move(move_of(verb, words, at)?)),
         Verb::Until => until_at(words, at, None, now),
         Verb::Since => since_at(words, at, None, now),
-        Verb::At => at_place(words, at, policy, now, files),
+        Verb::At => at_place(words, at, choices, now, files),
         Verb::Keep => Ok(Request::Keep(bounds_at(words, at, now)?)),
     }
 }
@@ -349,12 +374,16 @@ fn weekday_at(words: &[u8], at: usize) -> Result<Weekday, UsageError<'static>>
 }
 
 /// Parses `FORM` or `FORMAT`.
-fn to_at(words: &[u8], at: usize) -> Result<Request<'static>, UsageError<'static>>
+fn to_at(
+    words: &[u8],
+    at: usize,
+    language: Option<Language>,
+) -> Result<Request<'static>, UsageError<'static>>
     requires { at + 1 < 2 ^ 64 }
 {
     let usage_error = usage_error_at(at, Expected::Form);
     let word = word_at(words, at).ok_or(usage_error)?;
-    let request = to_of(word).ok_or(usage_error)?;
+    let request = to_of(word, language).ok_or(usage_error)?;
     ended(words, at + 1, request)
 }
 
@@ -411,7 +440,7 @@ fn end_at(words: &[u8], at: usize) -> Result<Move, UsageError<'static>>
 fn at_place<'a, D: DataFiles<'a>>(
     words: &'a [u8],
     at: usize,
-    policy: Policy,
+    choices: RequestChoices,
     now: Option<OffsetDateTime>,
     files: &mut D,
 ) -> Result<Request<'a>, UsageError<'a>>
@@ -426,9 +455,9 @@ fn at_place<'a, D: DataFiles<'a>>(
         );
     };
     if let Verb::To = verb {
-        return to_at_place(words, at + 2, place);
+        return to_at_place(words, at + 2, place, choices.language);
     }
-    let Some(clock) = clock_in(place, policy) else {
+    let Some(clock) = clock_in(place, choices.policy) else {
         return Err(usage_error_at(at, Expected::Place));
     };
     let now = now_on(&clock.zone, now);
@@ -445,12 +474,13 @@ fn to_at_place<'a>(
     words: &'a [u8],
     at: usize,
     place: Place<'a>,
+    language: Option<Language>,
 ) -> Result<Request<'a>, UsageError<'a>>
     requires { at + 1 < 2 ^ 64 }
 {
     let usage_error = usage_error_at(at, Expected::Form);
     let word = word_at(words, at).ok_or(usage_error)?;
-    match to_at_place_of(word, place) {
+    match to_at_place_of(word, place, language) {
         Some(request) => ended(words, at + 1, request),
         None => Err(usage_error),
     }

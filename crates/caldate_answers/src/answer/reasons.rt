@@ -27,11 +27,11 @@ pub fn why_unanswered(
         Request::MoveAt(own, by) => why_unmoved(own, workdays, *by, moment_of(found)),
         Request::To(_)
         | Request::ToIso
-        | Request::Print(_)
+        | Request::Print(_, _)
         | Request::Until(_, _, _)
         | Request::Since(_, _, _)
         | Request::At(_, _)
-        | Request::PrintAt(_, _)
+        | Request::PrintAt(_, _, _)
         | Request::Keep(_) => NoAnswer::None,
     }
 }

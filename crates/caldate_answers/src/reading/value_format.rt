@@ -4,6 +4,7 @@ ghost use Rattle.cal_text.specs.declared.any.DateOrMoment.{DateOrMoment};
 ghost use Rattle.caldate_answers.specs.Leniency.{items_in};
 ghost use Rattle.caldate_answers.specs.Readers.{IsFormatText};
 
+use crate::reading::in_language::LanguageFormat;
 use crate::reading::lenient::LenientKind;
 use cal_datetime::OffsetDateTime;
 use cal_format::{DateFormat, DateTimeFormat, Format, OffsetDateTimeFormat};
@@ -21,6 +22,8 @@ pub enum ValueFormat {
     DateTimes(DateTimeFormat),
     /// A format of any of these that also reads variants of their strings.
     Lenient(LenientKind),
+    /// A format of any of these with the names of a language.
+    InLanguage(LanguageFormat),
 }
 
 impl ValueFormat {
@@ -45,6 +48,10 @@ impl ValueFormat {
                 Err(_) => None,
             },
             ValueFormat::Lenient(format) => format.read(offset, text),
+            ValueFormat::InLanguage(format) => match format.parse(offset, text) {
+                Ok(found) => Some(found),
+                Err(_) => None,
+            },
         }
     }
 
@@ -57,6 +64,7 @@ impl ValueFormat {
             ValueFormat::Moments(format) => format.as_format(),
             ValueFormat::DateTimes(format) => format.as_format(),
             ValueFormat::Lenient(format) => format.as_format(),
+            ValueFormat::InLanguage(format) => format.as_format(),
         }
     }
 }

@@ -3,6 +3,7 @@
 use cal_schedule::CalendarUnit;
 use cal_text::{DateForm, MomentForm};
 use cal_zone::Policy;
+use caldate_answers::language::Language;
 use caldate_answers::reading::DateOrder;
 use caldate_answers::request::{Form, Measure, TimeUnit, UnixUnit};
 use caldate_lines::on_invalid::OnInvalid;
@@ -35,6 +36,7 @@ pub enum OptionName {
     Near,
     Lenient,
     Pivot,
+    Language,
     Zone,
     Ambiguous,
     Holidays,
@@ -74,7 +76,7 @@ pub enum CommandName {
 }
 
 /// The options before a request.
-pub(crate) const OPTIONS: [(&str, OptionName); 16] = [
+pub(crate) const OPTIONS: [(&str, OptionName); 17] = [
     ("--invalid", OptionName::Invalid),
     ("--field", OptionName::Field),
     ("--append", OptionName::Append),
@@ -88,6 +90,7 @@ pub(crate) const OPTIONS: [(&str, OptionName); 16] = [
     ("--assume-year", OptionName::AssumeYear),
     ("--lenient", OptionName::Lenient),
     ("--pivot", OptionName::Pivot),
+    ("--language", OptionName::Language),
     ("--zone", OptionName::Zone),
     ("--ambiguous", OptionName::Ambiguous),
     ("--holidays", OptionName::Holidays),
@@ -134,6 +137,22 @@ pub(crate) const POLICIES: [(&str, Policy); 4] = [
     ("earlier", Policy::Earlier),
     ("later", Policy::Later),
     ("reject", Policy::Reject),
+];
+
+/// The languages by their codes of ISO 639-1.
+pub(crate) const LANGUAGES: [(&str, Language); 12] = [
+    ("ar", Language::Arabic),
+    ("de", Language::German),
+    ("en", Language::English),
+    ("es", Language::Spanish),
+    ("fr", Language::French),
+    ("it", Language::Italian),
+    ("ja", Language::Japanese),
+    ("pl", Language::Polish),
+    ("pt", Language::Portuguese),
+    ("ru", Language::Russian),
+    ("tr", Language::Turkish),
+    ("zh", Language::Chinese),
 ];
 
 /// The formats with a name.

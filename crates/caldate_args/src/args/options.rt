@@ -1,8 +1,8 @@
 //! The options before a request.
 ghost use Rattle.std.specs.Prelude.{◌+◌, ◌≤◌, ◌^◌, IfOk};
 
-use crate::args::formats::reader_of;
-use crate::args::names::{MODES, OPTIONS, OptionName, POLICIES, value_named};
+use crate::args::formats::{ambiguous_at, in_language, language_for, reader_of};
+use crate::args::names::{LANGUAGES, MODES, OPTIONS, OptionName, POLICIES, value_named};
 use crate::args::offset::offset_of;
 use crate::args::requirement::Requirement;
 use crate::args::spelling::parse_i64;
@@ -14,6 +14,8 @@ use cal_text::{DateOrMoment, parse_any};
 use cal_time::{Date, UtcOffset};
 use cal_zone::{Policy, Zone};
 use caldate_answers::answer::moves::workdays_except;
+use caldate_answers::language::Language;
+use caldate_answers::reading::in_language::LanguageKind;
 use caldate_answers::reading::lenient::{lacks_century, lenient_reader};
 use caldate_answers::reading::reader::{Assumptions, Reader};
 use caldate_answers::reading::spelling::Spelling;
@@ -63,6 +65,10 @@ pub struct Options<'a> {
     pub pivot: Option<u16>,
     /// The index of the first format that can't be read leniently.
     pub ambiguous: Option<usize>,
+    /// The language of `--language LANGUAGE`, which is known before the other options.
+    pub language: Option<Language>,
+    /// `true` if `--language` is among the options so far.
+    pub has_language: bool,
     /// The zone of `--zone NAME`.
     pub zone: Option<Zone<'a>>,
     /// The policy of `--ambiguous POLICY`.
@@ -90,6 +96,8 @@ pub fn no_options<'a>() -> Options<'a> {
         lenient: false,
         pivot: None,
         ambiguous: None,
+        language: None,
+        has_language: false,
         zone: None,
         policy: None,
         workdays: None,
@@ -145,6 +153,28 @@ pub fn parse_options<'a, D: DataFiles<'a>>(
         Some(option) => Err(usage_error_at(index, expected_value(option))),
         None => Ok(index),
     }
+}
+
+/// Returns the language of the first `--language` among options that may be wrong otherwise.
+pub fn language_in(words: Option<&[u8]>) -> Option<Language> {
+    let mut given = None;
+    let mut left = words;
+    while let Some(some) = left {
+        let (word, rest) = cut(some);
+        match given {
+            Some(OptionName::Language) => return language_of(word),
+            Some(option) => given = option_after(option, word),
+            None => {
+                let (name, value) = cut_value(word);
+                match option_of(name)? {
+                    OptionName::Language if is_joined(word) => return language_of(value),
+                    _ => given = option_before_value(word),
+                }
+            }
+        }
+        left = rest;
+    }
+    None
 }
 
 /// Parses one more word, which has this index: an option, or if `given` is an option, its value.
@@ -230,6 +260,7 @@ fn has_room_for(options: &Options<'_>, option: OptionName) -> bool {
         OptionName::AssumeYear | OptionName::Near => options.year.is_none(),
         OptionName::Lenient => !options.lenient,
         OptionName::Pivot => options.pivot.is_none(),
+        OptionName::Language => !options.has_language,
         OptionName::Zone => options.zone.is_none(),
         OptionName::Ambiguous => options.policy.is_none(),
         OptionName::Holidays => options.workdays.is_none(),
@@ -260,6 +291,7 @@ fn expected_value(option: OptionName) -> Expected {
         OptionName::AssumeYear => Expected::Year,
         OptionName::Near => Expected::Day,
         OptionName::Pivot => Expected::Pivot,
+        OptionName::Language => Expected::Language,
         OptionName::Zone => Expected::Zone,
         OptionName::Ambiguous => Expected::Policy,
         OptionName::Holidays => Expected::Holidays,
@@ -339,6 +371,10 @@ fn set_meaning(options: &mut Options<'_>, option: OptionName, value: &[u8]) -> O
         OptionName::AssumeYear => options.year = Some(AssumedYear::Is(year_of(value)?)),
         OptionName::Near => options.year = Some(AssumedYear::Near(day_of(value)?)),
         OptionName::Pivot => options.pivot = Some(pivot_of(value)?),
+        OptionName::Language => {
+            options.language = Some(language_of(value)?);
+            options.has_language = true;
+        }
         OptionName::Ambiguous => options.policy = Some(value_named(value, &POLICIES)?),
         _ => return None,
     }
@@ -489,6 +525,10 @@ fn pivot_of(word: &[u8]) -> Option<u16> {
     Some(year as u16)
 }
 
+fn language_of(word: &[u8]) -> Option<Language> {
+    value_named(word, &LANGUAGES)
+}
+
 /// Parses a date in one of the four forms.
 fn day_of(word: &[u8]) -> Option<Date> {
     match &parse_any(word).ok()? {
@@ -527,6 +567,13 @@ fn add_reader<'a>(
     {
         options.ambiguous = Some(invalid.index);
     }
+    let reader = match language_for(value, options.language) {
+        Some(language) => match in_language(reader, language) {
+            Ok(reader) => reader,
+            Err(error) => return Err(ambiguous_at(invalid.index, value, language, error)),
+        },
+        None => reader,
+    };
     options.readers.try_push(reader);
     if is_iso {
         options.readers.try_push(Reader::Named(Reading::IsoDate));
@@ -639,8 +686,16 @@ fn any_local(readers: &[Reader]) -> bool {
 fn is_local(reader: &Reader) -> bool {
     match reader {
         Reader::Local => true,
-        Reader::Format(ValueFormat::DateTimes(_)) => true,
-        Reader::Yearless(ValueFormat::DateTimes(_)) => true,
+        Reader::Format(format) | Reader::Yearless(format) => has_no_offset(format),
+        _ => false,
+    }
+}
+
+/// Returns whether the strings in the format have no offset.
+fn has_no_offset(format: &ValueFormat) -> bool {
+    match format {
+        ValueFormat::DateTimes(_) => true,
+        ValueFormat::InLanguage(format) => matches!(format.kind(), LanguageKind::DateTimes(_)),
         _ => false,
     }
 }
@@ -659,8 +714,16 @@ fn has_own(reader: &Reader) -> bool {
     match reader {
         Reader::Named(Reading::Any | Reading::Unix(_)) => true,
         Reader::Spelled(_) => true,
-        Reader::Format(ValueFormat::Moments(_)) => true,
-        Reader::Yearless(ValueFormat::Moments(_)) => true,
+        Reader::Format(format) | Reader::Yearless(format) => has_offset(format),
+        _ => false,
+    }
+}
+
+/// Returns whether the strings in the format have an offset.
+fn has_offset(format: &ValueFormat) -> bool {
+    match format {
+        ValueFormat::Moments(_) => true,
+        ValueFormat::InLanguage(format) => matches!(format.kind(), LanguageKind::Moments(_)),
         _ => false,
     }
 }
@@ -714,7 +777,9 @@ fn unmet_by_formats(options: &Options<'_>) -> Option<Requirement> {
     let has_pivot = options.pivot.is_some();
     let is_yearless = any_yearless(readers, has_pivot);
     let is_short = readers.iter().any(|reader| lacks_century(reader));
-    if has_pivot && !options.lenient {
+    if options.has_language && options.lenient {
+        Some(Requirement::LanguageOrLenient)
+    } else if has_pivot && !options.lenient {
         Some(Requirement::Lenient)
     } else if options.lenient && !readers.iter().any(|reader| is_format(reader)) {
         Some(Requirement::LenientFormat)

@@ -1,7 +1,7 @@
 use Rattle.std.proofs.Common.{subst, sym}
 use Rattle.cal_text.specs.declared.any.MomentForm.TheVariants.{Rfc3339}
 use Rattle.caldate_answers.specs.Answers.{IsAnswerTo, IsAt, IsMovedAt, IsPrintedAt, form_iso}
-use Rattle.caldate_answers.specs.Forms.{IsInForm}
+use Rattle.caldate_answers.specs.Forms.{IsInForm, IsPrinted}
 use Rattle.caldate_answers.specs.declared.request.Form.TheVariants.{Moment}
 use Rattle.caldate_answers.proofs.answer.push_answer_to.Goals as goal
 
@@ -29,6 +29,15 @@ returns-in-ToIso-clause-none c = λ no.
           none.1 words (subst (λ form. IsInForm form c.moment_of-in-ToIso.result words) (sym c.form_iso.ensures) (subst (λ m. IsInForm (form_iso c.args.found.now) m words) (sym c.moment_of-in-ToIso.ensures) h)),
     )
 
+pub returns-in-Print-clause-none : goal.returns-in-Print-clause-none
+returns-in-Print-clause-none c = λ no.
+    let none = c.push_printed.ensures.none no in (
+      none.0,
+      λ words h.
+          let h = subst (λ q. IsAnswerTo c.args.clock.now c.args.workdays.now q c.args.text.now c.args.found.now words) c.in-Print.is h in
+          none.1 words (subst (λ m. IsPrinted c.in-Print.language c.in-Print.format m words) (sym c.moment_of-in-Print.ensures) h),
+    )
+
 pub returns-in-At-clause-none : goal.returns-in-At-clause-none
 returns-in-At-clause-none c = λ no.
     let none = c.push_at.ensures.none no in (
@@ -44,5 +53,5 @@ returns-in-PrintAt-clause-none c = λ no.
       none.0,
       λ words h.
           let h = subst (λ q. IsAnswerTo c.args.clock.now c.args.workdays.now q c.args.text.now c.args.found.now words) c.in-PrintAt.is h in
-          none.1 words (subst (λ m. IsPrintedAt c.in-PrintAt.place c.in-PrintAt.format m words) (sym c.moment_of-in-PrintAt.ensures) h),
+          none.1 words (subst (λ m. IsPrintedAt c.in-PrintAt.place c.in-PrintAt.language c.in-PrintAt.format m words) (sym c.moment_of-in-PrintAt.ensures) h),
     )

@@ -56,3 +56,10 @@ returns-in-Lenient-clause-front c = λ offset n more found fits h.
     let variants = variants_of offset c.in-Lenient.format text found is in
     let items = sym (c.items.ensures.items ∙ c.as_format-in-Lenient.ensures.items) in
     c.variant_bound.ensures.front variants.0 n more fits (subst (λ l. HasVariants false l variants.0 text) items variants.1)
+
+pub returns-in-InLanguage-clause-within : goal.returns-in-InLanguage-clause-within
+returns-in-InLanguage-clause-within c = c.bound_in_language.ensures.within
+
+pub returns-in-InLanguage-clause-front : goal.returns-in-InLanguage-clause-front
+returns-in-InLanguage-clause-front c = λ offset n more found fits h.
+    c.bound_in_language.ensures.front offset n more found fits (subst (λ f. IsFormatText offset f (take n c.args.bytes.now ++ more) found) c.in-InLanguage.is h)

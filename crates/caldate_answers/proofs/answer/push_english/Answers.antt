@@ -5,7 +5,7 @@ use Rattle.cal_time.specs.Time.{IsTime}
 use Rattle.cal_time.specs.UtcOffset.{IsOffset}
 use Rattle.cal_format.specs.Moment.{IsMoment, moment_of_offset_date_time}
 use Rattle.cal_format.proofs.Lengths.{text-short}
-use Rattle.caldate_answers.proofs.answer.push_printed.Goals as goal
+use Rattle.caldate_answers.proofs.answer.push_english.Goals as goal
 
 pub unreachable-requires : goal.unreachable-requires
 unreachable-requires c =

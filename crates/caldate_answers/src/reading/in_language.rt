@@ -1,0 +1,125 @@
+//! Formats that are read with the names of a language.
+ghost use Rattle.std.specs.Prelude.{◌≡◌, ℕ, ℤ, List, IfErr, IfOk, Ok};
+ghost use Rattle.cal_named_format.specs.Ambiguity.{IsNamesError, ReadBack};
+ghost use Rattle.cal_named_format.specs.Named.{HasFormIn};
+ghost use Rattle.cal_named_format.specs.Rejection.{IsRejectionIn};
+ghost use Rattle.cal_text.specs.declared.any.DateOrMoment.{DateOrMoment};
+ghost use Rattle.caldate_answers.specs.Languages.{Determines, IsTextInLanguage, kind_items, names_of};
+
+use crate::language::{Language, names_of};
+use crate::reading::value_format::{in_calendar, in_rfc3339};
+use cal_format::{DateFormat, DateTimeFormat, Format, OffsetDateTimeFormat, ParseError};
+use cal_named_format::{
+    NamesError, check_names, parse_date, parse_date_time, parse_offset_date_time, table_counts,
+};
+use cal_text::DateOrMoment;
+use cal_time::UtcOffset;
+use std::marker::Model;
+
+/// A format of dates, moments or local date-times.
+#[derive(Drop)]
+pub enum LanguageKind {
+    /// A format of dates.
+    Dates(DateFormat),
+    /// A format of moments with their offset.
+    Moments(OffsetDateTimeFormat),
+    /// A format of moments without an offset.
+    DateTimes(DateTimeFormat),
+}
+
+/// A format that reads the strings that it prints with the names of a language. No two values have
+/// the same string. Contracts see the language and the format.
+#[derive(Drop)]
+pub struct LanguageFormat {
+    language: Language,
+    kind: LanguageKind,
+}
+
+impl Model for LanguageFormat {
+    ghost use Rattle.cal_named_format.specs.Ambiguity.{ReadBack};
+    ghost use Rattle.caldate_answers.specs.Languages.{kind_items, names_of};
+    ghost use Rattle.caldate_answers.specs.declared.language.Language.{Language};
+    ghost use Rattle.caldate_answers.specs.declared.reading.in_language.LanguageKind.{LanguageKind};
+
+    ghost Value = { Language × LanguageKind };
+
+    ghost view = { λ f. (f.language, f.kind) };
+
+    ghost invariant = { λ f. ReadBack (names_of f.language) (kind_items f.kind) };
+}
+
+impl LanguageFormat {
+    /// Creates a format, or returns the reason why two values could have the same string.
+    pub fn new(language: Language, kind: LanguageKind) -> Result<Self, NamesError>
+        ensures every { ReadBack (names_of language) (kind_items kind) → result ≡ Ok (language, kind) }
+        ensures value { IfOk result (λ format. format ≡ (language, kind)) }
+        ensures error { IfErr result (IsNamesError (names_of language) (kind_items kind) 0) }
+    {
+        check_names(items_of(&kind).items(), &names_of(language))?;
+        Ok(LanguageFormat { language, kind })
+    }
+
+    /// Parses a date or a moment, or returns why the string isn't one in the format. A string
+    /// without an offset is at `offset`.
+    // The names are large, so the frame of the caller doesn't have them.
+    #[inline(never)]
+    pub fn parse(&self, offset: UtcOffset, text: &[u8]) -> Result<DateOrMoment, ParseError>
+        ensures every { (found : DateOrMoment)
+            → IsTextInLanguage offset self.now.0 self.now.1 text.now found → result ≡ Ok found }
+        ensures has { IfOk result (IsTextInLanguage offset self.now.0 self.now.1 text.now) }
+        ensures error { IfErr result
+            (IsRejectionIn (names_of self.now.0) (kind_items self.now.1) text.now) }
+    {
+        let names = names_of(self.language);
+        match &self.kind {
+            LanguageKind::Dates(format) => match parse_date(format, &names, text) {
+                Ok(date) => Ok(in_calendar(date)),
+                Err(error) => Err(error),
+            },
+            LanguageKind::Moments(format) => match parse_offset_date_time(format, &names, text) {
+                Ok(moment) => Ok(in_rfc3339(moment)),
+                Err(error) => Err(error),
+            },
+            LanguageKind::DateTimes(format) => match parse_date_time(format, &names, text) {
+                Ok(local) => Ok(in_rfc3339(local.assume_offset(offset))),
+                Err(error) => Err(error),
+            },
+        }
+    }
+
+    /// Returns the language.
+    pub fn language(&self) -> Language
+        ensures { result ≡ self.now.0 }
+    {
+        self.language
+    }
+
+    /// Returns the format.
+    pub fn kind(&self) -> &LanguageKind
+        ensures { result.now ≡ self.now.1 }
+    {
+        &self.kind
+    }
+
+    /// Returns its items as a format of any values.
+    pub fn as_format(&self) -> &Format
+        ensures items { result.now ≡ kind_items self.now.1 }
+        ensures form { (offset : ℤ) (text : List ℕ) (found : DateOrMoment)
+            → IsTextInLanguage offset self.now.0 self.now.1 text found
+            → HasFormIn (names_of self.now.0) (kind_items self.now.1) text }
+    {
+        table_counts(&names_of(self.language));
+        items_of(&self.kind)
+    }
+}
+
+fn items_of(kind: &LanguageKind) -> &Format
+    ensures items { result.now ≡ kind_items kind.now }
+    ensures determines { Determines kind.now }
+{
+    match kind {
+        LanguageKind::Dates(format) => format.as_format(),
+        LanguageKind::Moments(format) => format.as_format(),
+        LanguageKind::DateTimes(format) => format.as_format(),
+    }
+}
