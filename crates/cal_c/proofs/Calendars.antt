@@ -1,12 +1,12 @@
 -- Lists of holidays that have room.
-use Rattle.std.proofs.Common.{◌≡◌, ℕ, ◌≤◌, List, length, inl, inr, ℤ, pos, sym, ap, ◌∙◌, Option, Some, None}
+use Rattle.std.proofs.Common.{◌≡◌, ℕ, ◌≤◌, List, length, inl, inr, ℤ, pos, sym, ap, ◌∙◌, subst, Option, Some, None}
 use Rattle.std.specs.Prelude.{◌↔◌, IfSome, IsNone, Result, Ok, Err, min}
 use Rattle.std.proofs.Common.{Bor}
 use Rattle.std.proofs.lemmas.Bool.{cases_lt}
 use Rattle.cal_holidays.specs.Holidays.{AreHolidays, AreMore, IsHoliday}
 use Rattle.cal_holidays.proofs.HolidayLists.{holidays-one, no_more}
 use Rattle.cal_holiday_text.specs.declared.error.ParseHolidayRuleError.{ParseHolidayRuleError}
-use Rattle.cal_c.specs.Calendars.{holidays_result, AreListed, AreListedBetween, AreListedOf}
+use Rattle.cal_c.specs.Calendars.{holidays_result, AreListed, AreListedBetween, AreListedIn, AreListedOf}
 use Rattle.cal_c.specs.Results.{number_error, number_ok}
 use Rattle.cal_c.specs.Texts.{no_position}
 use Rattle.cal_c.specs.Values.{day_of, max_dates}
@@ -49,8 +49,12 @@ one_between rules first last written r s =
     need-one r s (number_error INVALID_DATE) (stable_number r s)
     (need-one r s (number_error INVALID_DATE) (stable_number r s) (one_number rules (day_of first) (day_of last) written r s))
 
-pub one_of_text : (parsed : Result (List HolidayRule) ParseHolidayRuleError) (first last : ℤ) (written : List ℤ) (r s : HolidaysResult)
+one_of_parsed : (parsed : Result (List HolidayRule) ParseHolidayRuleError) (first last : ℤ) (written : List ℤ) (r s : HolidaysResult)
     → AreListedOf parsed first last written r → AreListedOf parsed first last written s → r ≡ s
-one_of_text (Ok rules) first last written r s (n, listed, is) (m, others, same) =
+one_of_parsed (Ok rules) first last written r s (n, listed, is) (m, others, same) =
     is ∙ ap (λ q. holidays_result q no_position) (one_between rules first last written n m listed others) ∙ sym same
-one_of_text (Err e) first last written r s h k = h ∙ sym k
+one_of_parsed (Err e) first last written r s h k = h ∙ sym k
+
+pub one_of_text : (text : List ℕ) (first last : ℤ) (written : List ℤ) (r s : HolidaysResult) → AreListedIn text first last written r → AreListedIn text first last written s → r ≡ s
+one_of_text text first last written r s f g =
+    one_of_parsed g.parsed first last written r s (subst (λ p. AreListedOf p first last written r) (f.one g.parsed g.is) f.listed) g.listed

@@ -4,6 +4,7 @@ use Rattle.cal_time.specs.Date.{julian_day_at}
 use Rattle.cal_holidays.specs.Calendars.{calendars}
 use Rattle.cal_holidays.specs.Holidays.{AreHolidays, AreMore, IsHoliday}
 use Rattle.cal_holidays.specs.declared.holiday_rule.HolidayRule.{HolidayRule}
+use Rattle.cal_holiday_text.specs.Rules.{IsResult}
 use Rattle.cal_holiday_text.specs.declared.error.ParseHolidayRuleError.{ParseHolidayRuleError}
 use Rattle.cal_holiday_text.specs.declared.error.ParseHolidayRuleErrorKind.{ParseHolidayRuleErrorKind}
 use Rattle.cal_holiday_text.specs.declared.error.ParseHolidayRuleErrorKind.TheVariants.{Invalid, TooMany}
@@ -46,7 +47,14 @@ abbrev pub rule_status : ParseHolidayRuleErrorKind → ℤ
 rule_status Invalid = INVALID_HOLIDAY_RULE
 rule_status TooMany = TOO_MANY_HOLIDAYS
 
--- The holidays of the rules of a text, or the position and the status of its first error.
+-- The holidays of rules, or the position and the status of an error.
 abbrev pub AreListedOf : Result (List HolidayRule) ParseHolidayRuleError → ℤ → ℤ → List ℤ → HolidaysResult → Type 0
 AreListedOf (Ok rules) first last written r = (n : NumberResult) × AreListedBetween rules first last written n × (r ≡ holidays_result n no_position)
 AreListedOf (Err e) first last written r = r ≡ holidays_result (number_error (rule_status e.reason)) e.position
+
+-- The same for the one result that a text has.
+pub record AreListedIn (text : List ℕ) (first last : ℤ) (written : List ℤ) (r : HolidaysResult) : Type 0 where
+  pub parsed : Result (List HolidayRule) ParseHolidayRuleError
+  pub is : IsResult max_dates text parsed
+  pub one : (other : Result (List HolidayRule) ParseHolidayRuleError) → IsResult max_dates text other → parsed ≡ other
+  pub listed : AreListedOf parsed first last written r

@@ -1,59 +1,55 @@
 -- The word of a day in each year. Letters match in any case.
-use Rattle.std.specs.Prelude.{ℕ, ◌==◌, ◌&&◌, nat_lt, nat_le, ℤ, pos, neg_ℤ, List, drop, length, slice_index, Option, Some, None, option_map, option_and_then, codes, if◌then◌else◌}
-use Rattle.std.specs.Option.{option_map_or, option_zip}
+use Rattle.std.specs.Prelude.{◌≡◌, ◌⊎◌, ℕ, suc, ◌≤◌, ℤ, pos, negsuc, true, List, [], ◌∷◌, ◌++◌, Some, codes}
 use Rattle.cal_units.specs.Lengths.{days_in_month}
 use Rattle.cal_time.specs.Month.{number}
 use Rattle.cal_time.specs.declared.Month.{Month}
+use Rattle.cal_time.specs.declared.Weekday.{Weekday}
 use Rattle.cal_holidays.specs.declared.holiday_day.HolidayDay.{HolidayDay}
 use Rattle.cal_holidays.specs.declared.holiday_day.HolidayDay.TheVariants.{Fixed, Nth, Last, OnOrAfter, Easter, JulianEaster}
-use Rattle.cal_recurrence.specs.Words.{bytes_after, first_bytes, front_at, is_alike, month_of, rest_at, short_count_of, up_to, weekday_of}
+use Rattle.cal_recurrence.specs.Words.{is_alike, month_of, short_count_of, weekday_of}
 
--- A number of days from 1 to 99, of at most two digits, after its sign. 43 is the plus sign, and 45
--- is the minus sign.
-abbrev pub days_of : List ℕ → Option ℤ
-days_of word =
-    if slice_index word 0 == 45 then option_map (λ n. neg_ℤ (pos n)) (short_count_of 2 99 (drop 1 word)) else
-    if slice_index word 0 == 43 then option_map pos (short_count_of 2 99 (drop 1 word)) else
-    None
+-- A text is a name, a number from 1 to `most` in at most `size` digits, or a weekday of two letters.
+abbrev pub IsName : List ℕ → List ℕ → Type 0
+IsName name text = is_alike text name ≡ true
+
+abbrev pub IsNumber : ℕ → ℕ → ℕ → List ℕ → Type 0
+IsNumber size most n text = short_count_of size most text ≡ Some n
+
+abbrev pub IsWeekday : Weekday → List ℕ → Type 0
+IsWeekday w text = weekday_of text ≡ Some w
+
+-- From 1 to 99 days, or from -1 to -99, with a plus sign (43) or a minus sign (45).
+abbrev pub AreDays : ℤ → List ℕ → Type 0
+AreDays (pos n) text = (digits : List ℕ) × IsNumber 2 99 n digits × (text ≡ 43 ∷ digits)
+AreDays (negsuc n) text = (digits : List ℕ) × IsNumber 2 99 (suc n) digits × (text ≡ 45 ∷ digits)
 
 -- The days from Easter: no bytes are Easter itself.
-abbrev pub days_from_easter_of : List ℕ → Option ℤ
-days_from_easter_of word = if length word == 0 then Some (pos 0) else days_of word
+abbrev pub AreDaysFromEaster : ℤ → List ℕ → Type 0
+AreDaysFromEaster n text = ((text ≡ []) × (n ≡ pos 0)) ⊎ AreDays n text
 
--- The bytes of a word after a name, if it begins with the name.
-abbrev pub after_name : List ℕ → List ℕ → Option (List ℕ)
-after_name name word =
-    if nat_le (length name) (length word) && is_alike (first_bytes (length name) word) name then Some (bytes_after (length name) word) else None
+-- A day that the month has in the year.
+pub record IsMonthDay (y : ℤ) (m : Month) (d : ℕ) (text : List ℕ) : Type 0 where
+  pub is_number : IsNumber 2 31 d text
+  pub within : d ≤ days_in_month y (number m)
 
--- A day of a month of at most two digits, such as 25, which the month has in some year y.
-abbrev pub month_day_of : ℤ → Month → List ℕ → Option ℕ
-month_day_of y m word = option_and_then (up_to (days_in_month y (number m))) (short_count_of 2 31 word)
-
--- The n-th weekday, such as 4TH. There are at most five.
-abbrev pub nth_of : Month → List ℕ → Option HolidayDay
-nth_of m word = option_map (λ both. Nth m both.1 both.0) (option_zip (short_count_of 1 5 (first_bytes 1 word)) (weekday_of (bytes_after 1 word)))
-
--- A weekday on or after a day, such as WE>=16.
-abbrev pub on_or_after_of : ℤ → Month → List ℕ → Option HolidayDay
-on_or_after_of y m word =
-    if is_alike (first_bytes 2 (bytes_after 2 word)) (codes ">=") then option_map (λ both. OnOrAfter m both.1 both.0) (option_zip (weekday_of (first_bytes 2 word)) (month_day_of y m (bytes_after 2 (bytes_after 2 word)))) else None
-
--- A day of a month by the bytes after the month: the last weekday, such as lastMO, or one of these.
-unfoldable pub other_day_of : ℤ → Month → List ℕ → Option HolidayDay
-other_day_of y m word =
-    if nat_lt 3 (length word) then on_or_after_of y m word else
-    if length word == 3 then nth_of m word else
-    option_map (Fixed m) (month_day_of y m word)
-
-unfoldable pub day_in_month_of : ℤ → Month → List ℕ → Option HolidayDay
-day_in_month_of y m word = option_map_or (λ rest. option_map (Last m) (weekday_of rest)) (after_name (codes "last") word) (other_day_of y m word)
+-- A day of a month, such as 25, 4TH, lastMO or WE>=16.
+pub data IsDayOf (y : ℤ) (m : Month) (text : List ℕ) : HolidayDay → Type 0 where
+  fixed : (d : ℕ) → IsMonthDay y m d text → IsDayOf y m text (Fixed m d)
+  nth : (n : ℕ) (w : Weekday) (digit letters : List ℕ) → IsNumber 1 5 n digit → IsWeekday w letters → text ≡ digit ++ letters → IsDayOf y m text (Nth m w n)
+  last : (w : Weekday) (name letters : List ℕ) → IsName (codes "last") name → IsWeekday w letters → text ≡ name ++ letters → IsDayOf y m text (Last m w)
+  on_or_after : (d : ℕ) (w : Weekday) (letters sign day : List ℕ) → IsWeekday w letters → IsName (codes ">=") sign → IsMonthDay y m d day → text ≡ letters ++ (sign ++ day) → IsDayOf y m text (OnOrAfter m d w)
 
 -- A month of at most two digits, `-` (45), and a day of it.
-unfoldable pub dated_day_of : ℤ → List ℕ → Option HolidayDay
-dated_day_of y word = option_and_then (λ m. day_in_month_of y m (rest_at 45 word)) (month_of (front_at 45 word))
+pub record IsDated (y : ℤ) (text : List ℕ) (day : HolidayDay) : Type 0 where
+  pub m : Month
+  pub month : List ℕ
+  pub rest : List ℕ
+  pub is_month : month_of month ≡ Some m
+  pub is_day : IsDayOf y m rest day
+  pub text_is : text ≡ month ++ 45 ∷ rest
 
 -- A day in each year, or in the year y: Easter, with days before or after it, or a day of a month.
-unfoldable pub day_of : ℤ → List ℕ → Option HolidayDay
-day_of y word =
-    option_map_or (λ rest. option_map Easter (days_from_easter_of rest)) (after_name (codes "easter") word)
-    (option_map_or (λ rest. option_map JulianEaster (days_from_easter_of rest)) (after_name (codes "julian-easter") word) (dated_day_of y word))
+pub data IsDayText (y : ℤ) (text : List ℕ) : HolidayDay → Type 0 where
+  easter : (n : ℤ) (name days : List ℕ) → IsName (codes "easter") name → AreDaysFromEaster n days → text ≡ name ++ days → IsDayText y text (Easter n)
+  julian_easter : (n : ℤ) (name days : List ℕ) → IsName (codes "julian-easter") name → AreDaysFromEaster n days → text ≡ name ++ days → IsDayText y text (JulianEaster n)
+  dated : (day : HolidayDay) → IsDated y text day → IsDayText y text day

@@ -1,113 +1,132 @@
 -- The text of rules of holidays. A line has the words of a rule between spaces (32), the first of
 -- which is a day, and a comment after `#` (35).
-use Rattle.std.specs.Prelude.{ℕ, ◌+◌, ◌==◌, ◌&&◌, nat_lt, nat_le, int_le, Bool, ℤ, pos, List, [], ◌∷◌, ◌++◌, drop, length, replicate, slice_index, slice_index_or, slice_set, Option, Some, None, option_map, option_and_then, Result, Ok, Err, if◌then◌else◌}
-use Rattle.std.specs.Option.{option_map_or, option_zip}
-use Rattle.std.specs.Ordering.{int_eq}
+use Rattle.std.specs.Prelude.{◌≡◌, ◌⊎◌, ◌<◌, ◌≤◌, ℕ, ◌+◌, ℤ, pos, ◌≤ℤ◌, List, [], ◌∷◌, ◌++◌, length, replicate, slice_index_or, slice_set, Option, Some, None, Result, MatchResult}
+use Rattle.std.specs.Option.{option_to_list}
 use Rattle.cal_time.specs.Date.{first_year, last_year}
 use Rattle.cal_time.specs.Weekday.{index}
 use Rattle.cal_time.specs.declared.Weekday.{Weekday}
 use Rattle.cal_holidays.specs.declared.holiday_day.HolidayDay.{HolidayDay}
 use Rattle.cal_holidays.specs.declared.holiday_rule.HolidayRule.{HolidayRule}
-use Rattle.cal_recurrence.specs.SetText.{without_return}
-use Rattle.cal_recurrence.specs.Words.{bytes_after, count_of, first_bytes, front_at, parts_at, rest_at, weekday_of}
-use Rattle.cal_holiday_text.specs.Days.{day_of, days_of}
+use Rattle.cal_recurrence.specs.SetText.{size_of, without_return}
+use Rattle.cal_recurrence.specs.Words.{count_of, front_at, parts_at}
+use Rattle.cal_holiday_text.specs.Days.{AreDays, IsDayText, IsWeekday}
 use Rattle.cal_holiday_text.specs.declared.error.ParseHolidayRuleError.{ParseHolidayRuleError}
 use Rattle.cal_holiday_text.specs.declared.error.ParseHolidayRuleErrorKind.{ParseHolidayRuleErrorKind}
 use Rattle.cal_holiday_text.specs.declared.error.ParseHolidayRuleErrorKind.TheVariants.{Invalid, TooMany}
 
--- ---- the first word
+-- ---- words
 -- The rule of a day in the years from one through another, with no moves.
 abbrev pub rule_within : ℤ → ℤ → HolidayDay → HolidayRule
 rule_within first last day = record { day = day; first_year = first; last_year = last; moves = replicate 7 (pos 0) }
 
--- A year of more than two digits, since a month has at most two.
-abbrev pub long_year_of : List ℕ → Option ℤ
-long_year_of word = if nat_lt 2 (length word) then option_map pos (count_of 999999 word) else None
+-- A year of more than two digits, since a month has at most two, `-` (45) and other bytes.
+pub record IsYearBefore (text : List ℕ) (y : ℤ) (rest : List ℕ) : Type 0 where
+  pub n : ℕ
+  pub year : List ℕ
+  pub long : 2 < length year
+  pub is_number : count_of 999999 year ≡ Some n
+  pub is : y ≡ pos n
+  pub text_is : text ≡ year ++ 45 ∷ rest
 
--- The rule of a day in each year. 2000 is a leap year, so it has each day.
-unfoldable pub yearly_rule_of : List ℕ → Option HolidayRule
-yearly_rule_of word = option_map (rule_within first_year last_year) (day_of (pos 2000) word)
+-- A day in each year, or a year and a day in it. 2000 is a leap year, so it has each day.
+pub data IsFirstWord (text : List ℕ) : HolidayRule → Type 0 where
+  yearly : (day : HolidayDay) → IsDayText (pos 2000) text day → IsFirstWord text (rule_within first_year last_year day)
+  in_one_year : (y : ℤ) (rest : List ℕ) (day : HolidayDay) → IsYearBefore text y rest → IsDayText y rest day → IsFirstWord text (rule_within y y day)
 
--- The rule of the first word: a day in each year, or after a year and `-` (45) only in this year.
-unfoldable pub first_word_of : List ℕ → Option HolidayRule
-first_word_of word = option_map_or (λ y. option_map (rule_within y y) (day_of y (rest_at 45 word))) (long_year_of (front_at 45 word)) (yearly_rule_of word)
-
--- ---- further words
 -- A year, or a default for no bytes.
-abbrev pub year_or : ℤ → List ℕ → Option ℤ
-year_or default word = if length word == 0 then Some default else option_map pos (count_of 999999 word)
+abbrev pub IsYearOr : ℤ → ℤ → List ℕ → Type 0
+IsYearOr default y text = ((text ≡ []) × (y ≡ default)) ⊎ ((n : ℕ) × (count_of 999999 text ≡ Some n) × (y ≡ pos n))
 
--- Years, by the bytes before and after the first point (46). A second one comes next.
-unfoldable pub years_around : List ℕ → List ℕ → Option (ℤ × ℤ)
-years_around first rest = if slice_index rest 0 == 46 then option_zip (year_or first_year first) (year_or last_year (drop 1 rest)) else None
+-- Years, such as 1999..2009, 1999.. or ..2009, around their first point (46).
+pub record AreYearsAround (first rest : List ℕ) (years : ℤ × ℤ) : Type 0 where
+  pub last : List ℕ
+  pub is_first : IsYearOr first_year years.0 first
+  pub is_last : IsYearOr last_year years.1 last
+  pub rest_is : rest ≡ 46 ∷ last
 
--- Years, such as 1999..2009, 1999.. or ..2009.
-abbrev pub years_of : List ℕ → Option (ℤ × ℤ)
-years_of word = years_around (front_at 46 word) (rest_at 46 word)
+pub record AreYears (text : List ℕ) (years : ℤ × ℤ) : Type 0 where
+  pub first : List ℕ
+  pub rest : List ℕ
+  pub are : AreYearsAround first rest years
+  pub text_is : text ≡ first ++ 46 ∷ rest
 
--- A rule has no years yet, and a first year isn't after a last one.
-abbrev pub has_all_years : HolidayRule → Bool
-has_all_years rule = int_eq rule.first_year first_year && int_eq rule.last_year last_year
-
-abbrev pub with_years : HolidayRule → ℤ × ℤ → Option HolidayRule
-with_years rule years =
-    if has_all_years rule && int_le years.0 years.1 then Some (record rule { first_year = years.0; last_year = years.1 }) else None
+-- A rule that is in force in all years gets these years, in order.
+pub record IsWithYears (rule : HolidayRule) (years : ℤ × ℤ) (more : HolidayRule) : Type 0 where
+  pub all : (rule.first_year ≡ first_year) × (rule.last_year ≡ last_year)
+  pub in_order : years.0 ≤ℤ years.1
+  pub more_is : more ≡ record rule { first_year = years.0; last_year = years.1 }
 
 -- A move, such as SU+1: a weekday and the days by which it is moved.
-abbrev pub move_of : List ℕ → Option (Weekday × ℤ)
-move_of word = if nat_le 2 (length word) then option_zip (weekday_of (first_bytes 2 word)) (days_of (bytes_after 2 word)) else None
+pub record IsMove (text : List ℕ) (move : Weekday × ℤ) : Type 0 where
+  pub letters : List ℕ
+  pub days : List ℕ
+  pub is_weekday : IsWeekday move.0 letters
+  pub are_days : AreDays move.1 days
+  pub text_is : text ≡ letters ++ days
 
--- A rule with one more move, unless it has one of the weekday.
-abbrev pub with_move : HolidayRule → Weekday × ℤ → Option HolidayRule
-with_move rule move =
-    if int_eq (slice_index_or rule.moves (index move.0) (pos 0)) (pos 0) then Some (record rule { moves = slice_set rule.moves (index move.0) move.1 }) else None
+-- A rule without a move of the weekday gets this one.
+pub record IsWithMove (rule : HolidayRule) (move : Weekday × ℤ) (more : HolidayRule) : Type 0 where
+  pub none : slice_index_or rule.moves (index move.0) (pos 0) ≡ pos 0
+  pub more_is : more ≡ record rule { moves = slice_set rule.moves (index move.0) move.1 }
 
-unfoldable pub with_word : HolidayRule → List ℕ → Option HolidayRule
-with_word rule word = option_map_or (with_years rule) (years_of word) (option_and_then (with_move rule) (move_of word))
+-- A rule with one more word.
+pub data IsWith (rule : HolidayRule) (text : List ℕ) (more : HolidayRule) : Type 0 where
+  with_years : (years : ℤ × ℤ) → AreYears text years → IsWithYears rule years more → IsWith rule text more
+  with_move : (move : Weekday × ℤ) → IsMove text move → IsWithMove rule move more → IsWith rule text more
 
--- ---- a line
--- The rule of a line after one more word, if it has any words. There may be no bytes between spaces.
-abbrev pub after_word : Option HolidayRule → List ℕ → Option HolidayRule
-after_word None word = first_word_of word
-after_word (Some rule) word = with_word rule word
+-- The rule of a line, if it has any words, with one more word. There may be no bytes between spaces.
+pub data IsNext : Option HolidayRule → List ℕ → Option HolidayRule → Type 0 where
+  blank : (rule : Option HolidayRule) (text : List ℕ) → length text ≡ 0 → IsNext rule text rule
+  first : (text : List ℕ) (rule : HolidayRule) → 0 < length text → IsFirstWord text rule → IsNext None text (Some rule)
+  more : (rule : HolidayRule) (text : List ℕ) (more : HolidayRule) → 0 < length text → IsWith rule text more → IsNext (Some rule) text (Some more)
 
-abbrev pub rule_after : Option HolidayRule → List ℕ → Option (Option HolidayRule)
-rule_after rule word = if length word == 0 then Some rule else option_map Some (after_word rule word)
+-- ---- one after another
+-- Each item leads from one value to the next, the first of which is `start`, and the last one `end`.
+abbrev pub Leads : {S X : Type 0} → (S → X → S → Type 0) → S → List X → S → Type 0
+Leads Step start [] end = end ≡ start
+Leads {S = S} Step start (x ∷ xs) end = (next : S) × Step start x next × Leads Step next xs end
 
--- The rule after more words, the first of which begins at byte `at`, or the position of the first
--- invalid word.
-abbrev pub read_words : ℕ → Option HolidayRule → List (List ℕ) → Result (Option HolidayRule) ℕ
-read_words at rule [] = Ok rule
-read_words at rule (word ∷ words) = option_map_or (λ more. read_words (at + length word + 1) more words) (rule_after rule word) (Err at)
+-- The items before one lead somewhere, and with it they lead nowhere.
+pub record StopsAt {S X : Type 0} (Step : S → X → S → Type 0) (start : S) (xs before : List X) (x : X) : Type 0 where
+  pub after : List X
+  pub items : xs ≡ before ++ x ∷ after
+  pub some : (end : S) × Leads Step start before end
+  pub none : (end : S) → ¬ Leads Step start (before ++ x ∷ []) end
 
--- The rule of a line that begins at byte `at`. A line without words has none.
-abbrev pub line_rule : ℕ → List ℕ → Result (Option HolidayRule) ℕ
-line_rule at line = read_words at None (parts_at 32 (front_at 35 (without_return line)))
+-- The rule that a line says, if it has any words.
+abbrev pub words_of : List ℕ → List (List ℕ)
+words_of line = parts_at 32 (front_at 35 (without_return line))
 
--- ---- the whole
--- The error with this reason at a position.
-abbrev pub error : ℕ → ParseHolidayRuleErrorKind → ParseHolidayRuleError
-error at why = record { position = at; reason = why }
+abbrev pub Says : List (List ℕ) → Option HolidayRule → Type 0
+Says words rule = Leads IsNext None words rule
 
--- The rules with the rule of one more line, if there are fewer than `room`.
-abbrev pub with_rule : ℕ → ℕ → List HolidayRule → Option HolidayRule → Result (List HolidayRule) ParseHolidayRuleError
-with_rule room at rules None = Ok rules
-with_rule room at rules (Some rule) = if nat_lt (length rules) room then Ok (rules ++ rule ∷ []) else Err (error at TooMany)
+-- The first invalid word of those from `start` on begins at a position.
+pub record IsInvalidAt (start : ℕ) (words : List (List ℕ)) (at : ℕ) : Type 0 where
+  pub before : List (List ℕ)
+  pub word : List ℕ
+  pub stops : StopsAt IsNext None words before word
+  pub position : at ≡ start + size_of before
 
-abbrev pub with_line : ℕ → ℕ → List HolidayRule → Result (Option HolidayRule) ℕ → Result (List HolidayRule) ParseHolidayRuleError
-with_line room at rules (Ok rule) = with_rule room at rules rule
-with_line room at rules (Err invalid) = Err (error invalid Invalid)
+-- The rules with the rule of one more line, if there are at most `room`.
+pub record IsNextLine (room : ℕ) (rules : List HolidayRule) (line : List ℕ) (more : List HolidayRule) : Type 0 where
+  pub rule : Option HolidayRule
+  pub says : Says (words_of line) rule
+  pub more_are : more ≡ rules ++ option_to_list rule
+  pub within : length more ≤ room
 
--- The result for the lines after one, if it has no error.
-abbrev pub and_on : (List HolidayRule → Result (List HolidayRule) ParseHolidayRuleError) → Result (List HolidayRule) ParseHolidayRuleError → Result (List HolidayRule) ParseHolidayRuleError
-and_on others (Ok rules) = others rules
-and_on others (Err why) = Err why
+-- A text says these rules.
+abbrev pub AreRules : ℕ → List ℕ → List HolidayRule → Type 0
+AreRules room text rules = Leads (IsNextLine room) [] (parts_at 10 text) rules
 
--- The rules with those of more lines, the first of which begins at byte `at`, or the first error.
-abbrev pub read_lines : ℕ → ℕ → List HolidayRule → List (List ℕ) → Result (List HolidayRule) ParseHolidayRuleError
-read_lines room at rules [] = Ok rules
-read_lines room at rules (line ∷ lines) = and_on (λ more. read_lines room (at + length line + 1) more lines) (with_line room at rules (line_rule at line))
+-- The error of the first line that can't be added: of its first invalid word, or of the line if it
+-- says a rule.
+pub record IsRuleError (room : ℕ) (text : List ℕ) (e : ParseHolidayRuleError) : Type 0 where
+  pub before : List (List ℕ)
+  pub line : List ℕ
+  pub stops : StopsAt (IsNextLine room) [] (parts_at 10 text) before line
+  pub reason : ((e.reason ≡ Invalid) × IsInvalidAt (size_of before) (words_of line) e.position)
+      ⊎ ((e.reason ≡ TooMany) × (e.position ≡ size_of before) × ((rule : Option HolidayRule) × Says (words_of line) rule))
 
 -- The rules of a text, if there are at most `room`, or its first error.
-abbrev pub rules_of : ℕ → List ℕ → Result (List HolidayRule) ParseHolidayRuleError
-rules_of room text = read_lines room 0 [] (parts_at 10 text)
+abbrev pub IsResult : ℕ → List ℕ → Result (List HolidayRule) ParseHolidayRuleError → Type 0
+IsResult room text result = MatchResult result (AreRules room text) (IsRuleError room text)

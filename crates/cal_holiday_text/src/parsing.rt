@@ -1,8 +1,10 @@
 //! Parses the text of rules of holidays.
-ghost use Rattle.std.specs.Prelude.{◌≡◌, ℕ, ◌<◌, ◌≤◌, ◌^◌, IfErr, IfOk, MatchOption, None, Ok, Err, length, take};
-ghost use Rattle.std.specs.Result.{result_map_both};
-ghost use Rattle.cal_holiday_text.specs.Rules.{error, line_rule, read_words, rules_of, with_rule};
-ghost use Rattle.cal_holiday_text.specs.declared.error.ParseHolidayRuleErrorKind.TheVariants.{TooMany};
+ghost use Rattle.std.specs.Prelude.{◌≡◌, ◌+◌, ◌++◌, ◌<◌, ◌≤◌, ◌^◌, IfErr, IfOk, List, MatchOption, Option, Result, Ok, length, take};
+ghost use Rattle.std.specs.Option.{option_to_list};
+ghost use Rattle.std.specs.Result.{IsOkAnd, result_map_both};
+ghost use Rattle.cal_holidays.specs.declared.holiday_rule.HolidayRule.{HolidayRule};
+ghost use Rattle.cal_holiday_text.specs.Rules.{AreRules, IsInvalidAt, IsResult, IsRuleError, Says, words_of};
+ghost use Rattle.cal_holiday_text.specs.declared.error.ParseHolidayRuleError.{ParseHolidayRuleError};
 ghost use Rattle.cal_recurrence.specs.Words.{parts_at};
 
 use crate::error::{ParseHolidayRuleError, ParseHolidayRuleErrorKind};
@@ -14,7 +16,9 @@ use cal_recurrence::{cut, without_return};
 /// words, or the position of the first invalid one.
 fn parse_words(position: usize, text: &[u8]) -> Result<Option<HolidayRule>, usize>
     requires { position < 2 ^ 63 }
-    ensures { result ≡ read_words position None (parts_at 32 text.now) }
+    ensures every { (rule : Option HolidayRule) → Says (parts_at 32 text.now) rule → result ≡ Ok rule }
+    ensures value { IfOk result (Says (parts_at 32 text.now)) }
+    ensures error { IfErr result (IsInvalidAt position (parts_at 32 text.now)) }
 {
     let (mut at, mut rule, mut words) = (position, None, Some(text));
     while let Some(left) = words {
@@ -32,7 +36,9 @@ fn parse_words(position: usize, text: &[u8]) -> Result<Option<HolidayRule>, usiz
 /// Parses a line that begins at byte `position`, without its line feed.
 fn parse_line(position: usize, line: &[u8]) -> Result<Option<HolidayRule>, usize>
     requires { position < 2 ^ 63 }
-    ensures { result ≡ line_rule position line.now }
+    ensures every { (rule : Option HolidayRule) → Says (words_of line.now) rule → result ≡ Ok rule }
+    ensures value { IfOk result (Says (words_of line.now)) }
+    ensures error { IfErr result (IsInvalidAt position (words_of line.now)) }
 {
     parse_words(position, cut(without_return(line), b'#').0)
 }
@@ -51,10 +57,8 @@ pub fn parse_holiday_rule(line: &[u8]) -> Result<Option<HolidayRule>, usize>
 /// or `None` if it has no room.
 fn add_rule(rules: &mut [HolidayRule], count: usize, rule: Option<HolidayRule>) -> Option<usize>
     requires { count ≤ length rules.old }
-    ensures { (position : ℕ) → MatchOption result
-        (with_rule (length rules.old) position (take count rules.old) rule ≡ Err (error position TooMany))
-        (λ more. (more ≤ length rules.new)
-        × (with_rule (length rules.old) position (take count rules.old) rule ≡ Ok (take more rules.new))) }
+    ensures { MatchOption result (length rules.old < count + length (option_to_list rule))
+        (λ more. (more ≤ length rules.new) × (take more rules.new ≡ take count rules.old ++ option_to_list rule)) }
 {
     match rule {
         Some(rule) => {
@@ -70,9 +74,11 @@ fn add_rule(rules: &mut [HolidayRule], count: usize, rule: Option<HolidayRule>) 
 
 /// Parses the rules of a text into the front of the buffer, and returns how many it has.
 fn parse_lines(text: &[u8], rules: &mut [HolidayRule]) -> Result<usize, ParseHolidayRuleError>
+    ensures every { (found : List HolidayRule) → AreRules (length rules.old) text.now found
+        → IsOkAnd result (λ count. take count rules.new ≡ found) }
     ensures value { IfOk result (λ count. (count ≤ length rules.new)
-        × (rules_of (length rules.old) text.now ≡ Ok (take count rules.new))) }
-    ensures error { IfErr result (λ e. rules_of (length rules.old) text.now ≡ Err e) }
+        × AreRules (length rules.old) text.now (take count rules.new)) }
+    ensures error { IfErr result (IsRuleError (length rules.old) text.now) }
 {
     let (mut position, mut count, mut lines) = (0, 0, Some(text));
     while let Some(left) = lines {
@@ -118,7 +124,9 @@ pub fn parse_holiday_rules<'a>(
     text: &[u8],
     rules: &'a mut [HolidayRule],
 ) -> Result<&'a [HolidayRule], ParseHolidayRuleError>
-    ensures { result_map_both (λ rules. rules.now) (λ e. e) result ≡ rules_of (length rules.old) text.now }
+    ensures every { (other : Result (List HolidayRule) ParseHolidayRuleError) → IsResult (length rules.old) text.now other
+        → result_map_both (λ rules. rules.now) (λ e. e) result ≡ other }
+    ensures value { IsResult (length rules.old) text.now (result_map_both (λ rules. rules.now) (λ e. e) result) }
 {
     match parse_lines(text, rules) {
         Ok(count) => Ok(&rules[..count]),

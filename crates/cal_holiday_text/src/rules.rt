@@ -1,6 +1,10 @@
 //! The words of a rule.
-ghost use Rattle.std.specs.Prelude.{◌≡◌};
-ghost use Rattle.cal_holiday_text.specs.Rules.{after_word, first_word_of, has_all_years, long_year_of, move_of, rule_after, rule_within, with_move, with_word, with_years, year_or, yearly_rule_of, years_around, years_of};
+ghost use Rattle.std.specs.Prelude.{◌≡◌, ℤ, List, IfSome, MatchOption, Option, Some};
+ghost use Rattle.cal_time.specs.Date.{first_year, last_year};
+ghost use Rattle.cal_time.specs.declared.Weekday.{Weekday};
+ghost use Rattle.cal_holidays.specs.declared.holiday_rule.HolidayRule.{HolidayRule};
+ghost use Rattle.cal_holiday_text.specs.Days.{IsDayText};
+ghost use Rattle.cal_holiday_text.specs.Rules.{AreYears, AreYearsAround, IsFirstWord, IsMove, IsNext, IsWith, IsWithMove, IsWithYears, IsYearBefore, IsYearOr, rule_within};
 
 use crate::days::{day_of, days_of};
 use cal_holidays::{HolidayDay, HolidayRule};
@@ -20,43 +24,39 @@ fn rule_within(first_year: i32, last_year: i32, day: HolidayDay) -> HolidayRule
     }
 }
 
-/// Parses a year of more than two digits.
-fn long_year_of(word: &[u8]) -> Option<i32>
-    ensures { result ≡ long_year_of word.now }
+/// Parses a year of more than two digits, and returns it with the bytes after its `-`.
+fn year_before(word: &[u8]) -> Option<(i32, &[u8])>
+    ensures every { MatchOption result ((y : ℤ) (rest : List ℕ) → ¬ IsYearBefore word.now y rest)
+        (λ found. (y : ℤ) (rest : List ℕ) → IsYearBefore word.now y rest → (found.0 ≡ y) × (found.1.now ≡ rest)) }
+    ensures value { IfSome result (λ found. IsYearBefore word.now found.0 found.1.now) }
 {
-    if word.len() <= 2 {
-        return None;
+    match cut(word, b'-') {
+        (year, Some(rest)) => {
+            if year.len() <= 2 {
+                return None;
+            }
+            Some((count_of(year, 999_999)? as i32, rest))
+        }
+        (_, None) => None,
     }
-    Some(count_of(word, 999_999)? as i32)
-}
-
-/// Parses a day in each year.
-#[tactic(auto, unfolding(crate::specs::Rules::yearly_rule_of))]
-fn yearly_rule_of(word: &[u8]) -> Option<HolidayRule>
-    ensures { result ≡ yearly_rule_of word.now }
-{
-    Some(rule_within(MIN_YEAR, MAX_YEAR, day_of(2000, word)?))
 }
 
 /// Parses the first word of a rule: a day in each year such as `12-25`, or in one year such as
 /// `2024-12-27`.
-#[tactic(auto, unfolding(crate::specs::Rules::first_word_of))]
 fn first_word_of(word: &[u8]) -> Option<HolidayRule>
-    ensures { result ≡ first_word_of word.now }
+    ensures every { (rule : HolidayRule) → IsFirstWord word.now rule → result ≡ Some rule }
+    ensures value { IfSome result (IsFirstWord word.now) }
 {
-    let (front, rest) = cut(word, b'-');
-    match long_year_of(front) {
-        Some(year) => {
-            let day = day_of(year, rest.unwrap_or(b"".as_slice()))?;
-            Some(rule_within(year, year, day))
-        }
-        None => yearly_rule_of(word),
+    match year_before(word) {
+        Some((year, rest)) => Some(rule_within(year, year, day_of(year, rest)?)),
+        None => Some(rule_within(MIN_YEAR, MAX_YEAR, day_of(2000, word)?)),
     }
 }
 
 /// Parses a year, or returns a default for no bytes.
 fn year_or(default: i32, word: &[u8]) -> Option<i32>
-    ensures { result ≡ year_or default word.now }
+    ensures every { (y : ℤ) → IsYearOr default y word.now → result ≡ Some y }
+    ensures value { IfSome result (λ y. IsYearOr default y word.now) }
 {
     if word.is_empty() {
         return Some(default);
@@ -65,9 +65,9 @@ fn year_or(default: i32, word: &[u8]) -> Option<i32>
 }
 
 /// Parses years, by the bytes before and after the first point.
-#[tactic(auto, unfolding(crate::specs::Rules::years_around))]
 fn years_around(first: &[u8], rest: &[u8]) -> Option<(i32, i32)>
-    ensures { result ≡ years_around first.now rest.now }
+    ensures every { (years : ℤ × ℤ) → AreYearsAround first.now rest.now years → result ≡ Some years }
+    ensures value { IfSome result (AreYearsAround first.now rest.now) }
 {
     match rest {
         [b'.', last @ ..] => {
@@ -81,26 +81,23 @@ fn years_around(first: &[u8], rest: &[u8]) -> Option<(i32, i32)>
 
 /// Parses years, such as `1999..2009`, `1999..` or `..2009`.
 fn years_of(word: &[u8]) -> Option<(i32, i32)>
-    ensures { result ≡ years_of word.now }
+    ensures every { (years : ℤ × ℤ) → AreYears word.now years → result ≡ Some years }
+    ensures value { IfSome result (AreYears word.now) }
 {
-    let (first, rest) = cut(word, b'.');
-    years_around(first, rest.unwrap_or(b"".as_slice()))
-}
-
-/// Returns `true` if the rule is in force in all years.
-fn has_all_years(rule: HolidayRule) -> bool
-    ensures { result ≡ has_all_years rule }
-{
-    rule.first_year == MIN_YEAR && rule.last_year == MAX_YEAR
+    match cut(word, b'.') {
+        (first, Some(rest)) => years_around(first, rest),
+        (_, None) => None,
+    }
 }
 
 /// Returns the rule in these years, or `None` if it has years, or the first one is after the last
 /// one.
 fn with_years(rule: HolidayRule, years: (i32, i32)) -> Option<HolidayRule>
-    ensures { result ≡ with_years rule years }
+    ensures every { (more : HolidayRule) → IsWithYears rule years more → result ≡ Some more }
+    ensures value { IfSome result (IsWithYears rule years) }
 {
     let (first_year, last_year) = years;
-    if !has_all_years(rule) || first_year > last_year {
+    if rule.first_year != MIN_YEAR || rule.last_year != MAX_YEAR || first_year > last_year {
         return None;
     }
     let mut changed = rule;
@@ -111,7 +108,8 @@ fn with_years(rule: HolidayRule, years: (i32, i32)) -> Option<HolidayRule>
 
 /// Parses a move, such as `SU+1`.
 fn move_of(word: &[u8]) -> Option<(Weekday, i8)>
-    ensures { result ≡ move_of word.now }
+    ensures every { (move : Weekday × ℤ) → IsMove word.now move → result ≡ Some move }
+    ensures value { IfSome result (IsMove word.now) }
 {
     if word.len() < 2 {
         return None;
@@ -123,7 +121,8 @@ fn move_of(word: &[u8]) -> Option<(Weekday, i8)>
 
 /// Returns the rule with one more move, or `None` if it has one of the weekday.
 fn with_move(rule: HolidayRule, days_moved: (Weekday, i8)) -> Option<HolidayRule>
-    ensures { result ≡ with_move rule days_moved }
+    ensures every { (more : HolidayRule) → IsWithMove rule days_moved more → result ≡ Some more }
+    ensures value { IfSome result (IsWithMove rule days_moved) }
 {
     let (weekday, days) = days_moved;
     let place = usize::from(weekday.place());
@@ -141,9 +140,9 @@ fn with_move(rule: HolidayRule, days_moved: (Weekday, i8)) -> Option<HolidayRule
 }
 
 /// Returns the rule with one more word, or `None` if it is invalid.
-#[tactic(auto, unfolding(crate::specs::Rules::with_word))]
 fn with_word(rule: HolidayRule, word: &[u8]) -> Option<HolidayRule>
-    ensures { result ≡ with_word rule word.now }
+    ensures every { (more : HolidayRule) → IsWith rule word.now more → result ≡ Some more }
+    ensures value { IfSome result (IsWith rule word.now) }
 {
     match years_of(word) {
         Some(years) => with_years(rule, years),
@@ -151,23 +150,17 @@ fn with_word(rule: HolidayRule, word: &[u8]) -> Option<HolidayRule>
     }
 }
 
-/// Returns the rule of a line after one more word, or `None` if it is invalid.
-fn after_word(rule: Option<HolidayRule>, word: &[u8]) -> Option<HolidayRule>
-    ensures { result ≡ after_word rule word.now }
-{
-    match rule {
-        Some(rule) => with_word(rule, word),
-        None => first_word_of(word),
-    }
-}
-
 /// Returns the rule of a line, if it has any words, after what stands between two spaces. Returns
 /// `None` for an invalid word.
 pub(crate) fn rule_after(rule: Option<HolidayRule>, word: &[u8]) -> Option<Option<HolidayRule>>
-    ensures { result ≡ rule_after rule word.now }
+    ensures every { (next : Option HolidayRule) → IsNext rule word.now next → result ≡ Some next }
+    ensures value { IfSome result (IsNext rule word.now) }
 {
     if word.is_empty() {
         return Some(rule);
     }
-    Some(Some(after_word(rule, word)?))
+    match rule {
+        Some(rule) => Some(Some(with_word(rule, word)?)),
+        None => Some(Some(first_word_of(word)?)),
+    }
 }

@@ -1,8 +1,6 @@
 //! The holidays of rules in a string.
 ghost use Rattle.std.specs.Prelude.{◌≡◌};
-ghost use Rattle.cal_holiday_text.specs.Rules.{rules_of};
-ghost use Rattle.cal_c.specs.Calendars.{AreListedBetween, AreListedOf, holidays_result, rule_status};
-ghost use Rattle.cal_c.specs.Values.{max_dates};
+ghost use Rattle.cal_c.specs.Calendars.{AreListedBetween, AreListedIn, holidays_result, rule_status};
 
 use crate::results::NumberResult;
 use crate::schedule::calendars::write_holidays;
@@ -77,7 +75,7 @@ pub extern "C" fn fots_rules_holidays(
     last: i32,
     holidays: &mut [i32],
 ) -> HolidaysResult
-    ensures { AreListedOf (rules_of max_dates text.now) first last holidays.new result }
+    ensures { AreListedIn text.now first last holidays.new result }
 {
     let mut parsed = [NO_RULE; MAX_DATES];
     match parse_holiday_rules(text, &mut parsed) {

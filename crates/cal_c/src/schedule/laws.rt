@@ -1,11 +1,10 @@
 //! Laws: the clauses of the calls for ranges, for periods of a date and a time, and for holidays allow
 //! only one result.
-ghost use Rattle.std.specs.Prelude.{◌≡◌, ℕ, ℤ, List, Result};
-ghost use Rattle.cal_holiday_text.specs.declared.error.ParseHolidayRuleError.{ParseHolidayRuleError};
+ghost use Rattle.std.specs.Prelude.{◌≡◌, ℕ, ℤ, List};
 ghost use Rattle.cal_holidays.specs.declared.holiday_rule.HolidayRule.{HolidayRule};
 ghost use Rattle.cal_schedule.specs.Period.{Parts};
 ghost use Rattle.cal_schedule.specs.Ranges.{HasCommonDay, IsIn};
-ghost use Rattle.cal_c.specs.Calendars.{AreListed, AreListedOf};
+ghost use Rattle.cal_c.specs.Calendars.{AreListed, AreListedIn};
 ghost use Rattle.cal_c.specs.DateRanges.{range_in, IsYesNo};
 ghost use Rattle.cal_c.specs.Periods.{IsPairAfter, IsPeriodUntilResult, IsStepOfPair};
 ghost use Rattle.cal_c.specs.Values.{day_of};
@@ -45,7 +44,6 @@ pub fn one_number_of_holidays()
 
 /// States that the holidays of the rules of a string have one result.
 pub fn one_result_of_rules()
-    ensures { (parsed : Result (List HolidayRule) ParseHolidayRuleError) (first last : ℤ)
-        (written : List ℤ) (r s : HolidaysResult) → AreListedOf parsed first last written r
-        → AreListedOf parsed first last written s → r ≡ s }
+    ensures { (text : List ℕ) (first last : ℤ) (written : List ℤ) (r s : HolidaysResult)
+        → AreListedIn text first last written r → AreListedIn text first last written s → r ≡ s }
 {}
