@@ -96,7 +96,7 @@ def nanoseconds(rows, section):
     chosen = [row for row in rows if row.section == section and (section == "calls" or row.times.keys() - {"here", "time"})]
     peers = ["inlined", "a row"] if section == "calls" else PEERS[section]
     titles = ["here", *(peer if section == "calls" else label(peer) for peer in peers)]
-    width = max(len(row.task) for row in chosen)
+    width = max((len(row.task) for row in chosen), default=0)
     lines = ["```text", " " * width + "".join(f"  {title:>8}" for title in titles)]
     for row in chosen:
         cells = [f"{row.times[who]:.1f}" if who in row.times else "" if who not in MEASURED or version_of(who) else "left out"

@@ -114,7 +114,7 @@ def of_position(position: int, owner: Any, method: str, given: dict[str, Any]) -
 
 def item_at(format: str) -> str:
     """Returns the item in the syntax of `strftime` at the start of a string."""
-    item = re.match("%[-_0^#:]*.?|.", format, re.DOTALL)
+    item = re.match("%[-_^#:0-9]*.?|.", format, re.DOTALL)
     return _quoted(item[0] if item else "")
 
 

@@ -85,6 +85,7 @@ STRINGS = [
     (lambda: Time.strptime("10:30", "%I:%M"), '"%I" has no half of the day: use %H or add %p'),
     (lambda: Date.strptime("10:30", "%H:%M"), "the texts of a format don't determine such a value"),
     (lambda: Format("%d %Q"), 'unknown item "%Q" in a format at 3'),
+    (lambda: Format("%F %-10!%d"), 'unknown item "%-10!" in a format at 3'),
     (lambda: LEAP_DAY.strftime("%"), 'unknown item "%" in a format at 0'),
     (lambda: Format("a\ud800"), 'unknown item "\\ud800" in a format at 1'),
     (lambda: Format.from_description("[foo]"), "unknown item in a format at 0"),

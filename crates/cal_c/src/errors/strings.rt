@@ -16,8 +16,9 @@ use cal_time::error::Component;
 
 /// Returns the sentence of a status and a position that a call returned for a string, such as
 /// `unexpected "x" at position 9`, `unexpected end at position 9`, `unknown item "%Q" at position 3` or
-/// `weekday contradicts the other components`. A component that is out of range has its value and its range, if the string has a form
-/// of ISO 8601 or RFC 3339: `day 29 is out of range 1 to 28 (February 2023)` for `2023-02-29`.
+/// `weekday contradicts the other components`. A component that is out of range has its value and its
+/// range, if the string has a form of ISO 8601 or RFC 3339: `day 29 is out of range 1 to 28 (February
+/// 2023)` for `2023-02-29`.
 #[unsafe(no_mangle)]
 pub extern "C" fn fots_parse_error_text(status: i32, position: usize, text: &[u8]) -> ErrorText
     ensures byte { (b : ℕ) → IsByteOf status position text.now b
