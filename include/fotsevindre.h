@@ -165,6 +165,26 @@ typedef struct fots_format {
     fots_format_item items[FOTS_MAX_ITEMS];
 } fots_format;
 
+/* The maximum length of a name, in bytes. */
+#define FOTS_MAX_NAME_LENGTH 127
+
+/* A name in UTF-8. It may be empty. */
+typedef struct fots_name {
+    const char *text;
+    size_t text_length;
+} fots_name;
+
+/* The names of a language: months from January on, weekdays from Monday on, and AM before PM. */
+typedef struct fots_language_names {
+    fots_name months[12]; /* beside a day: "stycznia" in Polish */
+    fots_name months_alone[12]; /* without a day: "styczeń" */
+    fots_name short_months[12];
+    fots_name weekdays[7];
+    fots_name short_weekdays[7];
+    fots_name periods[2];
+    fots_name lower_periods[2];
+} fots_language_names;
+
 #define FOTS_MIN_JULIAN_DAY (-363521074)
 #define FOTS_MAX_JULIAN_DAY 366963559
 #define FOTS_MIN_YEAR (-999999)
@@ -272,7 +292,11 @@ enum fots_status {
     FOTS_OTHER_END = 87, /* a line END that isn't END:VEVENT ends an event */
     FOTS_OTHER_ZONE = 88, /* a line names another zone than a line before it, or two (TZID) */
     FOTS_WRONG_KIND = 89, /* a line of an event has a value of another kind, such as a time with Z */
-    FOTS_INVALID_HOLIDAY_RULE = 90 /* a word of a rule of a holiday isn't a day, years or a move */
+    FOTS_INVALID_HOLIDAY_RULE = 90, /* a word of a rule of a holiday isn't a day, years or a move */
+    FOTS_INVALID_NAMES = 91, /* a name isn't UTF-8 of at most 127 bytes */
+    FOTS_UNKNOWN_LANGUAGE = 92, /* expected ar, de, en, es, fr, it, ja, pl, pt, ru, tr or zh */
+    FOTS_AMBIGUOUS_NAMES = 93, /* a name in a format can be read as another name */
+    FOTS_AMBIGUOUS_NUMBER = 94 /* a number in a format goes on with what comes after it */
 };
 
 /* Returns the name of a status: the component, such as "day", or words such as "result out of
@@ -371,6 +395,10 @@ static inline const char *fots_status_name(int32_t status)
     case FOTS_OTHER_ZONE: return "other zone";
     case FOTS_WRONG_KIND: return "wrong kind of value";
     case FOTS_INVALID_HOLIDAY_RULE: return "invalid rule of a holiday";
+    case FOTS_INVALID_NAMES: return "invalid names";
+    case FOTS_UNKNOWN_LANGUAGE: return "unknown language";
+    case FOTS_AMBIGUOUS_NAMES: return "ambiguous names";
+    case FOTS_AMBIGUOUS_NUMBER: return "ambiguous number";
     default: return "unknown";
     }
 }
@@ -567,6 +595,15 @@ typedef struct fots_format_result {
     fots_format format; /* or one that calls reject */
     size_t position; /* of the fault, or SIZE_MAX */
 } fots_format_result;
+
+/* The first item of a format that can be read in two ways with names. */
+typedef struct fots_names_check_result {
+    int32_t status;
+    uint32_t byte; /* with which the number goes on, or 0 */
+    size_t item; /* its index, or SIZE_MAX */
+    size_t name; /* the index of its name in the array of the names, or SIZE_MAX */
+    size_t other; /* the index of the other name, or SIZE_MAX */
+} fots_names_check_result;
 
 typedef struct fots_length_result {
     int32_t status;
@@ -1777,6 +1814,46 @@ fots_parse_time_result fots_time_parse_format(const char *text, size_t text_leng
 fots_parse_offset_result fots_offset_parse_format(const char *text, size_t text_length, const fots_format *format);
 fots_parse_moment_result fots_pair_parse_format(const char *text, size_t text_length, const fots_format *format);
 fots_parse_moment_result fots_moment_parse_format(const char *text, size_t text_length, const fots_format *format);
+
+/* Writes the names of a language by its code of ISO 639-1, such as "fr", from a locale of glibc. The
+ * names stay valid. For another code writes empty names and returns FOTS_UNKNOWN_LANGUAGE. */
+int32_t fots_names_of_language(const char *code, size_t code_length, fots_language_names *names);
+
+/* Returns the names with the months without a day in place of those beside a day, for a format such
+ * as "%B %Y". */
+static inline fots_language_names fots_names_alone(const fots_language_names *names)
+{
+    fots_language_names alone = *names;
+    for (int month = 0; month < 12; month++) {
+        alone.months[month] = names->months_alone[month];
+    }
+    return alone;
+}
+
+/* Checks that each text of a format with names has one value. Errors: FOTS_INVALID_FORMAT;
+ * FOTS_INVALID_NAMES; FOTS_AMBIGUOUS_NAMES if two names of an item are the same, or a name goes on to
+ * another one with what comes after the item, as "Pazar" of "%Atesi" to "Pazartesi" in Turkish;
+ * FOTS_AMBIGUOUS_NUMBER if a number does, as in Japanese that of "%-d%B" to "1" of "1月". */
+fots_names_check_result fots_names_check(const fots_format *format, const fots_language_names *names);
+
+/* Write the text of a value like fots_date_format, with names in place of the English names, such as
+ * "29 février 2024" by "%-d %B %Y". Error, after FOTS_INVALID_FORMAT: FOTS_INVALID_NAMES. No text is
+ * longer than FOTS_MAX_ITEMS * FOTS_MAX_NAME_LENGTH. The bytes must not overlap the names. */
+fots_length_result fots_date_format_names(fots_date date, const fots_format *format, const fots_language_names *names, char *bytes, size_t bytes_length);
+fots_length_result fots_time_format_names(fots_time time, const fots_format *format, const fots_language_names *names, char *bytes, size_t bytes_length);
+fots_length_result fots_pair_format_names(fots_date date, fots_time time, const fots_format *format, const fots_language_names *names, char *bytes,
+    size_t bytes_length);
+fots_length_result fots_moment_format_names(fots_moment moment, const fots_format *format, const fots_language_names *names, char *bytes,
+    size_t bytes_length);
+
+/* Parse the text of a value like fots_date_parse_format, with names in place of the English names.
+ * Bytes are compared as they are, and the longest name wins. Errors: FOTS_INVALID_FORMAT;
+ * FOTS_INVALID_NAMES; FOTS_INSUFFICIENT_FORMAT; FOTS_AMBIGUOUS_NAMES and FOTS_AMBIGUOUS_NUMBER, as
+ * for fots_names_check, with the index of the item as position; then those of the text. */
+fots_parse_date_result fots_date_parse_names(const char *text, size_t text_length, const fots_format *format, const fots_language_names *names);
+fots_parse_time_result fots_time_parse_names(const char *text, size_t text_length, const fots_format *format, const fots_language_names *names);
+fots_parse_moment_result fots_pair_parse_names(const char *text, size_t text_length, const fots_format *format, const fots_language_names *names);
+fots_parse_moment_result fots_moment_parse_names(const char *text, size_t text_length, const fots_format *format, const fots_language_names *names);
 
 /* No pivot, for a function that takes one. */
 #define FOTS_NO_PIVOT (-1)

@@ -209,9 +209,9 @@ inline std::string text(fots_text_result result)
 }
 
 // Returns the string that a function writes to a buffer.
-template <class Call> std::string written(Call call)
+template <std::size_t max_item_length = FOTS_MAX_ITEM_LENGTH, class Call> std::string written(Call call)
 {
-    char bytes[FOTS_MAX_ITEMS * FOTS_MAX_ITEM_LENGTH];
+    char bytes[FOTS_MAX_ITEMS * max_item_length];
     return std::string(bytes, value_or_throw(call(bytes, sizeof bytes)).length);
 }
 
@@ -290,6 +290,34 @@ enum class Weekday : std::uint32_t { Monday = 1, Tuesday, Wednesday, Thursday, F
 inline std::ostream &operator<<(std::ostream &out, Month month) { return out << to_string(month); }
 inline std::ostream &operator<<(std::ostream &out, Weekday weekday) { return out << to_string(weekday); }
 
+// The names of a language: months from January on, weekdays from Monday on, and AM before PM.
+struct Names {
+    std::array<std::string, 12> months; // beside a day: "stycznia" in Polish
+    std::array<std::string, 12> months_alone; // without a day: "styczeń"
+    std::array<std::string, 12> short_months;
+    std::array<std::string, 7> weekdays;
+    std::array<std::string, 7> short_weekdays;
+    std::array<std::string, 2> periods;
+    std::array<std::string, 2> lower_periods;
+
+    // Returns the names of a language by its code of ISO 639-1, such as "fr", from a locale of glibc. Throws
+    // FOTS_UNKNOWN_LANGUAGE for another code.
+    [[nodiscard]] static Names of_language(std::string_view code);
+    // Returns copies of names of C, such as those of a locale from fotsevindre_locale.h.
+    [[nodiscard]] static Names from(const fots_language_names &values);
+
+    // Returns the names with the months without a day in place of those beside a day, for a format such as
+    // "%B %Y".
+    [[nodiscard]] Names alone() const
+    {
+        Names names = *this;
+        names.months = months_alone;
+        return names;
+    }
+};
+
+class NamedFormat;
+
 // A format of texts, such as "%d/%m/%Y".
 class Format {
 public:
@@ -299,6 +327,11 @@ public:
     {
         return Format(fots_format_from_description(detail::data(text), text.size()), text);
     }
+
+    // Returns the format with names in place of the English names. Throws FOTS_INVALID_NAMES, or
+    // FOTS_AMBIGUOUS_NAMES or FOTS_AMBIGUOUS_NUMBER if two values could have the same text: position() is then
+    // the index of the item.
+    [[nodiscard]] NamedFormat with_names(const Names &names) const;
 
     [[nodiscard]] const fots_format *c() const noexcept { return &value_; }
 
@@ -322,6 +355,104 @@ private:
     Format format_;
     std::int32_t pivot_;
 };
+
+namespace detail {
+
+// Calls a function with the address of each array of C and with the array of names in its place.
+template <class Values, class Own, class Each> void each_name(Values &values, Own &own, Each each)
+{
+    const auto all = [&](auto &some, auto &others) {
+        for (std::size_t index = 0; index < others.size(); index++) {
+            each(some[index], others[index]);
+        }
+    };
+    all(values.months, own.months);
+    all(values.months_alone, own.months_alone);
+    all(values.short_months, own.short_months);
+    all(values.weekdays, own.weekdays);
+    all(values.short_weekdays, own.short_weekdays);
+    all(values.periods, own.periods);
+    all(values.lower_periods, own.lower_periods);
+}
+
+// Returns the names for C, which point to the strings.
+inline fots_language_names names_for_c(const Names &names)
+{
+    fots_language_names values;
+    each_name(values, names, [](fots_name &value, const std::string &name) { value = {name.data(), name.size()}; });
+    return values;
+}
+
+// Returns a name of the array that an item shows.
+inline const std::string &name_at(const Names &names, const fots_format_item &item, std::size_t index)
+{
+    switch (item.value) {
+    case 0: return names.months.at(index);
+    case 1: return names.short_months.at(index);
+    case 2: return names.weekdays.at(index);
+    case 3: return names.short_weekdays.at(index);
+    case 4: return names.periods.at(index);
+    default: return names.lower_periods.at(index);
+    }
+}
+
+// Throws an error if two values could have the same text in a format with names.
+inline void check_names(const fots_format &format, const Names &names)
+{
+    const fots_language_names values = names_for_c(names);
+    const fots_names_check_result found = fots_names_check(&format, &values);
+    const std::string item = "item " + std::to_string(found.item);
+    if (found.status == FOTS_AMBIGUOUS_NAMES) {
+        const std::string &name = name_at(names, format.items[found.item], found.name);
+        const std::string &other = name_at(names, format.items[found.item], found.other);
+        throw error(found.status, found.item,
+            name == other ? "two names of " + item + " are \"" + name + '"' : '"' + name + "\" of " + item + " can go on to \"" + other + '"');
+    }
+    if (found.status == FOTS_AMBIGUOUS_NUMBER) {
+        throw error(found.status, found.item, item + " can go on with '" + static_cast<char>(found.byte) + "'");
+    }
+    value_or_throw(found);
+}
+
+} // namespace detail
+
+inline Names Names::from(const fots_language_names &values)
+{
+    Names names;
+    detail::each_name(values, names, [](const fots_name &value, std::string &name) { name.assign(value.text, value.text_length); });
+    return names;
+}
+
+inline Names Names::of_language(std::string_view code)
+{
+    fots_language_names values;
+    const std::int32_t status = fots_names_of_language(detail::data(code), code.size(), &values);
+    if (status != FOTS_OK) {
+        throw error(status);
+    }
+    return from(values);
+}
+
+// A format with names in place of the English names, from Format::with_names. Bytes are compared as they
+// are, and the longest name wins.
+class NamedFormat {
+public:
+    [[nodiscard]] const fots_format *c() const noexcept { return format_.c(); }
+    [[nodiscard]] const Names &names() const noexcept { return names_; }
+
+private:
+    friend class Format;
+    NamedFormat(const Format &format, const Names &names) : format_(format), names_(names) {}
+
+    Format format_;
+    Names names_;
+};
+
+inline NamedFormat Format::with_names(const Names &names) const
+{
+    detail::check_names(value_, names);
+    return NamedFormat(*this, names);
+}
 
 // How to round to a multiple of a unit: down, up, toward zero, and to the nearest multiple, of two to the
 // greater or to the even one.
@@ -421,6 +552,11 @@ public:
     {
         return Time(detail::parsed_or_throw(fots_time_parse_format(detail::data(text), text.size(), format.c()), text, format).time, {});
     }
+    [[nodiscard]] static Time parse(std::string_view text, const NamedFormat &format)
+    {
+        const fots_language_names names = detail::names_for_c(format.names());
+        return Time(detail::parsed_or_throw(fots_time_parse_names(detail::data(text), text.size(), format.c(), &names), text, format).time, {});
+    }
     [[nodiscard]] static Time parse(std::string_view text, const LenientFormat &format)
     {
         return Time(detail::parsed_or_throw(fots_time_parse_leniently(detail::data(text), text.size(), format.c(), format.pivot()), text, format).time, {});
@@ -444,6 +580,12 @@ public:
     [[nodiscard]] std::string format(const Format &format) const
     {
         return detail::written([&](char *bytes, std::size_t length) { return fots_time_format(value_, format.c(), bytes, length); });
+    }
+    // Returns the text by a format with names, such as "午後 07:30" by "%p %I:%M".
+    [[nodiscard]] std::string format(const NamedFormat &format) const
+    {
+        const fots_language_names names = detail::names_for_c(format.names());
+        return detail::written<FOTS_MAX_NAME_LENGTH>([&](char *bytes, std::size_t length) { return fots_time_format_names(value_, format.c(), &names, bytes, length); });
     }
 
     // Rounds to a multiple of a unit since midnight, which divides 24 hours; 24:00 is 0:00.
@@ -625,6 +767,11 @@ public:
     {
         return Date(detail::parsed_or_throw(fots_date_parse_format(detail::data(text), text.size(), format.c()), text, format).date, {});
     }
+    [[nodiscard]] static Date parse(std::string_view text, const NamedFormat &format)
+    {
+        const fots_language_names names = detail::names_for_c(format.names());
+        return Date(detail::parsed_or_throw(fots_date_parse_names(detail::data(text), text.size(), format.c(), &names), text, format).date, {});
+    }
     [[nodiscard]] static Date parse(std::string_view text, const LenientFormat &format)
     {
         return Date(detail::parsed_or_throw(fots_date_parse_leniently(detail::data(text), text.size(), format.c(), format.pivot()), text, format).date, {});
@@ -752,6 +899,12 @@ public:
     [[nodiscard]] std::string format(const Format &format) const
     {
         return detail::written([&](char *bytes, std::size_t length) { return fots_date_format(value_, format.c(), bytes, length); });
+    }
+    // Returns the text by a format with names, such as "29 février 2024" by "%-d %B %Y".
+    [[nodiscard]] std::string format(const NamedFormat &format) const
+    {
+        const fots_language_names names = detail::names_for_c(format.names());
+        return detail::written<FOTS_MAX_NAME_LENGTH>([&](char *bytes, std::size_t length) { return fots_date_format_names(value_, format.c(), &names, bytes, length); });
     }
 
 #if __cplusplus >= 202002L
@@ -1443,6 +1596,11 @@ public:
     {
         return from(fots_pair_parse_format(detail::data(text), text.size(), format.c()), text, format);
     }
+    [[nodiscard]] static PlainDateTime parse(std::string_view text, const NamedFormat &format)
+    {
+        const fots_language_names names = detail::names_for_c(format.names());
+        return from(fots_pair_parse_names(detail::data(text), text.size(), format.c(), &names), text, format);
+    }
     [[nodiscard]] static PlainDateTime parse(std::string_view text, const LenientFormat &format)
     {
         return from(fots_pair_parse_leniently(detail::data(text), text.size(), format.c(), format.pivot()), text, format);
@@ -1510,6 +1668,12 @@ public:
     {
         return detail::written([&](char *bytes, std::size_t length) { return fots_pair_format(value_.date, value_.time, format.c(), bytes, length); });
     }
+    // Returns the text by a format with names, such as "29 février 2024, 19:30" by "%-d %B %Y, %R".
+    [[nodiscard]] std::string format(const NamedFormat &format) const
+    {
+        const fots_language_names names = detail::names_for_c(format.names());
+        return detail::written<FOTS_MAX_NAME_LENGTH>([&](char *bytes, std::size_t length) { return fots_pair_format_names(value_.date, value_.time, format.c(), &names, bytes, length); });
+    }
 
     // Return this date and time at an offset.
     [[nodiscard]] OffsetDateTime assume_offset(UtcOffset offset) const;
@@ -1571,6 +1735,12 @@ public:
     {
         return OffsetDateTime(detail::moment_or_throw(fots_moment_parse_format(detail::data(text), text.size(), format.c()), text, format), {});
     }
+    [[nodiscard]] static OffsetDateTime parse(std::string_view text, const NamedFormat &format)
+    {
+        const fots_language_names names = detail::names_for_c(format.names());
+        const fots_parse_moment_result found = fots_moment_parse_names(detail::data(text), text.size(), format.c(), &names);
+        return OffsetDateTime(detail::moment_or_throw(found, text, format), {});
+    }
     [[nodiscard]] static OffsetDateTime parse(std::string_view text, const LenientFormat &format)
     {
         const fots_parse_moment_result found = fots_moment_parse_leniently(detail::data(text), text.size(), format.c(), format.pivot());
@@ -1626,6 +1796,12 @@ public:
     [[nodiscard]] std::string format(const Format &format) const
     {
         return detail::written([&](char *bytes, std::size_t length) { return fots_moment_format(value_, format.c(), bytes, length); });
+    }
+    // Returns the text by a format with names, such as "29 février 2024, 19:30 +0100" by "%-d %B %Y, %R %z".
+    [[nodiscard]] std::string format(const NamedFormat &format) const
+    {
+        const fots_language_names names = detail::names_for_c(format.names());
+        return detail::written<FOTS_MAX_NAME_LENGTH>([&](char *bytes, std::size_t length) { return fots_moment_format_names(value_, format.c(), &names, bytes, length); });
     }
 
     [[nodiscard]] fots_moment c() const noexcept { return value_; }

@@ -2,8 +2,9 @@
 
 use crate::cal_format::{Item, Moment};
 use crate::cal_named_format as named;
+use crate::cal_names::names_of;
 use crate::format::{DateFormat, DateTimeFormat, Format, OffsetDateTimeFormat, ParseError, TimeFormat};
-use crate::names::{Names, languages};
+use crate::names::Names;
 use crate::{Date, OffsetDateTime, PlainDateTime, Time};
 use core::fmt;
 
@@ -144,20 +145,6 @@ impl Names<'static> {
     /// assert_eq!(table::find(&names.months, "février 2024".as_bytes()), Some(1));
     /// ```
     pub fn of_language(code: &str) -> Option<Self> {
-        Some(match code {
-            "ar" => languages::ARABIC,
-            "de" => languages::GERMAN,
-            "en" => languages::ENGLISH,
-            "es" => languages::SPANISH,
-            "fr" => languages::FRENCH,
-            "it" => languages::ITALIAN,
-            "ja" => languages::JAPANESE,
-            "pl" => languages::POLISH,
-            "pt" => languages::PORTUGUESE,
-            "ru" => languages::RUSSIAN,
-            "tr" => languages::TURKISH,
-            "zh" => languages::CHINESE,
-            _ => return None,
-        })
+        names_of(code.as_bytes())
     }
 }

@@ -29,8 +29,9 @@
 //!   only, such as the functions that append to a `ShortText`. The build fails for a
 //!   function with a condition that isn't in the table of decisions.
 //! - Traits with laws are sealed.
-//! - The modules written by hand have no unsafe code. They check a condition before they call a
-//!   function that has one.
+//! - The modules written by hand have no unsafe code, but for the one that asks the C library for the
+//!   names of a locale, with the feature `std`. They check a condition before they call a function that
+//!   has one.
 #![no_std]
 #![deny(unsafe_code)]
 #![warn(missing_docs)]
@@ -59,6 +60,8 @@ mod languages;
 mod months;
 #[cfg(feature = "std")]
 mod std_clock;
+#[cfg(all(feature = "std", target_os = "linux"))]
+mod std_names;
 #[cfg(feature = "std")]
 mod std_zones;
 mod values;
@@ -221,6 +224,8 @@ pub mod iter {
 pub mod names {
     pub use crate::cal_names::{Names, languages, table};
     pub use crate::languages::{NamedFormat, NamesError};
+    #[cfg(all(feature = "std", target_os = "linux"))]
+    pub use crate::std_names::{LocaleNames, NoLocaleError};
 }
 
 /// Recurrences of RFC 5545: rules of days and of times of day, sets, and their strings.

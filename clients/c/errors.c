@@ -113,6 +113,10 @@ static const char *const sentences[] = {
     "other zone; expected the zone of the lines before it",
     "wrong kind of value; expected the kind that the call reads",
     "invalid rule of a holiday; expected a day, years or a move",
+    "invalid names; expected UTF-8 of at most 127 bytes each",
+    "unknown language; expected ar, de, en, es, fr, it, ja, pl, pt, ru, tr or zh",
+    "ambiguous names; expected names that end before what comes after them",
+    "ambiguous number; expected another byte after it",
 };
 
 static void statuses(void)

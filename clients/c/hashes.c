@@ -208,6 +208,27 @@ static size_t any_property(void) { return text_of(properties, COUNT(properties))
 static size_t any_rules_text(void) { return text_of(rules, COUNT(rules)); }
 static size_t any_zone_text(void) { return text_of(zones, COUNT(zones)); }
 
+static const char *const codes[] = {"ar", "de", "en", "es", "fr", "it", "ja", "pl", "pt", "ru", "tr", "zh", "xx", "fra"};
+
+static size_t any_language(void) { return text_of(codes, COUNT(codes)); }
+
+/* Names of one language, some with a name of another one or with bytes that aren't UTF-8. */
+static fots_language_names any_fots_language_names(void)
+{
+    static fots_language_names names, others;
+    const char *const code = codes[draw() % 12], *const other = codes[draw() % 12];
+    fots_names_of_language(code, 2, &names);
+    fots_names_of_language(other, 2, &others);
+    if (one_of(4)) {
+        names.months[draw() % 12] = others.short_months[draw() % 12];
+        names.weekdays[draw() % 7] = others.weekdays[draw() % 7];
+    }
+    if (one_of(16)) {
+        names.short_weekdays[draw() % 7] = (fots_name){"\xe6\x9c", 2};
+    }
+    return names;
+}
+
 static fots_format any_fots_format(void)
 {
     const size_t length = one_of(3) ? any_description() : any_format_text();

@@ -10,6 +10,7 @@
 #include <vector>
 
 #include "fotsevindre.hpp"
+#include "fotsevindre_locale.h"
 
 using namespace fotsevindre;
 
@@ -620,6 +621,39 @@ void named_zones()
     }
 }
 
+// The texts are from GNU date by the locales of glibc 2.36, as in clients/c/names.c.
+void names_of_languages()
+{
+    const Date day = Date::from_calendar_date(2024, Month::February, 29);
+    const OffsetDateTime evening = PlainDateTime(day, Time::from_hms(19, 30, 0)).assume_offset(UtcOffset::from_hms(1, 0, 0));
+    const Names french = Names::of_language("fr"), polish = Names::of_language("pl");
+    const NamedFormat date = Format("%A, %-d %B %Y").with_names(french), all = Format("%a %e %b %Y %R %z").with_names(french);
+    check(day.format(date) == "jeudi, 29 février 2024" && Date::parse("jeudi, 29 février 2024", date) == day, "a date in French");
+    check(evening.format(all) == "jeu. 29 févr. 2024 19:30 +0100" && OffsetDateTime::parse("jeu. 29 févr. 2024 19:30 +0100", all) == evening, "a date-time at an offset");
+    const NamedFormat local = Format("%-d %B %Y, %R").with_names(french);
+    check(evening.local().format(local) == "29 février 2024, 19:30" && PlainDateTime::parse("29 février 2024, 19:30", local) == evening.local(), "a local date-time");
+    const NamedFormat half = Format("%p%-I:%M").with_names(Names::of_language("ja"));
+    check(evening.time().format(half) == "午後7:30" && Time::parse("午後7:30", half) == evening.time(), "a time in Japanese");
+    check(day.format(Format("%-d %B").with_names(polish)) == "29 lutego" && day.format(Format("%B %Y").with_names(polish.alone())) == "luty 2024", "two forms");
+    const locale_t locale = newlocale(LC_TIME_MASK, "C", nullptr);
+    fots_language_names values;
+    fots_names_of_locale(locale, &values);
+    check(day.format(Format("%A %B").with_names(Names::from(values))) == "Thursday February", "the names of a locale");
+    freelocale(locale);
+    Names own = french;
+    own.months[1] = std::string(FOTS_MAX_NAME_LENGTH, 'a');
+    check(day.format(Format("%B%B").with_names(own)).size() == 2 * FOTS_MAX_NAME_LENGTH && date.names().months[1] == "février", "own names");
+    throws([&] { return Date::parse("jeudi, 29 fevrier 2024", date); }, FOTS_UNEXPECTED_BYTE, "unexpected \"e\" at position 11", "no accent");
+    throws([&] { return Date::parse("mardi, 29 février 2024", date); }, FOTS_CONTRADICTION, "weekday contradicts the other components", "another weekday");
+    throws([&] { return Date::parse("02", Format("%m").with_names(french)); }, FOTS_INSUFFICIENT_FORMAT, "the texts of a format don't determine such a value", "a month only");
+    throws([] { return Names::of_language("xx"); }, FOTS_UNKNOWN_LANGUAGE, "unknown language; expected ar, de, en, es, fr, it, ja, pl, pt, ru, tr or zh", "no language");
+    throws([] { return Format("%Atesi %F").with_names(Names::of_language("tr")); }, FOTS_AMBIGUOUS_NAMES, "\"Pazar\" of item 0 can go on to \"Pazartesi\"", "names that go on");
+    throws([&] { return Format("%I:%M %p").with_names(french); }, FOTS_AMBIGUOUS_NAMES, "two names of item 4 are \"\"", "empty names");
+    throws([] { return Format("%-d%B %Y").with_names(Names::of_language("ja")); }, FOTS_AMBIGUOUS_NUMBER, "item 0 can go on with '1'", "a number that goes on");
+    own.periods[0] = "\xff";
+    throws([&] { return Format("%F").with_names(own); }, FOTS_INVALID_NAMES, "invalid names; expected UTF-8 of at most 127 bytes each", "no UTF-8");
+}
+
 void formats()
 {
     const Date day = Date::parse("2024-02-29");
@@ -790,6 +824,7 @@ int main()
     times_of_day();
     events_of_files();
     formats();
+    names_of_languages();
 #if __cplusplus >= 202002L
     days_of_chrono();
 #endif

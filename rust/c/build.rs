@@ -10,7 +10,7 @@ use std::path::{Path, PathBuf};
 use std::process::ExitCode;
 
 /// The libraries, as modules of the crate.
-const CRATES: [&str; 23] = [
+const CRATES: [&str; 25] = [
     "cal_units",
     "cal_errors",
     "cal_span",
@@ -24,6 +24,8 @@ const CRATES: [&str; 23] = [
     "cal_duration",
     "cal_holidays",
     "cal_format",
+    "cal_names",
+    "cal_named_format",
     "cal_zone",
     "cal_tzif",
     "cal_zoned",

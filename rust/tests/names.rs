@@ -6,7 +6,7 @@ use fotsevindre::{Date, Month, PlainDateTime, Time, UtcOffset, Weekday};
 
 const CODES: [&str; 12] = ["ar", "de", "en", "es", "fr", "it", "ja", "pl", "pt", "ru", "tr", "zh"];
 
-fn tables<'n>(names: &'n Names<'static>) -> [&'n [&'static str]; 7] {
+fn tables<'n>(names: &'n Names<'n>) -> [&'n [&'n str]; 7] {
     [
         &names.months,
         &names.months_alone,
@@ -193,4 +193,35 @@ fn a_refused_format_has_a_reason() {
     let french = french.with_names(&Names::of_language("fr").unwrap()).unwrap_err();
     assert_eq!(french, NamesError::AmbiguousNames { item: 4, name: "", other: "" });
     assert_eq!(french.to_string(), "two names of item 4 are \"\"");
+}
+
+#[cfg(all(feature = "std", target_os = "linux"))]
+#[test]
+fn a_locale_has_names() {
+    use fotsevindre::names::LocaleNames;
+
+    let english = LocaleNames::new("C").unwrap();
+    let names = english.names();
+    assert_eq!(tables(&names)[..6], tables(&Names::of_language("en").unwrap())[..6]);
+    assert_eq!(names.lower_periods, ["am", "pm"]);
+    for wrong in ["xx_XX.UTF-8", "", "C\0"] {
+        // The empty name is that of the environment.
+        assert!(wrong.is_empty() || LocaleNames::new(wrong).is_err(), "{wrong}");
+    }
+    // Not every system has these locales.
+    for code in CODES {
+        let country = match code {
+            "ar" => "EG",
+            "en" => "US",
+            "ja" => "JP",
+            "zh" => "CN",
+            _ => &code.to_uppercase(),
+        };
+        if let Ok(found) = LocaleNames::new(&format!("{code}_{country}.UTF-8")) {
+            let language = Names::of_language(code).unwrap();
+            assert_eq!(found.names().months, language.months, "{code}");
+            assert_eq!(found.names().months_alone, language.months_alone, "{code}");
+            assert_eq!(found.names().weekdays, language.weekdays, "{code}");
+        }
+    }
 }

@@ -68,6 +68,7 @@ typedef struct State {
     PyObject *timezone;
     PyObject *has_layouts; /* True if datetime has the layouts of standard.c */
     PyObject *weekday, *calendar_unit, *rounding_mode, *convention, *day_count, *year_fraction;
+    PyObject *named_format; /* the type NamedFormat */
     PyObject *status_error, *format_error, *insufficient_format, *component_range, *parse_error;
     PyObject *components; /* by status: the arguments of component_range, or None */
     PyObject *months[12], *weekdays[7];

@@ -16,7 +16,7 @@ from .choices import CalendarUnit, Convention, DayCount, RoundingMode
 from .conversions import instant_of, parts_of, pydantic_schema, value_of
 from .enums import Month, Weekday, YearFraction
 from .errors import check
-from .formats import Format
+from .formats import Format, NamedFormat
 from .schedules import Days
 from .zones import Zone
 
@@ -79,11 +79,11 @@ class _Moved:
         "Returns the value minus a duration, or the nearest end of the range."
 
 class _Formatted:
-    def strftime(self, format: str | Format) -> str:
+    def strftime(self, format: str | Format | NamedFormat) -> str:
         """Returns the string by a format, or raises ValueError if that shows more than the value
         has, such as `%Z`, which `Zone.strftime` prints."""
     @classmethod
-    def strptime(cls, text: str, format: str | Format) -> Self:
+    def strptime(cls, text: str, format: str | Format | NamedFormat) -> Self:
         """Parses the string of a value by a format, and no other string, or raises ParseError,
         ComponentRange or ContradictionError; ValueError if the strings of the format don't
         determine such a value."""

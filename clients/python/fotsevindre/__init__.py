@@ -21,22 +21,24 @@ import datetime as _datetime
 
 from . import _core, choices as _choices, errors as _errors
 from .enums import Month, Weekday, YearFraction
-from .errors import ComponentRange, ContradictionError, EventError, FormatError, ParseError, ParseRuleError
+from .errors import ComponentRange, ContradictionError, EventError, FormatError, NamesError, ParseError, ParseRuleError
 from .errors import ParseRuleErrorKind, ZoneError, status_error
+from .formats import NamedFormat as _NamedFormat
 
 _core.setup(_datetime.date, _datetime.time, _datetime.datetime, _datetime.timedelta,
     _datetime.tzinfo, _datetime.timezone,
     _core.has_layouts(_datetime.date(2024, 2, 29), _datetime.time(1, 2, 3, 4),
         _datetime.datetime(2024, 2, 29, 1, 2, 3, 4), _datetime.timedelta(-1, 2, 3)), Weekday, _choices.CalendarUnit,
     _choices.RoundingMode, _choices.Convention, _choices.DayCount, YearFraction,
-    status_error, _errors.format_error, _errors.insufficient_format, ComponentRange, ParseError, _errors.COMPONENTS, *Month, *Weekday)
+    _NamedFormat, status_error, _errors.format_error, _errors.insufficient_format, ComponentRange, ParseError, _errors.COMPONENTS, *Month, *Weekday)
 
 from . import calls as _calls, members as _members
 from ._core import IsoCalendarDate
 from .arrow import ArrowColumn
 from .calls import *
 from .events import Event, Recurrences, fold
-from .formats import Format
+from .formats import Format, NamedFormat
+from .names import Names
 from .schedules import DateRange, Days, Recurrence, RecurrenceCursor, Rule, Steps, Workdays
 from .strings import dates_to_strings, instants_to_strings, strings_to_dates, strings_to_instants
 from .zones import Local, Zone, ZonedDateTime
@@ -45,7 +47,7 @@ __version__ = "0.2.0"
 
 __all__ = [
     "ArrowColumn", "ComponentRange", "ContradictionError", "DateRange", "Days", "Event", "EventError", "Format", "FormatError",
-    "IsoCalendarDate", "Local", "Month", "ParseError", "ParseRuleError", "ParseRuleErrorKind", "Recurrence", "RecurrenceCursor", "Recurrences", "Rule", "Steps", "Weekday",
+    "IsoCalendarDate", "Local", "Month", "NamedFormat", "Names", "NamesError", "ParseError", "ParseRuleError", "ParseRuleErrorKind", "Recurrence", "RecurrenceCursor", "Recurrences", "Rule", "Steps", "Weekday",
     "Workdays", "YearFraction", "Zone", "ZonedDateTime", "ZoneError", "dates_to_strings", "fold",
     "instants_to_strings", "status_error", "strings_to_dates", "strings_to_instants",
 ]

@@ -140,6 +140,40 @@ class FormatError(ValueError):
         return f"unknown item {self._item + ' ' if self._item else ''}in a format at {self.position}"
 
 
+class NamesError(ValueError):
+    """Two values could have the same string in a format with names. `item` is the index of an item in
+    the format, from 0: each byte, number, name and sign is an item.
+
+    `name` can be read as `other`, since they are the same, or since it goes on to `other` with what
+    comes after the item. For a number, a fraction or a sign, `name` is `None`, and `other` is the first
+    character with which it can go on.
+    """
+
+    __match_args__ = ("item", "name", "other")
+
+    @property
+    def item(self) -> int:
+        """The index of the item in the format, from 0."""
+        return self.args[0]  # type: ignore[no-any-return]
+
+    @property
+    def name(self) -> str | None:
+        """The name that can go on, or `None`."""
+        return self.args[1]  # type: ignore[no-any-return]
+
+    @property
+    def other(self) -> str:
+        """The other name, or a character."""
+        return self.args[2]  # type: ignore[no-any-return]
+
+    def __str__(self) -> str:
+        if self.name is None:
+            return f'item {self.item} can go on with "{self.other}"'
+        if self.name == self.other:
+            return f'two names of item {self.item} are "{self.name}"'
+        return f'"{self.name}" of item {self.item} can go on to "{self.other}"'
+
+
 class ParseRuleErrorKind(enum.Enum):
     """Why a part of the string of a recurrence is wrong."""
 
@@ -288,6 +322,20 @@ def format_error(status: int, position: int, format: str, is_description: bool) 
     if status == 38 and isinstance(error, FormatError) and not is_description:
         error._item = explanations.item_at(format[position:])
     return error
+
+
+# The tables of names, by the number of a name in a format.
+_TABLES = ("months", "short_months", "weekdays", "short_weekdays", "periods", "lower_periods")
+
+
+def names_error(found: tuple[int, int, int, int, int], items: bytes, names: Any) -> Exception | None:
+    """Returns the error of a format with names, or `None`."""
+    status, byte, item, name, other = found
+    if status == 93:
+        # The items come after their count. Each is a kind and a number.
+        table = getattr(names, _TABLES[items[4 + 2 * item + 1]])
+        return NamesError(item, table[name], table[other])
+    return NamesError(item, None, chr(byte)) if status == 94 else status_error(status)
 
 
 def insufficient_format(format: Any) -> ValueError:

@@ -29,7 +29,8 @@ def arguments(call: int, given: tuple[Any, ...]) -> tuple[str, dict[str, Any]]:
 
 def _of_string(status: int, text: str, format: Any = None) -> str:
     """Returns the sentence of a status for a string, and a format if there is one."""
-    if format is None:
+    # The library reads the components of strings with English names only.
+    if format is None or hasattr(format, "names"):
         return _core.parse_error_text(status, text)
     pivot = getattr(format, "_pivot", None)
     return _core.format_error_text(status, text, format, -1 if pivot is None else pivot)
@@ -91,7 +92,9 @@ def _expected(parse: Callable[..., Any], front: str, *format: Any) -> str | None
 
     has_names = bool(format) and _NAMES.search(str(getattr(format[0], "_text", format[0])))
     words = _digits([digit for digit in string.digits if fits(front + digit)])
-    words += [f'"{one}"' for one in (_NEXT_IN_NAMES if has_names else _NEXT) if fits(front + one)]
+    names = getattr(format[0], "names", None) if format else None
+    others = sorted({*"".join(map("".join, vars(names).values()))} - {*string.digits, *_NEXT[:8]}) if names else _NEXT_IN_NAMES[8:]
+    words += [f'"{one}"' for one in ([*_NEXT[:8], *others] if has_names else _NEXT) if fits(front + one)]
     # A lenient format takes letters in any case.
     words = [word for word in words if word[0] != '"' or word == word.upper() or word.upper() not in words]
     words += ["the end"] * is_whole()

@@ -6,7 +6,8 @@ import dataclasses
 import operator
 from typing import Any, SupportsIndex
 
-from . import _core
+from . import _core, errors
+from .names import Names
 
 
 @dataclasses.dataclass(frozen=True, init=False, repr=False)
@@ -48,6 +49,15 @@ class Format:
         vars(made).update(vars(self), _pivot=number)
         return made
 
+    def with_names(self, names: Names) -> NamedFormat:
+        """Returns the format with names in place of the English names. Raises `NamesError` if two values
+        could have the same string, and `ValueError` for a lenient format.
+
+        >>> str(Date.strptime("29 f\xe9vrier 2024", Format("%-d %B %Y").with_names(Names.of("fr"))))
+        '2024-02-29'
+        """
+        return NamedFormat(self, names)
+
     @classmethod
     def from_description(cls, text: str) -> Format:
         """Creates a format in the syntax of the Rust crate `time`, such as
@@ -62,6 +72,32 @@ class Format:
 
     def __reduce__(self) -> tuple[Any, ...]:
         return _made, (self._text, self._is_description, self._pivot)
+
+
+@dataclasses.dataclass(frozen=True)
+class NamedFormat:
+    """A format with names in place of the English names, from `Format.with_names`. `strptime` compares
+    names as they are, and the longest one wins."""
+
+    format: Format
+    names: Names
+    _named: bytes = dataclasses.field(init=False, repr=False, compare=False)
+
+    def __post_init__(self) -> None:
+        if self.format._pivot is not None:
+            raise ValueError("a lenient format has no names of other languages")
+        named = self.format._items + self.names._bytes()
+        vars(self).update(_named=named)
+        error = errors.names_error(_core.names_check(named), self.format._items, self.names)
+        if error:
+            raise error
+
+    @property
+    def _text(self) -> str:
+        return self.format._text
+
+    def __repr__(self) -> str:
+        return f"{self.format!r}.with_names({self.names!r})"
 
 
 def _made(text: str, is_description: bool, pivot: int | None) -> Format:

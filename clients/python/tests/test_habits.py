@@ -21,7 +21,7 @@ from fotsevindre import (
 
 LEAP_DAY = Date(2024, 2, 29)
 # What setup takes between the enums and their members.
-ERRORS = (fotsevindre.YearFraction, fotsevindre.status_error, errors.format_error, errors.insufficient_format, ComponentRange, fotsevindre.ParseError, errors.COMPONENTS)
+ERRORS = (fotsevindre.YearFraction, fotsevindre.NamedFormat, fotsevindre.status_error, errors.format_error, errors.insufficient_format, ComponentRange, fotsevindre.ParseError, errors.COMPONENTS)
 
 
 class SilentlyWrong(unittest.TestCase):

@@ -46,3 +46,6 @@ pub mod Calendars
 pub mod EventSets
 pub mod CalendarLines
 pub mod OneEvent
+pub mod WrittenNames
+pub mod NamedPrinting
+pub mod NamedParsing

@@ -35,3 +35,4 @@ pub mod TextSets
 pub mod Calendars
 pub mod Events
 pub mod Errors
+pub mod NamedFormats

@@ -6,6 +6,7 @@ pub(crate) mod iso_dates;
 mod items;
 pub mod lenient;
 mod making;
+pub mod named;
 mod names;
 pub mod one_pass;
 pub mod parse_results;

@@ -257,6 +257,18 @@ pub const WRONG_KIND: i32 = 89;
 /// A word of a rule of a holiday is invalid.
 pub const INVALID_HOLIDAY_RULE: i32 = 90;
 
+/// A name isn't UTF-8 of at most 127 bytes.
+pub const INVALID_NAMES: i32 = 91;
+
+/// No language has the code.
+pub const UNKNOWN_LANGUAGE: i32 = 92;
+
+/// A name of the format can be read as another name.
+pub const AMBIGUOUS_NAMES: i32 = 93;
+
+/// A number, a fraction or a sign of the format goes on with what comes after it.
+pub const AMBIGUOUS_NUMBER: i32 = 94;
+
 /// Returns the status of an error, by its component.
 pub fn error_status(error: ComponentRange) -> i32
     ensures { result ≡ component_status error.component }

@@ -9,7 +9,7 @@ past [] n d le = refl
 past (x ∷ xs) zero d le = absurd (omega (arith, le))
 past (x ∷ xs) (suc n) d le = past xs n d (omega (arith, le))
 
-count : length sentences ≡ 91
+count : length sentences ≡ 95
 unfolding sentences
 count = refl
 
@@ -18,7 +18,7 @@ unfolding sentence
 negative (pos n) lt = absurd (omega (arith, ints, lt))
 negative (negsuc n) lt = refl
 
-pub too_high : (s : ℤ) → pos 91 ≤ℤ s → sentence s ≡ codes "unknown error"
+pub too_high : (s : ℤ) → pos 95 ≤ℤ s → sentence s ≡ codes "unknown error"
 unfolding sentence
 too_high (pos n) le = past sentences n (codes "unknown error") (omega (arith, ints, le, count))
 too_high (negsuc n) le = absurd (omega (arith, ints, le))

@@ -96,6 +96,10 @@ sentences =
     ∷ codes "other zone; expected the zone of the lines before it"
     ∷ codes "wrong kind of value; expected the kind that the call reads"
     ∷ codes "invalid rule of a holiday; expected a day, years or a move"
+    ∷ codes "invalid names; expected UTF-8 of at most 127 bytes each"
+    ∷ codes "unknown language; expected ar, de, en, es, fr, it, ja, pl, pt, ru, tr or zh"
+    ∷ codes "ambiguous names; expected names that end before what comes after them"
+    ∷ codes "ambiguous number; expected another byte after it"
     ∷ []
 
 -- The sentence of a number, which may be another one.

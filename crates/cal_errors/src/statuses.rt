@@ -62,7 +62,7 @@ fn sentence_str(status: i32) -> &'static str
         zone_sentence(status)
     } else if status < 81 {
         part_sentence(status)
-    } else if status < 91 {
+    } else if status < 95 {
         line_sentence(status)
     } else {
         "unknown error"
@@ -212,11 +212,11 @@ fn part_sentence(status: i32) -> &'static str
     }
 }
 
-/// Returns the sentence of the status of an interval, a calendar file or a rule of a holiday.
+/// Returns the sentence of the status of an interval, a calendar file, a rule of a holiday or names.
 #[tactic(auto, unfolding(crate::specs::Statuses::sentence, crate::specs::Statuses::sentences))]
 fn line_sentence(status: i32) -> &'static str
     requires from { pos 81 ≤ℤ status }
-    requires to { status ≤ℤ pos 90 }
+    requires to { status ≤ℤ pos 94 }
     ensures value { result.now ≡ sentence status }
     ensures max_length { length result.now ≤ 100 }
 {
@@ -230,6 +230,10 @@ fn line_sentence(status: i32) -> &'static str
         87 => "other end of an event; expected END:VEVENT",
         88 => "other zone; expected the zone of the lines before it",
         89 => "wrong kind of value; expected the kind that the call reads",
-        _ => "invalid rule of a holiday; expected a day, years or a move",
+        90 => "invalid rule of a holiday; expected a day, years or a move",
+        91 => "invalid names; expected UTF-8 of at most 127 bytes each",
+        92 => "unknown language; expected ar, de, en, es, fr, it, ja, pl, pt, ru, tr or zh",
+        93 => "ambiguous names; expected names that end before what comes after them",
+        _ => "ambiguous number; expected another byte after it",
     }
 }

@@ -1,3 +1,4 @@
 pub mod Names
 pub mod Apart
 pub mod NameShape
+pub mod Languages

@@ -4,8 +4,10 @@
 //! name that begins a string, and tests if each name that was printed is found again.
 #![tactic(auto)]
 
+mod language_names;
 pub mod languages;
 mod names;
 pub mod table;
 
+pub use language_names::names_of;
 pub use names::Names;

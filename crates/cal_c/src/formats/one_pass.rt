@@ -386,7 +386,7 @@ fn begin_apart(parts: &[FormatItem]) -> bool
 }
 
 /// Returns `true` if the items show only components with an index from `low` to below `high`.
-fn are_within(items: &[Item], low: usize, high: usize) -> bool
+pub(super) fn are_within(items: &[Item], low: usize, high: usize) -> bool
     ensures { result ≡ show_within low high items.now }
 {
     match items {

@@ -1,0 +1,9 @@
+use Rattle.std.proofs.Common.{◌≡◌, length, take}
+use Rattle.cal_names.specs.Apart.{texts}
+use Rattle.cal_c.proofs.formats.named.names_parts.write_bytes.Given as goal
+
+abbrev pub invariant-loop-index : goal.invariant-loop-index
+invariant-loop-index l = record {
+  room : length l.bytes ≡ length l.names;
+  same : take l.index (texts l.names) ≡ take l.index (texts l.bytes);
+}
