@@ -305,10 +305,10 @@ fn value_format_text(format: &ValueFormat) -> String {
 fn kind_read(format: &ValueFormat, text: &str) -> &'static str {
     let other = UtcOffset::from_hms(2, 0, 0).unwrap_or(UtcOffset::UTC);
     match format.read(other, text.as_bytes()) {
-        Some(DateOrMoment::Date(_, _)) => "date",
-        Some(DateOrMoment::Moment(_, moment)) if moment.offset() == other => "local",
-        Some(DateOrMoment::Moment(_, _)) => "moment",
-        None => "none",
+        Ok(DateOrMoment::Date(_, _)) => "date",
+        Ok(DateOrMoment::Moment(_, moment)) if moment.offset() == other => "local",
+        Ok(DateOrMoment::Moment(_, _)) => "moment",
+        Err(_) => "none",
     }
 }
 
@@ -321,8 +321,8 @@ fn first_year(format: &ValueFormat) -> i32 {
         let moment = PlainDateTime::new(date, start().time()).assume_offset(offset);
         let length = format.as_format().print_offset_date_time(moment, &mut buffer).unwrap_or(0);
         let read = format.read(offset, &buffer[..length]);
-        matches!(read, Some(DateOrMoment::Date(_, date)) if date.year() == *year)
-            || matches!(read, Some(DateOrMoment::Moment(_, moment)) if moment.date().year() == *year)
+        matches!(read, Ok(DateOrMoment::Date(_, date)) if date.year() == *year)
+            || matches!(read, Ok(DateOrMoment::Moment(_, moment)) if moment.date().year() == *year)
     });
     first.unwrap_or(-1)
 }

@@ -1,6 +1,6 @@
 -- A text that a form doesn't read, by what its parser says of it.
 use Rattle.std.proofs.Common.{◌≡◌, ◌⊎◌, ◌∙◌, ℕ, Bool, true, false, List, [], ◌∷◌, Option, Some, None, Result, Ok, Err, ap, inl, inr, refl, subst, sym}
-use Rattle.std.specs.Prelude.{◌↔◌, IfErr, IfSome, IsSomeAnd, ok_or, if◌then◌else◌}
+use Rattle.std.specs.Prelude.{◌↔◌, IfErr, IsSomeAnd, if◌then◌else◌}
 use Rattle.caldate_answers.specs.Spellings.{full_by}
 use Rattle.std.proofs.lemmas.Option.{none-some, same_Some}
 use Rattle.cal_time.specs.declared.error.ComponentRange.{ComponentRange}
@@ -92,9 +92,3 @@ unspelled_only s text full (UnexpectedByte p) any is fails (inl h) = absurd (non
 unspelled_only s text full (UnexpectedByte p) any is fails (inr h) = ap Err (sym h.1)
 unspelled_only s text full (UnexpectedEnd p) any is fails (inl h) = absurd (none-some h.0 ((fails h.0).1 (in_full s text full h.0 is h.1)))
 unspelled_only s text full (UnexpectedEnd p) any is fails (inr h) = ap Err (sym h.1)
-
--- ---- a format gives no reason
-pub none_only : (IsText : DateOrMoment → Type 0) (o : Option DateOrMoment) (any : NoAnswer) → IfSome o IsText → ((found : DateOrMoment) → ¬ IsText found) → any ≡ why.NoForm
-    → ok_or o why.NoForm ≡ failed any
-none_only IsText None any has none e = ap Err (sym e)
-none_only IsText (Some found) any has none e = absurd (none found has)

@@ -6,6 +6,7 @@ pub mod DigitBounds
 pub mod DigitStarts
 pub mod Durations
 pub mod FirstForms
+pub mod InYear
 pub mod Lacks
 pub mod Laters
 pub mod Leads
@@ -17,8 +18,10 @@ pub mod Outside
 pub mod Periods
 pub mod OneCount
 pub mod OneMoment
+pub mod OneVariant
 pub mod Printed
 pub mod ReadWith
+pub mod Rejected
 pub mod Scans
 pub mod ShapeBytes
 pub mod Solid

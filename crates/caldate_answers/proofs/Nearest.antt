@@ -70,22 +70,19 @@ is_in_year o f t full y x e year low high h = record {
 pub one_year : (o : ℤ) (f : ValueFormat) (t : List ℕ) (y : ℤ) (x : DateOrMoment) → Texts o f t y y x → year_at (day_of x) ≡ y
 one_year o f t y x h = omega (arith, ints, h.from, h.to)
 
-pub read_in_year : (o : ℤ) (f : ValueFormat) (t full : List ℕ) (y : ℤ) (x : DateOrMoment) (r : Option DateOrMoment) → full ≡ with_year (year_text y) t
-    → ((found : DateOrMoment) → IsFormatText o f full found → r ≡ Some found) → Texts o f t y y x → r ≡ Some x
-read_in_year o f t full y x r e every h =
-    every x (subst (λ l. IsFormatText o f l x) (ap (λ z. with_year (year_text z) t) (one_year o f t y x h) ∙ sym e) h.text_is)
+pub text_in_year : (o : ℤ) (f : ValueFormat) (t full : List ℕ) (y : ℤ) (x : DateOrMoment) → full ≡ with_year (year_text y) t → Texts o f t y y x → IsFormatText o f full x
+text_in_year o f t full y x e h = subst (λ l. IsFormatText o f l x) (ap (λ z. with_year (year_text z) t) (one_year o f t y x h) ∙ sym e) h.text_is
 
 -- The bytes that are read in a year.
 pub full_is : (t full joined digits new old : List ℕ) (y z : ℤ) → full ≡ joined → joined ≡ with_year digits t → digits ≡ new → new ≡ old ++ year_text z → old ≡ [] → z ≡ y
     → full ≡ with_year (year_text y) t
 full_is t full joined digits new old y z a b c d e g = a ∙ b ∙ ap (λ l. with_year l t) (c ∙ d ∙ ap (λ l. l ++ year_text z) e ∙ ap year_text g)
 
--- No year makes a string one in the format if the string and a slash leave its form.
-pub none_lacks : (f : ValueFormat) (t bytes : List ℕ) (bound : ℕ) → bytes ≡ t ++ codes "/"
-    → ((o : ℤ) (n : ℕ) (more : List ℕ) (x : DateOrMoment) → n ≤ length bytes → IsFormatText o f (take n bytes ++ more) x → n ≤ bound)
-    → nat_lt (length t) bound ≡ false → (o : ℤ) (year : List ℕ) (x : DateOrMoment) → ¬ IsFormatText o f (with_year year t) x
-none_lacks f t bytes bound e front past o year x is =
-    let fits = front o (length bytes) year x (omega arith) (subst (λ l. IsFormatText o f l x) (ap (λ l. l ++ year) (sym (take_all (length bytes) bytes (omega arith) ∙ e))) is) in
+-- No year makes a string one of a kind if the string and a slash leave the form of that kind.
+pub none_lacks : (P : List ℕ → Type 0) (t bytes : List ℕ) (bound : ℕ) → bytes ≡ t ++ codes "/" → ((n : ℕ) (more : List ℕ) → n ≤ length bytes → P (take n bytes ++ more) → n ≤ bound)
+    → nat_lt (length t) bound ≡ false → (year : List ℕ) → ¬ P (with_year year t)
+none_lacks P t bytes bound e front past year is =
+    let fits = front (length bytes) year (omega arith) (subst P (ap (λ l. l ++ year) (sym (take_all (length bytes) bytes (omega arith) ∙ e))) is) in
     let low : bound ≤ length t = grind (arith, nat_tests) in
     omega (arith, fits, low, ap length e, length-append t (codes "/"))
 

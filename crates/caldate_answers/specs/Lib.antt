@@ -5,6 +5,7 @@ pub mod ClockCounts
 pub mod ClockMoves
 pub mod Clocks
 pub mod Counts
+pub mod FormatErrors
 pub mod Forms
 pub mod Found
 pub mod Leniency

@@ -1,5 +1,5 @@
 -- The forms that a line is read in. The first that fits wins.
-use Rattle.std.specs.Prelude.{◌≡◌, ◌≤◌, ◌⊎◌, ◌++◌, ℕ, ℤ, pos, ◌+ℤ◌, ◌-ℤ◌, ◌≤ℤ◌, codes, length, List, [], ◌∷◌, Bool, true, false, IsSomeAnd, IsTrue, if◌then◌else◌}
+use Rattle.std.specs.Prelude.{◌≡◌, ◌≤◌, ◌⊎◌, ◌++◌, ℕ, ℤ, pos, ◌+ℤ◌, ◌-ℤ◌, ◌≤ℤ◌, codes, length, List, [], ◌∷◌, Bool, true, false, IfOk, IsSomeAnd, IsTrue, Result, if◌then◌else◌}
 use Rattle.cal_time.specs.Date.{IsDate, year_at}
 use Rattle.cal_time.specs.DateText.{year_text}
 use Rattle.cal_time.specs.UtcOffset.{IsOffset}
@@ -17,6 +17,7 @@ use Rattle.cal_text.specs.declared.any.DateForm.TheVariants.{Calendar}
 use Rattle.cal_text.specs.declared.any.DateOrMoment.{DateOrMoment}
 use Rattle.cal_text.specs.declared.any.DateOrMoment.TheVariants as dated
 use Rattle.cal_text.specs.declared.any.MomentForm.TheVariants.{Rfc3339}
+use Rattle.caldate_answers.specs.FormatErrors.{IsFormatError, IsReadBy, IsReasonBy}
 use Rattle.caldate_answers.specs.Found.{day_of}
 use Rattle.caldate_answers.specs.Nearness.{IsNearestTo}
 use Rattle.caldate_answers.specs.Readings.{HasFormIn, IsErrorIn, IsTextIn}
@@ -63,6 +64,11 @@ IsFormatText offset (DateTimes items) text found =
     (z : ℤ) × IsDateTimeText items text z × (found ≡ dated.Moment Rfc3339 (record { local = z; offset = offset }))
 IsFormatText offset (Lenient format) text found = IsVariantText offset format text found
 
+-- The result of reading a string in the format. A date or moment has no error.
+abbrev pub IsReadIn : ℤ → ValueFormat → List ℕ → Result DateOrMoment NoAnswer → Type 0
+IsReadIn offset format text r =
+    IsReadBy (IsFormatText offset format text) (IsFormatError format text) r × IfOk r (λ _. (any : ComponentRange) → ¬ IsFormatError format text any)
+
 -- ---- formats without a year: the string followed by a slash and the year is one in the format
 -- followed by `/%Y`
 abbrev pub with_year : List ℕ → List ℕ → List ℕ
@@ -89,6 +95,24 @@ IsTextOfYear (Near day) offset format text found = IsNearestTo day (IsTextNear o
 pub record IsYearlessText (assumptions : Assumptions) (format : ValueFormat) (text : List ℕ) (found : DateOrMoment) : Type 0 where
   pub short : length text ≤ 60
   pub text_is : IsTextOfYear assumptions.year assumptions.offset format text found
+
+-- The string has the form, and in this year, from 0 to 9999, a component is out of range.
+pub record IsErrorInYear (format : ValueFormat) (text : List ℕ) (year : ℤ) (any : ComponentRange) : Type 0 where
+  pub four_digits : (pos 0 ≤ℤ year) × (year ≤ℤ pos 9_999)
+  pub error : IsFormatError format (with_year (year_text year) text) any
+
+abbrev pub IsReadInYear : ℤ → ValueFormat → List ℕ → ℤ → Result DateOrMoment NoAnswer → Type 0
+IsReadInYear offset format text year r =
+    IsReadBy (IsTextInYears offset format text year year) (IsErrorInYear format text year) r × IfOk r (λ _. (any : ComponentRange) → ¬ IsErrorInYear format text year any)
+
+-- The assumed year, or the year of the day.
+abbrev pub year_of : AssumedYear → ℤ
+year_of (Is year) = year
+year_of (Near day) = year_at day
+
+pub record IsYearlessError (assumptions : Assumptions) (format : ValueFormat) (text : List ℕ) (any : ComponentRange) : Type 0 where
+  pub short : length text ≤ 60
+  pub error : IsErrorInYear format text (year_of assumptions.year) any
 
 -- ---- forms
 -- The bytes are a string of this date or moment in the form. The parts that it leaves out are
@@ -119,16 +143,15 @@ IsSpellingError spelling text component = IsSomeAnd (full_by spelling text) (λ 
 
 -- A spelling says which component is out of range, or that the string doesn't have it.
 abbrev pub IsUnspelled : Spelling → List ℕ → NoAnswer → Type 0
-IsUnspelled spelling text any =
-    ((component : ComponentRange) × IsSpellingError spelling text component × (any ≡ why.Rejected component))
-    ⊎ (((component : ComponentRange) → ¬ IsSpellingError spelling text component) × (any ≡ why.NoForm))
+IsUnspelled spelling text any = IsReasonBy (IsSpellingError spelling text) any
 
--- Why the string isn't read in the form. A format doesn't say why.
+-- Why the string isn't read in the form.
 abbrev pub IsUnreadBy : Assumptions → Reader → List ℕ → NoAnswer → Type 0
 IsUnreadBy assumptions (Named reading) text any = IsUnreadIn reading text any
 IsUnreadBy assumptions Local text any = IsUnreadIn (reading.Local assumptions.offset) text any
 IsUnreadBy assumptions (Spelled spelling) text any = IsUnspelled spelling text any
-IsUnreadBy assumptions other text any = any ≡ why.NoForm
+IsUnreadBy assumptions (Format format) text any = IsReasonBy (IsFormatError format text) any
+IsUnreadBy assumptions (Yearless format) text any = IsReasonBy (IsYearlessError assumptions format text) any
 
 -- Bytes without an answer for this reason have one of the forms.
 abbrev pub has_form : NoAnswer → Bool

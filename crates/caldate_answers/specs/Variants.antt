@@ -7,6 +7,7 @@ use Rattle.cal_datetime.specs.OffsetDateTime.{LocalAndOffset}
 use Rattle.cal_format.specs.Lenient.{IsRead}
 use Rattle.cal_format.specs.Moment.{moment_of_date, moment_of_date_time, moment_of_offset_date_time}
 use Rattle.cal_format.specs.declared.item.Item.{Item}
+use Rattle.cal_format.specs.declared.lenient.LenientFormat.{LenientFormat}
 use Rattle.cal_text.specs.declared.any.DateForm.TheVariants.{Calendar}
 use Rattle.cal_text.specs.declared.any.DateOrMoment.{DateOrMoment}
 use Rattle.cal_text.specs.declared.any.DateOrMoment.TheVariants.{Date, Moment}
@@ -14,11 +15,14 @@ use Rattle.cal_text.specs.declared.any.MomentForm.TheVariants.{Rfc3339}
 use Rattle.caldate_answers.specs.declared.reading.lenient.LenientKind.{LenientKind}
 use Rattle.caldate_answers.specs.declared.reading.lenient.LenientKind.TheVariants.{Dates, Moments, DateTimes}
 
--- The items of a lenient format.
+-- The format and its items, whatever its values are.
+abbrev pub lenient_of : LenientKind → LenientFormat
+lenient_of (Dates format) = format
+lenient_of (Moments format) = format
+lenient_of (DateTimes format) = format
+
 abbrev pub lenient_items : LenientKind → List Item
-lenient_items (Dates format) = format.format
-lenient_items (Moments format) = format.format
-lenient_items (DateTimes format) = format.format
+lenient_items kind = (lenient_of kind).format
 
 -- The string is a variant of one of this date or moment. A string without an offset is at `offset`.
 abbrev pub IsVariantText : ℤ → LenientKind → List ℕ → DateOrMoment → Type 0

@@ -1,20 +1,21 @@
 //! Formats that are read leniently.
-ghost use Rattle.std.specs.Prelude.{◌≡◌, ◌+◌, ◌≤◌, ◌++◌, IfSome, IsTrue, None, Some, length, if◌then◌else◌};
+ghost use Rattle.std.specs.Prelude.{◌≡◌, ◌+◌, ◌≤◌, ◌++◌, ℤ, IfSome, IsTrue, None, Some, length, if◌then◌else◌};
 ghost use Rattle.cal_format.specs.Lenient.{are_leniently_apart};
-ghost use Rattle.cal_text.specs.declared.any.DateOrMoment.{DateOrMoment};
 ghost use Rattle.caldate_answers.specs.Leniency.{IsForSameValues, IsLenientFormat, IsLenientReader, lacks_century_in, read_items, without_year};
-ghost use Rattle.caldate_answers.specs.Variants.{IsVariantText, lenient_items};
+ghost use Rattle.caldate_answers.specs.Readers.{IsReadIn};
+ghost use Rattle.caldate_answers.specs.Variants.{lenient_items};
 ghost use Rattle.caldate_answers.specs.declared.reading.lenient.LenientKind.{LenientKind};
 ghost use Rattle.caldate_answers.specs.declared.reading.reader.Reader.{Reader};
 
 use crate::reading::reader::Reader;
-use crate::reading::value_format::{ValueFormat, in_calendar, in_rfc3339};
+use crate::reading::value_format::{ValueFormat, format_reason_of, in_calendar, in_rfc3339};
 use cal_format::{
     Format, Item, LenientDateFormat, LenientDateTimeFormat, LenientFormat,
     LenientOffsetDateTimeFormat,
 };
 use cal_text::DateOrMoment;
 use cal_time::UtcOffset;
+use caldate_lines::no_answer::NoAnswer;
 
 /// A lenient format whose strings determine a date or a moment.
 #[derive(Drop)]
@@ -28,26 +29,15 @@ pub enum LenientKind {
 }
 
 impl LenientKind {
-    /// Returns the date or the moment that a string is a variant of. A string without an offset is
-    /// at `offset`.
-    pub fn read(&self, offset: UtcOffset, text: &[u8]) -> Option<DateOrMoment>
-        ensures every { (found : DateOrMoment) → IsVariantText offset self.now text.now found
-            → result ≡ Some found }
-        ensures has { IfSome result (IsVariantText offset self.now text.now) }
+    /// Parses a variant of a string in this format, or returns why it can't be read. A string
+    /// without an offset is at `offset`.
+    pub fn read(&self, offset: UtcOffset, text: &[u8]) -> Result<DateOrMoment, NoAnswer>
+        ensures { IsReadIn offset (ValueFormat.Lenient self.now) text.now result }
     {
         match self {
-            LenientKind::Dates(format) => match format.parse(text) {
-                Ok(date) => Some(in_calendar(date)),
-                Err(_) => None,
-            },
-            LenientKind::Moments(format) => match format.parse(text) {
-                Ok(moment) => Some(in_rfc3339(moment)),
-                Err(_) => None,
-            },
-            LenientKind::DateTimes(format) => match format.parse(text) {
-                Ok(local) => Some(in_rfc3339(local.assume_offset(offset))),
-                Err(_) => None,
-            },
+            LenientKind::Dates(format) => read_date(format, text),
+            LenientKind::Moments(format) => read_moment(format, text),
+            LenientKind::DateTimes(format) => read_date_time(format, offset, text),
         }
     }
 
@@ -61,6 +51,43 @@ impl LenientKind {
             LenientKind::Moments(format) => format.as_format(),
             LenientKind::DateTimes(format) => format.as_format(),
         }
+    }
+}
+
+/// Parses a variant of a date.
+fn read_date(format: &LenientDateFormat, text: &[u8]) -> Result<DateOrMoment, NoAnswer>
+    ensures { (offset : ℤ)
+        → IsReadIn offset (ValueFormat.Lenient (LenientKind.Dates format.now)) text.now result }
+{
+    match format.parse(text) {
+        Ok(date) => Ok(in_calendar(date)),
+        Err(error) => Err(format_reason_of(error)),
+    }
+}
+
+/// Parses a variant of a moment with its offset.
+fn read_moment(format: &LenientOffsetDateTimeFormat, text: &[u8]) -> Result<DateOrMoment, NoAnswer>
+    ensures { (offset : ℤ)
+        → IsReadIn offset (ValueFormat.Lenient (LenientKind.Moments format.now)) text.now result }
+{
+    match format.parse(text) {
+        Ok(moment) => Ok(in_rfc3339(moment)),
+        Err(error) => Err(format_reason_of(error)),
+    }
+}
+
+/// Parses a variant of a moment at an offset.
+fn read_date_time(
+    format: &LenientDateTimeFormat,
+    offset: UtcOffset,
+    text: &[u8],
+) -> Result<DateOrMoment, NoAnswer>
+    ensures { IsReadIn offset (ValueFormat.Lenient (LenientKind.DateTimes format.now)) text.now
+        result }
+{
+    match format.parse(text) {
+        Ok(local) => Ok(in_rfc3339(local.assume_offset(offset))),
+        Err(error) => Err(format_reason_of(error)),
     }
 }
 

@@ -1,5 +1,5 @@
 //! The forms of `--read`.
-ghost use Rattle.std.specs.Prelude.{◌≡◌, IfErr, IfOk, Err, Ok, ok_or};
+ghost use Rattle.std.specs.Prelude.{◌≡◌, IfErr, IfOk, Err, Ok};
 ghost use Rattle.cal_text.specs.declared.any.DateOrMoment.{DateOrMoment};
 ghost use Rattle.caldate_answers.specs.Readers.{IsTextBy, IsUnreadBy, IsUnreadIn};
 ghost use Rattle.caldate_answers.specs.Readings.{IsTextIn};
@@ -55,17 +55,10 @@ impl Reader {
             Reader::Named(reading) => read_named(*reading, text),
             Reader::Local => read_named(Reading::Local(assumptions.offset), text),
             Reader::Spelled(spelling) => spelling.read(text),
-            Reader::Format(format) => or_no_form(format.read(assumptions.offset, text)),
-            Reader::Yearless(format) => or_no_form(read_yearless(format, assumptions, text)),
+            Reader::Format(format) => format.read(assumptions.offset, text),
+            Reader::Yearless(format) => read_yearless(format, assumptions, text),
         }
     }
-}
-
-/// Returns the date or the moment, or that the string doesn't have the form.
-fn or_no_form(found: Option<DateOrMoment>) -> Result<DateOrMoment, NoAnswer>
-    ensures { result ≡ ok_or found NoAnswer.NoForm }
-{
-    found.ok_or(NoAnswer::NoForm)
 }
 
 /// Parses a string in a form that says why a string isn't read.

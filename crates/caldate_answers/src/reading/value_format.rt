@@ -1,14 +1,17 @@
 //! Formats whose strings determine a date or a moment.
-ghost use Rattle.std.specs.Prelude.{◌≡◌, IfSome, Some};
+ghost use Rattle.std.specs.Prelude.{◌≡◌, ℤ};
 ghost use Rattle.cal_text.specs.declared.any.DateOrMoment.{DateOrMoment};
+ghost use Rattle.caldate_answers.specs.FormatErrors.{format_reason_of};
 ghost use Rattle.caldate_answers.specs.Leniency.{items_in};
-ghost use Rattle.caldate_answers.specs.Readers.{IsFormatText};
+ghost use Rattle.caldate_answers.specs.Readers.{IsReadIn};
 
 use crate::reading::lenient::LenientKind;
 use cal_datetime::OffsetDateTime;
-use cal_format::{DateFormat, DateTimeFormat, Format, OffsetDateTimeFormat};
+use cal_format::{DateFormat, DateTimeFormat, Format, OffsetDateTimeFormat, ParseError};
 use cal_text::{DateForm, DateOrMoment, MomentForm};
+use cal_time::error::ComponentRange;
 use cal_time::{Date, UtcOffset};
+use caldate_lines::no_answer::NoAnswer;
 
 /// A format whose strings determine a date or a moment.
 #[derive(Drop)]
@@ -24,26 +27,18 @@ pub enum ValueFormat {
 }
 
 impl ValueFormat {
-    /// Returns the date or the moment of a string in this format. A string without an offset is at
-    /// `offset`.
-    pub fn read(&self, offset: UtcOffset, text: &[u8]) -> Option<DateOrMoment>
-        ensures every { (found : DateOrMoment) → IsFormatText offset self.now text.now found
-            → result ≡ Some found }
-        ensures has { IfSome result (IsFormatText offset self.now text.now) }
+    /// Parses a string in this format, or returns why it can't be read. A string without an offset
+    /// is at `offset`.
+    ///
+    /// With `%d.%m.%Y`, `31.02.2024` gives `Rejected` for `day`, and `31.2.2024` gives `NoForm`. A
+    /// wrong weekday is `Rejected`, too.
+    pub fn read(&self, offset: UtcOffset, text: &[u8]) -> Result<DateOrMoment, NoAnswer>
+        ensures { IsReadIn offset self.now text.now result }
     {
         match self {
-            ValueFormat::Dates(format) => match format.parse(text) {
-                Ok(date) => Some(in_calendar(date)),
-                Err(_) => None,
-            },
-            ValueFormat::Moments(format) => match format.parse(text) {
-                Ok(moment) => Some(in_rfc3339(moment)),
-                Err(_) => None,
-            },
-            ValueFormat::DateTimes(format) => match format.parse(text) {
-                Ok(local) => Some(in_rfc3339(local.assume_offset(offset))),
-                Err(_) => None,
-            },
+            ValueFormat::Dates(format) => read_date(format, text),
+            ValueFormat::Moments(format) => read_moment(format, text),
+            ValueFormat::DateTimes(format) => read_date_time(format, offset, text),
             ValueFormat::Lenient(format) => format.read(offset, text),
         }
     }
@@ -58,6 +53,51 @@ impl ValueFormat {
             ValueFormat::DateTimes(format) => format.as_format(),
             ValueFormat::Lenient(format) => format.as_format(),
         }
+    }
+}
+
+/// Parses a date.
+fn read_date(format: &DateFormat, text: &[u8]) -> Result<DateOrMoment, NoAnswer>
+    ensures { (offset : ℤ) → IsReadIn offset (ValueFormat.Dates format.now) text.now result }
+{
+    match format.parse(text) {
+        Ok(date) => Ok(in_calendar(date)),
+        Err(error) => Err(format_reason_of(error)),
+    }
+}
+
+/// Parses a moment with its offset.
+fn read_moment(format: &OffsetDateTimeFormat, text: &[u8]) -> Result<DateOrMoment, NoAnswer>
+    ensures { (offset : ℤ) → IsReadIn offset (ValueFormat.Moments format.now) text.now result }
+{
+    match format.parse(text) {
+        Ok(moment) => Ok(in_rfc3339(moment)),
+        Err(error) => Err(format_reason_of(error)),
+    }
+}
+
+/// Parses a moment at an offset.
+fn read_date_time(
+    format: &DateTimeFormat,
+    offset: UtcOffset,
+    text: &[u8],
+) -> Result<DateOrMoment, NoAnswer>
+    ensures { IsReadIn offset (ValueFormat.DateTimes format.now) text.now result }
+{
+    match format.parse(text) {
+        Ok(local) => Ok(in_rfc3339(local.assume_offset(offset))),
+        Err(error) => Err(format_reason_of(error)),
+    }
+}
+
+/// Returns the reason why a string can't be read in a format.
+pub(crate) fn format_reason_of(error: ParseError) -> NoAnswer
+    ensures { result ≡ format_reason_of error }
+{
+    match error {
+        ParseError::OutOfRange(component) => NoAnswer::Rejected(component),
+        ParseError::Contradiction(name) => NoAnswer::Rejected(ComponentRange::conditional(name)),
+        ParseError::UnexpectedByte(_) | ParseError::UnexpectedEnd(_) => NoAnswer::NoForm,
     }
 }
 

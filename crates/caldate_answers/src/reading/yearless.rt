@@ -1,9 +1,13 @@
 //! Strings without a year.
 ghost use Rattle.std.specs.Prelude.{◌≡◌, ◌≤◌, ℤ, ◌≤ℤ◌, ◌+ℤ◌, ◌-ℤ◌, ◌-◌, IfSome, List, MatchOption, ◌<◌, ℕ, Some, false, length, nat_lt, neg_ℤ, pos};
 ghost use Rattle.cal_text.specs.declared.any.DateOrMoment.{DateOrMoment};
+ghost use Rattle.cal_time.specs.Date.{year_at};
+ghost use Rattle.cal_time.specs.declared.error.ComponentRange.{ComponentRange};
+ghost use Rattle.caldate_answers.specs.FormatErrors.{IsFormatError, IsReadBy, IsReasonBy};
 ghost use Rattle.caldate_answers.specs.Found.{day_of};
 ghost use Rattle.caldate_answers.specs.Nearness.{IsFirstAfter, IsLastUntil, IsNearestTo, days_apart, nearer_to};
-ghost use Rattle.caldate_answers.specs.Readers.{IsFormatText, IsTextInYears, IsTextNear, IsYearlessText, with_year};
+ghost use Rattle.caldate_answers.specs.Readers.{IsErrorInYear, IsFormatText, IsReadInYear, IsTextInYears, IsTextNear, IsYearlessError, IsYearlessText, with_year};
+ghost use Rattle.caldate_lines.specs.declared.no_answer.NoAnswer.{NoAnswer};
 
 use crate::answer::moment_of;
 use crate::reading::full_text::{FullText, LONGEST};
@@ -12,6 +16,7 @@ use crate::reading::value_format::ValueFormat;
 use crate::scan::bound::bound_by_format;
 use cal_text::DateOrMoment;
 use cal_time::{Date, ShortText, UtcOffset};
+use caldate_lines::no_answer::NoAnswer;
 
 /// The maximum number of years between a day and a string near it.
 const REACH: u8 = 50;
@@ -25,22 +30,22 @@ pub enum AssumedYear {
     Near(Date),
 }
 
-/// Returns the date or the moment of a string without its year, in the format with the year.
+/// Parses a string without its year in the format with the year, or returns why it can't be read:
+/// in the assumed year, or in the year of the day.
 pub fn read_yearless(
     format: &ValueFormat,
     assumptions: &Assumptions,
     text: &[u8],
-) -> Option<DateOrMoment>
-    ensures every { (found : DateOrMoment) → IsYearlessText assumptions.now format.now text.now found
-        → result ≡ Some found }
-    ensures has { IfSome result (IsYearlessText assumptions.now format.now text.now) }
+) -> Result<DateOrMoment, NoAnswer>
+    ensures { IsReadBy (IsYearlessText assumptions.now format.now text.now)
+        (IsYearlessError assumptions.now format.now text.now) result }
 {
     if text.len() > LONGEST {
-        return None;
+        return Err(NoAnswer::NoForm);
     }
     match assumptions.year {
-        AssumedYear::Is(year) => in_year(format, assumptions.offset, text, year),
-        AssumedYear::Near(day) => nearest_to(day, format, assumptions.offset, text),
+        AssumedYear::Is(year) => read_in_year(format, assumptions.offset, text, year),
+        AssumedYear::Near(day) => read_near(day, format, assumptions.offset, text),
     }
 }
 
@@ -56,6 +61,27 @@ fn with_year(year: &[u8], text: &[u8]) -> FullText
     full
 }
 
+/// Parses a string in the year in which it is nearest to a day, or returns why it can't be read in
+/// the year of the day.
+fn read_near(
+    day: Date,
+    format: &ValueFormat,
+    offset: UtcOffset,
+    text: &[u8],
+) -> Result<DateOrMoment, NoAnswer>
+    requires { length text.now ≤ 60 }
+    ensures { IsReadBy (IsNearestTo day (IsTextNear offset format.now text.now day))
+        (IsErrorInYear format.now text.now (year_at day)) result }
+{
+    if !may_lack_year(format, text) {
+        return Err(NoAnswer::NoForm);
+    }
+    match nearest_to(day, format, offset, text) {
+        Some(found) => Ok(found),
+        None => Err(error_in_year(format, offset, text, day.year())),
+    }
+}
+
 /// Returns the date or the moment of a string in the year in which it is nearest to a day.
 fn nearest_to(
     day: Date,
@@ -69,9 +95,6 @@ fn nearest_to(
         → result ≡ Some found }
     ensures has { IfSome result (IsNearestTo day (IsTextNear offset format.now text.now day)) }
 {
-    if !may_lack_year(format, text) {
-        return None;
-    }
     let year = day.year();
     let last = last_until(day, format, offset, text, year, REACH);
     nearer_to(
@@ -84,8 +107,10 @@ fn nearest_to(
 /// Returns `false` if no year after the string makes it one in the format, so that none is tried.
 fn may_lack_year(format: &ValueFormat, text: &[u8]) -> bool
     requires { length text.now ≤ 60 }
-    ensures { result ≡ false → (offset : ℤ) (year : List ℕ) (found : DateOrMoment)
+    ensures text { result ≡ false → (offset : ℤ) (year : List ℕ) (found : DateOrMoment)
         → ¬ IsFormatText offset format.now (with_year year text.now) found }
+    ensures error { result ≡ false → (year : List ℕ) (why : ComponentRange)
+        → ¬ IsFormatError format.now (with_year year text.now) why }
 {
     let mut front = FullText::new();
     front.push(text);
@@ -155,16 +180,49 @@ fn in_year(format: &ValueFormat, offset: UtcOffset, text: &[u8], year: i32) -> O
         (λ found. IsTextInYears offset format.now text.now year year found
         × ((other : DateOrMoment) → IsTextInYears offset format.now text.now year year other → other ≡ found)) }
 {
+    match read_in_year(format, offset, text, year) {
+        Ok(found) => Some(found),
+        Err(_) => None,
+    }
+}
+
+/// Returns why a string can't be read in a year.
+fn error_in_year(format: &ValueFormat, offset: UtcOffset, text: &[u8], year: i32) -> NoAnswer
+    requires { length text.now ≤ 60 }
+    ensures error { IsReasonBy (IsErrorInYear format.now text.now year) result }
+    ensures only { (why : NoAnswer) → IsReasonBy (IsErrorInYear format.now text.now year) why
+        → result ≡ why }
+{
+    match read_in_year(format, offset, text, year) {
+        Ok(_) => NoAnswer::NoForm,
+        Err(why) => why,
+    }
+}
+
+/// Parses a string in a year of four digits, or returns why it can't be read.
+fn read_in_year(
+    format: &ValueFormat,
+    offset: UtcOffset,
+    text: &[u8],
+    year: i32,
+) -> Result<DateOrMoment, NoAnswer>
+    requires { length text.now ≤ 60 }
+    ensures { IsReadInYear offset format.now text.now year result }
+{
     if year < 0 || year > 9_999 {
-        return None;
+        return Err(NoAnswer::NoForm);
     }
     let mut digits = ShortText::new();
     digits.push_year(year);
-    let found = format.read(offset, with_year(digits.as_bytes(), text).as_bytes())?;
-    if date_of(&found).year() == year {
-        Some(found)
-    } else {
-        None
+    match format.read(offset, with_year(digits.as_bytes(), text).as_bytes()) {
+        Ok(found) => {
+            if date_of(&found).year() == year {
+                Ok(found)
+            } else {
+                Err(NoAnswer::NoForm)
+            }
+        }
+        Err(why) => Err(why),
     }
 }
 

@@ -2,8 +2,10 @@
 ghost use Rattle.std.specs.Prelude.{◌≡◌, ℕ, ℤ, List, ◌<◌, ◌≤◌, ◌++◌, IsSomeAnd, Some, length, take, true};
 ghost use Rattle.cal_format.specs.Form.{HasForm};
 ghost use Rattle.cal_text.specs.AnyForm.{HasAnyForm};
+ghost use Rattle.cal_time.specs.declared.error.ComponentRange.{ComponentRange};
 ghost use Rattle.cal_text.specs.declared.any.DateOrMoment.{DateOrMoment};
 ghost use Rattle.caldate_lines.specs.declared.no_answer.NoAnswer.{NoAnswer};
+ghost use Rattle.caldate_answers.specs.FormatErrors.{IsFormatError};
 ghost use Rattle.caldate_answers.specs.Readers.{IsFormatText, IsFoundBy, IsTextBy, IsUnread, IsUnreadBy, has_form};
 ghost use Rattle.caldate_answers.specs.Readings.{HasFormIn};
 ghost use Rattle.caldate_answers.specs.Scans.{Bounds, IsText};
@@ -114,6 +116,8 @@ pub fn bound_by_format(format: &ValueFormat, bytes: &[u8]) -> usize
     ensures front { (offset : ℤ) (n : ℕ) (more : List ℕ) (found : DateOrMoment)
         → n ≤ length bytes.now
         → IsFormatText offset format.now (take n bytes.now ++ more) found → n ≤ result }
+    ensures error { (n : ℕ) (more : List ℕ) (why : ComponentRange) → n ≤ length bytes.now
+        → IsFormatError format.now (take n bytes.now ++ more) why → n ≤ result }
 {
     match format {
         ValueFormat::Dates(format) => bound_by_items(format.as_format(), bytes),

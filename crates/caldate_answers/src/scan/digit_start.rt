@@ -3,8 +3,10 @@ ghost use Rattle.std.specs.Prelude.{◌≡◌, ◌<◌, ◌≤◌, ℕ, ℤ, Lis
 ghost use Rattle.cal_format.specs.Form.{HasForm, ItemShape};
 ghost use Rattle.cal_format.specs.Moment.{width};
 ghost use Rattle.cal_text.specs.Shape.{Shape, unmatched_bytes};
+ghost use Rattle.cal_time.specs.declared.error.ComponentRange.{ComponentRange};
 ghost use Rattle.cal_text.specs.declared.any.DateOrMoment.{DateOrMoment};
 ghost use Rattle.caldate_lines.specs.declared.no_answer.NoAnswer.{NoAnswer};
+ghost use Rattle.caldate_answers.specs.FormatErrors.{IsFormatError};
 ghost use Rattle.caldate_answers.specs.Readers.{IsFormatText, IsFoundBy, IsTextBy, IsUnread, IsUnreadBy, has_form};
 ghost use Rattle.caldate_answers.specs.Scans.{StartWithDigits, StartsWithDigits, starts_with_digits};
 ghost use Rattle.caldate_answers.specs.declared.reading.reader.Assumptions.{Assumptions};
@@ -75,8 +77,10 @@ fn has_digits_first(reader: &Reader) -> bool
 
 /// Returns `true` only if each string in the format starts with two digits.
 fn is_number_first(format: &ValueFormat) -> bool
-    ensures { result ≡ true → (offset : ℤ) (bytes : List ℕ) (found : DateOrMoment)
+    ensures text { result ≡ true → (offset : ℤ) (bytes : List ℕ) (found : DateOrMoment)
         → IsFormatText offset format.now bytes found → StartsWithDigits bytes }
+    ensures error { result ≡ true → (bytes : List ℕ) (why : ComponentRange)
+        → IsFormatError format.now bytes why → StartsWithDigits bytes }
 {
     match format {
         ValueFormat::Dates(format) => begins_with_zeros(format.as_format()),

@@ -1,35 +1,18 @@
-use Rattle.std.proofs.Common.{◌≡◌, ◌∙◌, ap, arith, length, of_z, sym, to_z}
+use Rattle.std.proofs.Common.{◌≡◌, arith, of_z, subst, sym, to_z, Err, Ok}
 use Rattle.std.proofs.lemmas.Int.{ints}
 use mir.Syntax.{w32}
-use Rattle.cal_time.specs.Date.{year_at}
-use Rattle.caldate_answers.specs.Found.{day_of}
-use Rattle.caldate_answers.proofs.Nearest.{are_same, few_digits, full_is, is_in_year, one_year, read_in_year}
+use Rattle.caldate_answers.specs.Readers.{IsReadInYear}
+use Rattle.caldate_answers.proofs.InYear.{not_ok, same_ok}
 use Rattle.caldate_answers.proofs.reading.yearless.in_year.Goals as goal
 
-pub push_year-requires-clause-room : goal.push_year-requires-clause-room
-push_year-requires-clause-room c =
-    omega (arith, ap length c.new-digits.ensures, few_digits (to_z w32 (of_z w32 c.args.year)) (omega (arith, ints)) (omega (arith, ints)))
-
-pub with_year-requires : goal.with_year-requires
-with_year-requires c = (
-  c.requires,
-  omega (arith, ap length c.new-digits.ensures, c.push_year.ensures.length, ap length c.as_bytes.ensures.value, few_digits (to_z w32 (of_z w32 c.args.year)) (omega (arith, ints)) (omega (arith, ints))),
-)
-
-pub returns-then-year : goal.returns-then-year
-returns-then-year c =
+pub returns-in-Ok : goal.returns-in-Ok
+returns-in-Ok c =
     let e : to_z w32 (of_z w32 c.args.year) ≡ c.args.year = omega (arith, ints) in
-    let full = full_is c.args.text.now c.as_bytes-2.result.now _ _ _ _ c.args.year _ c.as_bytes-2.ensures c.with_year.ensures c.as_bytes.ensures.value c.push_year.ensures.appended c.new-digits.ensures e in
-    let same : c.year.result ≡ c.args.year = omega (arith, ints, ap (to_z w32) c.if-year.true) in
-    let year = ap year_at (sym c.date_of.ensures) ∙ sym c.year.ensures.value ∙ same in (
-      is_in_year c.args.offset c.args.format.now c.args.text.now c.as_bytes-2.result.now c.args.year c.in_ok-found.found full year (omega (arith, ints)) (omega (arith, ints)) c.in_ok-found.ensures.has,
-      λ other is. are_same c.read.result other c.in_ok-found.found (read_in_year c.args.offset c.args.format.now c.args.text.now c.as_bytes-2.result.now c.args.year other c.read.result full c.read.ensures.every is) c.in_ok-found.was,
-    )
+    let is = (subst (λ y. IsReadInYear c.args.offset c.args.format.now c.args.text.now y (Ok c.in-Ok.found)) e c.in-Ok.ensures).0 in
+    (is.value, λ other has. sym (same_ok c.in-Ok.found other (is.every other has)))
 
-pub returns-else-year : goal.returns-else-year
-returns-else-year c = λ other is.
+pub returns-in-Err : goal.returns-in-Err
+returns-in-Err c = λ found has.
     let e : to_z w32 (of_z w32 c.args.year) ≡ c.args.year = omega (arith, ints) in
-    let full = full_is c.args.text.now c.as_bytes-2.result.now _ _ _ _ c.args.year _ c.as_bytes-2.ensures c.with_year.ensures c.as_bytes.ensures.value c.push_year.ensures.appended c.new-digits.ensures e in
-    let same = are_same c.read.result other c.in_ok-found.found (read_in_year c.args.offset c.args.format.now c.args.text.now c.as_bytes-2.result.now c.args.year other c.read.result full c.read.ensures.every is) c.in_ok-found.was in
-    c.if-year.false (ap (of_z w32)
-    (c.year.ensures.value ∙ ap year_at (c.date_of.ensures ∙ sym (ap day_of same)) ∙ one_year c.args.offset c.args.format.now c.args.text.now c.args.year other is))
+    let is = (subst (λ y. IsReadInYear c.args.offset c.args.format.now c.args.text.now y (Err c.in-Err.field-0)) e c.in-Err.ensures).0 in
+    not_ok c.in-Err.field-0 found (is.every found has)

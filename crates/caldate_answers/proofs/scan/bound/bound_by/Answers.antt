@@ -1,14 +1,15 @@
-use Rattle.std.proofs.Common.{[], ◌++◌, ◌∙◌, ap, append-nil, append_assoc, subst, sym, take}
-use Rattle.std.proofs.lemmas.Bool.{false≢true}
+use Rattle.std.proofs.Common.{[], ◌++◌, append-nil, append_assoc, subst, sym, take}
 use Rattle.std.specs.Prelude.{codes}
 use Rattle.cal_time.specs.Date.{year_at}
 use Rattle.cal_time.specs.DateText.{year_text}
+use Rattle.caldate_answers.specs.FormatErrors.{IsFormatError}
 use Rattle.caldate_answers.specs.Found.{day_of}
-use Rattle.caldate_answers.specs.Readers.{IsFormatText, IsTextBy, IsUnreadBy, has_form}
+use Rattle.caldate_answers.specs.Readers.{IsFormatText, IsTextBy, IsUnreadBy, IsYearlessError, year_of}
 use Rattle.caldate_answers.specs.Readings.{HasFormIn}
 use Rattle.caldate_answers.specs.Spellings.{full_by}
 use Rattle.caldate_answers.specs.declared.reading.Reading.TheVariants.{Local}
 use Rattle.caldate_answers.proofs.Nearest.{with_some_year}
+use Rattle.caldate_answers.proofs.Rejected.{has_error}
 use Rattle.caldate_answers.proofs.TextBounds.{form_within, rejected_form, spelled_form, text_form, unspelled_form}
 use Rattle.caldate_answers.proofs.scan.bound.bound_by.Goals as goal
 
@@ -61,7 +62,10 @@ returns-in-Format-clause-text c = λ n found fits h.
 
 pub returns-in-Format-clause-rejected : goal.returns-in-Format-clause-rejected
 returns-in-Format-clause-rejected c = λ n any fits h e.
-    absurd (false≢true (sym (ap has_form (subst (λ r. IsUnreadBy c.args.assumptions.now r (take n c.args.bytes.now) any) c.in-Format.is h)) ∙ e))
+    let text = take n c.args.bytes.now in
+    let is = subst (λ r. IsUnreadBy c.args.assumptions.now r text any) c.in-Format.is h in
+    let error = has_error (IsFormatError c.in-Format.format text) any is e in
+    c.bound_by_format.ensures.error n [] error.0 fits (subst (λ t. IsFormatError c.in-Format.format t error.0) (sym (append-nil text)) error.1)
 
 pub returns-in-Yearless-clause-text : goal.returns-in-Yearless-clause-text
 returns-in-Yearless-clause-text c = λ n found fits h.
@@ -76,4 +80,10 @@ returns-in-Yearless-clause-text c = λ n found fits h.
 
 pub returns-in-Yearless-clause-rejected : goal.returns-in-Yearless-clause-rejected
 returns-in-Yearless-clause-rejected c = λ n any fits h e.
-    absurd (false≢true (sym (ap has_form (subst (λ r. IsUnreadBy c.args.assumptions.now r (take n c.args.bytes.now) any) c.in-Yearless.is h)) ∙ e))
+    let text = take n c.args.bytes.now in
+    let assumptions = c.args.assumptions.now in
+    let is = subst (λ r. IsUnreadBy assumptions r text any) c.in-Yearless.is h in
+    let error = has_error (IsYearlessError assumptions c.in-Yearless.format text) any is e in
+    let year = year_text (year_of assumptions.year) in
+    c.bound_by_format-in-Yearless.ensures.error n (codes "/" ++ year) error.0 fits
+    (subst (λ t. IsFormatError c.in-Yearless.format t error.0) (append_assoc text (codes "/") year) error.1.error.error)

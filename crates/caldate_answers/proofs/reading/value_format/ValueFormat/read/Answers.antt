@@ -1,18 +1,15 @@
-use Rattle.std.proofs.Common.{◌∙◌, ap, refl, subst, sym, Some}
-use Rattle.cal_format.proofs.Outcomes.{same-result}
-use Rattle.cal_text.specs.declared.any.DateForm.TheVariants.{Calendar}
-use Rattle.cal_text.specs.declared.any.DateOrMoment.TheVariants as dated
-use Rattle.caldate_answers.specs.Readers.{IsFormatText}
+use Rattle.std.proofs.Common.{subst, sym}
+use Rattle.caldate_answers.specs.Readers.{IsReadIn}
 use Rattle.caldate_answers.proofs.reading.value_format.ValueFormat.read.Goals as goal
 
-pub returns-in-Ok-clause-every : goal.returns-in-Ok-clause-every
-returns-in-Ok-clause-every c = λ found h.
-    let h = subst (λ r. IsFormatText c.args.offset r c.args.text.now found) c.in-Dates.is h in
-    let e = c.in-Ok.ensures.every h.0 h.1.in_range h.1.held h.1.text_is in
-    ap Some (c.in_calendar.ensures ∙ ap (dated.Date Calendar) (same-result _ c.in-Ok.date h.0 refl e) ∙ sym h.2)
+pub returns-in-Dates : goal.returns-in-Dates
+returns-in-Dates c = subst (λ f. IsReadIn c.args.offset f c.args.text.now c.read_date.result) (sym c.in-Dates.is) (c.read_date.ensures c.args.offset)
 
-pub returns-in-Err-clause-every : goal.returns-in-Err-clause-every
-returns-in-Err-clause-every c = λ found h.
-    let h = subst (λ r. IsFormatText c.args.offset r c.args.text.now found) c.in-Dates.is h in
-    let e = c.in-Err.ensures.every h.0 h.1.in_range h.1.held h.1.text_is in
-    cc
+pub returns-in-Moments : goal.returns-in-Moments
+returns-in-Moments c = subst (λ f. IsReadIn c.args.offset f c.args.text.now c.read_moment.result) (sym c.in-Moments.is) (c.read_moment.ensures c.args.offset)
+
+pub returns-in-DateTimes : goal.returns-in-DateTimes
+returns-in-DateTimes c = subst (λ f. IsReadIn c.args.offset f c.args.text.now c.read_date_time.result) (sym c.in-DateTimes.is) c.read_date_time.ensures
+
+pub returns-in-Lenient : goal.returns-in-Lenient
+returns-in-Lenient c = subst (λ f. IsReadIn c.args.offset f c.args.text.now c.read.result) (sym c.in-Lenient.is) c.read.ensures
