@@ -1,7 +1,9 @@
-"""Compares the holidays of calendars, from Monday to Friday, with the packages python3-holidays 0.10.1
-and quantlib-python 1.29 of Debian, if they are installed."""
+"""Compares the holidays of calendars, from Monday to Friday, with the packages python3-holidays 0.10.1,
+python3-workalendar 17.0.0, libdate-holidays-de-perl 2.06 and quantlib-python 1.29 of Debian 12, and
+python3-holidays 0.71 of Debian 13, if they are installed."""
 
 import datetime
+import subprocess
 import unittest
 
 from fotsevindre import Date, Workdays
@@ -14,6 +16,13 @@ try:
     import QuantLib
 except ImportError:
     QuantLib = None
+try:
+    import workalendar
+    import workalendar.europe
+    import workalendar.registry
+    import workalendar.usa
+except ImportError:
+    workalendar = None
 
 STATES = "bw by be bb hb hh he mv ni nw rp sl sn st sh th".split()
 
@@ -24,19 +33,35 @@ def ours(calendar, first, last):
     return {day.to_date() for day in found if day.weekday() < 5}
 
 
+def python_holidays(kind, first, last, **area):
+    """Returns the days of python3-holidays."""
+    # A New Year can be in the year before.
+    found = kind(years=range(first - 1, last + 2), **area)
+    return [day for day in found if first <= day.year <= last]
+
+
+def perl(program, *arguments):
+    """Returns the words that a program prints, or none without Date::Holidays::DE."""
+    command = ["perl", "-MDate::Holidays::DE=holidays", "-e", program, *arguments]
+    try:
+        return subprocess.run(command, capture_output=True, text=True).stdout.split()
+    except FileNotFoundError:
+        return []
+
+
+def is_version(module, version):
+    return getattr(module, "__version__", "") == version
+
+
 class Calendars(unittest.TestCase):
     def differ(self, calendar, years, others, days=""):
         """Checks that only these days are holidays for one of the two, but not for the other."""
         found = ours(calendar, *years) ^ {day for day in others if day.weekday() < 5}
         self.assertEqual(sorted(map(str, found)), days.split(), calendar)
 
-    @unittest.skipUnless(getattr(holidays, "__version__", "").startswith("0.10."), "needs python3-holidays 0.10.1")
+    @unittest.skipUnless(is_version(holidays, "0.10.1"), "needs python3-holidays 0.10.1")
     def test_python_holidays(self):
-        def of(kind, first, last, **area):
-            # A New Year can be in the year before.
-            found = kind(years=range(first - 1, last + 2), **area)
-            return [day for day in found if first <= day.year <= last]
-
+        of = python_holidays
         # On the last day of 2001 banks prepared the cash of the euro.
         self.differ("target", (2000, 2050), of(holidays.ECB, 2000, 2050), "2001-12-31")
         self.differ("us-federal", (1971, 2020), of(holidays.US, 1971, 2020))
@@ -46,6 +71,57 @@ class Calendars(unittest.TestCase):
         later = {"be": "2025-05-08", "mv": "2023-03-08 2024-03-08"}
         for state in STATES:
             self.differ(f"de-{state}", (1995, 2026), of(holidays.DE, 1995, 2026, prov=state.upper()), later.get(state, ""))
+
+    @unittest.skipUnless(is_version(holidays, "0.71"), "needs python3-holidays 0.71")
+    def test_later_python_holidays(self):
+        of = python_holidays
+        # On the last day of 2001 banks prepared the cash of the euro.
+        self.differ("target", (2000, 2050), of(holidays.ECB, 2000, 2050), "2001-12-31")
+        self.differ("us-federal", (1971, 2050), of(holidays.US, 1971, 2050))
+        self.differ("nyse", (1986, 2050), of(holidays.NYSE, 1986, 2050))
+        self.differ("england-and-wales", (1978, 2050), of(holidays.UnitedKingdom, 1978, 2050, subdiv="ENG"))
+        for state in STATES:
+            # Assumption Day is a holiday in the Catholic municipalities of Bavaria.
+            kinds = ("public", "catholic") if state == "by" else ("public",)
+            others = of(holidays.Germany, 1995, 2050, subdiv=state.upper(), categories=kinds)
+            self.differ(f"de-{state}", (1995, 2050), others)
+
+    @unittest.skipUnless(is_version(workalendar, "17.0.0"), "needs python3-workalendar 17.0.0")
+    def test_workalendar(self):
+        def of(kind, first, last):
+            # A New Year can be in the year before.
+            found = (day for year in range(first - 1, last + 2) for day in kind().holidays_set(year))
+            return [day for day in found if first <= day.year <= last]
+
+        europe, states = workalendar.europe, workalendar.usa
+        # On the last day of 2001 banks prepared the cash of the euro.
+        self.differ("target", (2000, 2050), of(europe.EuropeanCentralBank, 2000, 2050), "2001-12-31")
+        # Birthday of Martin Luther King was first a holiday in 1986. The package has no Veterans Day in October.
+        self.differ("us-federal", (1978, 2050), of(states.FederalReserveSystem, 1978, 2050), "1985-01-21")
+        # In 1995 the holiday of early May was 8 May. The coronation of 2023 is younger than the package.
+        self.differ("england-and-wales", (1978, 2050), of(europe.UnitedKingdom, 1978, 2050), "1995-05-01 1995-05-08 2023-05-08")
+        # Holidays that are younger than the package, and Children's Day, which it doesn't have.
+        missing = {
+            "be": "2025-05-08",
+            "mv": "2023-03-08 2024-03-08",
+            "th": "2019-09-20 2021-09-20 2022-09-20 2023-09-20 2024-09-20",
+        }
+        for state in STATES:
+            others = of(workalendar.registry.registry.get(f"DE-{state.upper()}"), 1995, 2026)
+            self.differ(f"de-{state}", (1995, 2026), others, missing.get(state, ""))
+
+    @unittest.skipUnless(perl("print $Date::Holidays::DE::VERSION") == ["2.06"], "needs libdate-holidays-de-perl 2.06")
+    def test_perl(self):
+        program = """my ($state, @add) = @ARGV;
+            for (1995..2050) {
+                print "@{holidays(WHERE => ['common', $state], ADD => \\@add, YEAR => $_, FORMAT => '%Y-%m-%d')}\\n";
+            }"""
+        for state in STATES:
+            # Assumption Day isn't a holiday in all of Bavaria.
+            found = perl(program, state, *["mari"] * (state == "by"))
+            # The holiday of 2025 is younger than the package.
+            later = "2025-05-08" if state == "be" else ""
+            self.differ(f"de-{state}", (1995, 2050), map(datetime.date.fromisoformat, found), later)
 
     @unittest.skipUnless(QuantLib, "needs quantlib-python")
     def test_quantlib(self):

@@ -1,7 +1,8 @@
 //! The bank holidays of England and Wales since 1978, by the Banking and Financial Dealings Act 1971
 //! and royal proclamations. Christmas Day and Boxing Day on a weekend are moved by two days, New
-//! Year to the next Monday. Checked for 1978 to 2050 with QuantLib 1.29, except 29 July 1981, which is
-//! from memory.
+//! Year to the next Monday. Checked for 1978 to 2050 with python3-holidays 0.71, QuantLib 1.29 and
+//! python3-workalendar 17.0.0, and for 1978 to 2021 with python3-holidays 0.10.1. QuantLib doesn't
+//! have 29 July 1981; `test_calendars.py` names the other differences.
 use crate::holiday_day::HolidayDay::{Easter, Fixed, Last, Nth};
 use crate::holiday_rule::HolidayRule;
 use cal_time::Month::{April, August, December, January, July, June, May, September};

@@ -1,8 +1,10 @@
 //! The public holidays of the states of Germany since 1995, on which their banks are closed, by the
 //! law of each state. Holidays that are always on a Sunday, and the ones of single municipalities,
 //! aren't included, except Assumption Day in Bavaria, a holiday in most of its municipalities. Checked
-//! for 1995 to 2026 with python3-holidays 0.10.1, except 8 May 2025 in Berlin and 8 March in
-//! Mecklenburg-Western Pomerania, which are from memory.
+//! for 1995 to 2050 with python3-holidays 0.71 and Date::Holidays::DE 2.06, and for 1995 to 2026
+//! with python3-holidays 0.10.1 and python3-workalendar 17.0.0. Only python3-holidays 0.71 has 8 May
+//! 2025 in Berlin, and only it and Date::Holidays::DE have 8 March in Mecklenburg-Western Pomerania;
+//! `test_calendars.py` names the other differences.
 use crate::holiday_day::HolidayDay::{self, Easter, Fixed, OnOrAfter};
 use crate::holiday_rule::HolidayRule;
 use cal_time::Month::{August, December, January, March, May, November, October, September};

@@ -1,7 +1,7 @@
 //! The days on which the New York Stock Exchange is closed since 1986, by its rule 7.2 and its
 //! notices. A holiday on a Saturday is observed on the Friday before it, except New Year, and one on
 //! a Sunday on the Monday after it. Days on which it closed early aren't included. Checked for 1986 to
-//! 2050 with QuantLib 1.29, except 9 January 2025, which is from memory.
+//! 2050 with python3-holidays 0.71 and, except 9 January 2025, with QuantLib 1.29.
 use crate::holiday_day::HolidayDay::{Easter, Fixed, Last, Nth};
 use crate::holiday_rule::HolidayRule;
 use cal_time::Month::{

@@ -1,8 +1,10 @@
 //! The public holidays of the federal offices of the United States since 1971, by section 6103 of
 //! title 5 of the United States Code. A holiday on a Saturday is observed on the Friday before it,
 //! and one on a Sunday on the Monday after it. Days on which an executive order closed the offices,
-//! and Inauguration Day, a holiday around Washington only, aren't included. Checked for 1971 to 2020 with
-//! python3-holidays 0.10.1, and for 2022 to 2050 with QuantLib 1.29. 18 June 2021 is from memory.
+//! and Inauguration Day, a holiday around Washington only, aren't included. Checked for 1971 to
+//! 2050 with python3-holidays 0.71 and QuantLib 1.29, for 1978 to 2050 with python3-workalendar 17.0.0,
+//! and for 1971 to 2020 with python3-holidays 0.10.1. QuantLib doesn't have 18 June 2021;
+//! `test_calendars.py` names the other differences.
 use crate::holiday_day::HolidayDay::{Fixed, Last, Nth};
 use crate::holiday_rule::HolidayRule;
 use cal_time::Month::{December, February, January, July, June, May, November, October, September};
