@@ -145,6 +145,6 @@ impl Names<'static> {
     /// assert_eq!(table::find(&names.months, "février 2024".as_bytes()), Some(1));
     /// ```
     pub fn of_language(code: &str) -> Option<Self> {
-        names_of(code.as_bytes())
+        names_of(code.as_bytes()).copied()
     }
 }

@@ -5,86 +5,62 @@ ghost use Rattle.cal_names.specs.Languages.{is_one_of, language_codes};
 use crate::languages;
 use crate::names::Names;
 
+static ARABIC: Names<'static> = languages::ARABIC;
+
+static GERMAN: Names<'static> = languages::GERMAN;
+
+static ENGLISH: Names<'static> = languages::ENGLISH;
+
+static SPANISH: Names<'static> = languages::SPANISH;
+
+static FRENCH: Names<'static> = languages::FRENCH;
+
+static ITALIAN: Names<'static> = languages::ITALIAN;
+
+static JAPANESE: Names<'static> = languages::JAPANESE;
+
+static POLISH: Names<'static> = languages::POLISH;
+
+static PORTUGUESE: Names<'static> = languages::PORTUGUESE;
+
+static RUSSIAN: Names<'static> = languages::RUSSIAN;
+
+static TURKISH: Names<'static> = languages::TURKISH;
+
+static CHINESE: Names<'static> = languages::CHINESE;
+
 /// Returns the names of a language by its code of ISO 639-1: `ar`, `de`, `en`, `es`, `fr`, `it`, `ja`,
 /// `pl`, `pt`, `ru`, `tr` or `zh`. Returns `None` for another code. The second month of `fr` is
 /// `février`.
-pub fn names_of(code: &[u8]) -> Option<Names<'static>>
+pub fn names_of(code: &[u8]) -> Option<&'static Names<'static>>
     ensures { is_some result ≡ is_one_of code.now language_codes }
 {
     let names = if code == b"ar".as_slice() {
-        arabic()
+        &ARABIC
     } else if code == b"de".as_slice() {
-        german()
+        &GERMAN
     } else if code == b"en".as_slice() {
-        english()
+        &ENGLISH
     } else if code == b"es".as_slice() {
-        spanish()
+        &SPANISH
     } else if code == b"fr".as_slice() {
-        french()
+        &FRENCH
     } else if code == b"it".as_slice() {
-        italian()
+        &ITALIAN
     } else if code == b"ja".as_slice() {
-        japanese()
+        &JAPANESE
     } else if code == b"pl".as_slice() {
-        polish()
+        &POLISH
     } else if code == b"pt".as_slice() {
-        portuguese()
+        &PORTUGUESE
     } else if code == b"ru".as_slice() {
-        russian()
+        &RUSSIAN
     } else if code == b"tr".as_slice() {
-        turkish()
+        &TURKISH
     } else if code == b"zh".as_slice() {
-        chinese()
+        &CHINESE
     } else {
         return None;
     };
     Some(names)
-}
-
-fn arabic() -> Names<'static> {
-    languages::ARABIC
-}
-
-fn german() -> Names<'static> {
-    languages::GERMAN
-}
-
-fn english() -> Names<'static> {
-    languages::ENGLISH
-}
-
-fn spanish() -> Names<'static> {
-    languages::SPANISH
-}
-
-fn french() -> Names<'static> {
-    languages::FRENCH
-}
-
-fn italian() -> Names<'static> {
-    languages::ITALIAN
-}
-
-fn japanese() -> Names<'static> {
-    languages::JAPANESE
-}
-
-fn polish() -> Names<'static> {
-    languages::POLISH
-}
-
-fn portuguese() -> Names<'static> {
-    languages::PORTUGUESE
-}
-
-fn russian() -> Names<'static> {
-    languages::RUSSIAN
-}
-
-fn turkish() -> Names<'static> {
-    languages::TURKISH
-}
-
-fn chinese() -> Names<'static> {
-    languages::CHINESE
 }

@@ -16,7 +16,7 @@ pub extern "C" fn fots_names_of_language(code: &[u8], names: &mut NamesParts<'st
 {
     match names_of(code) {
         Some(its) => {
-            names.set(&its);
+            names.set(its);
             OK
         }
         None => {
