@@ -34,26 +34,45 @@ static const fots_format *format_of(FunctionCallInfo fcinfo, int argument)
     return &kept->format;
 }
 
+/* Writes the names of the language in an argument. */
+static void read_language(FunctionCallInfo fcinfo, int argument, fots_language_names *names)
+{
+    const text *const code = PG_GETARG_TEXT_PP(argument);
+    succeed("language", fots_names_of_language(VARDATA_ANY(code), VARSIZE_ANY_EXHDR(code), names));
+}
+
 /* What a text is parsed to. */
 enum form { DATE, LOCAL, INSTANT };
+
+static fots_parse_moment_result of_date(fots_parse_date_result parsed)
+{
+    const fots_parse_moment_result found = {parsed.status, parsed.date, 0, {0}, 0, parsed.position};
+    return found;
+}
 
 static fots_parse_moment_result by_format(const char *bytes, size_t length, const fots_format *format, enum form form)
 {
     if (form == DATE) {
-        const fots_parse_date_result parsed = fots_date_parse_format(bytes, length, format);
-        const fots_parse_moment_result found = {parsed.status, parsed.date, 0, {0}, 0, parsed.position};
-        return found;
+        return of_date(fots_date_parse_format(bytes, length, format));
     }
     return form == LOCAL ? fots_pair_parse_format(bytes, length, format) : fots_moment_parse_format(bytes, length, format);
 }
 
-/* The format in argument 1, or NULL without it. */
-static const fots_format *format_if_any(FunctionCallInfo fcinfo)
+static fots_parse_moment_result in_language(const char *bytes, size_t length, const fots_format *format, const fots_language_names *names, enum form form)
 {
-    return PG_NARGS() == 1 ? NULL : format_of(fcinfo, 1);
+    if (form == DATE) {
+        return of_date(fots_date_parse_names(bytes, length, format, names));
+    }
+    return form == LOCAL ? fots_pair_parse_names(bytes, length, format, names) : fots_moment_parse_names(bytes, length, format, names);
 }
 
-/* Parses argument 0, by the format in argument 1 if there is one. */
+/* The format in argument 1, or NULL without it or with a language, as sentences have English names. */
+static const fots_format *format_if_any(FunctionCallInfo fcinfo)
+{
+    return PG_NARGS() == 2 ? format_of(fcinfo, 1) : NULL;
+}
+
+/* Parses argument 0, by the format in argument 1 and with the names of the language in argument 2, if there are any. */
 static fots_parse_moment_result parse(FunctionCallInfo fcinfo, enum form form)
 {
     const text *const value = PG_GETARG_TEXT_PP(0);
@@ -63,8 +82,14 @@ static fots_parse_moment_result parse(FunctionCallInfo fcinfo, enum form form)
     if (PG_NARGS() == 1) {
         return form == LOCAL ? fots_pair_parse(bytes, length) : fots_moment_parse(bytes, length);
     }
-    found = by_format(bytes, length, format_of(fcinfo, 1), form);
-    if (found.status == FOTS_INSUFFICIENT_FORMAT) {
+    if (PG_NARGS() == 2) {
+        found = by_format(bytes, length, format_of(fcinfo, 1), form);
+    } else {
+        fots_language_names names;
+        read_language(fcinfo, 2, &names);
+        found = in_language(bytes, length, format_of(fcinfo, 1), &names, form);
+    }
+    if (found.status == FOTS_INSUFFICIENT_FORMAT || found.status == FOTS_AMBIGUOUS_NAMES) {
         fail("format", found.status);
     }
     return found;
@@ -168,6 +193,28 @@ Datum cal_format(PG_FUNCTION_ARGS)
 {
     char bytes[FORMAT_BYTES];
     return printed(bytes, fots_date_format(GET_DATE(0), format_of(fcinfo, 1), bytes, sizeof bytes));
+}
+
+#define NAMED_BYTES (FOTS_MAX_ITEMS * FOTS_MAX_NAME_LENGTH)
+
+/* The same with the names of a language. */
+PG_FUNCTION_INFO_V1(cal_format_language);
+Datum cal_format_language(PG_FUNCTION_ARGS)
+{
+    char bytes[NAMED_BYTES];
+    fots_language_names names;
+    read_language(fcinfo, 2, &names);
+    return printed(bytes, fots_date_format_names(GET_DATE(0), format_of(fcinfo, 1), &names, bytes, sizeof bytes));
+}
+
+PG_FUNCTION_INFO_V1(cal_format_local_language);
+Datum cal_format_local_language(PG_FUNCTION_ARGS)
+{
+    char bytes[NAMED_BYTES];
+    const fots_moment moment = moment_of(PG_GETARG_TIMESTAMP(0));
+    fots_language_names names;
+    read_language(fcinfo, 2, &names);
+    return printed(bytes, fots_pair_format_names(moment.date, moment.time, format_of(fcinfo, 1), &names, bytes, sizeof bytes));
 }
 
 PG_FUNCTION_INFO_V1(cal_format_local);

@@ -34,7 +34,37 @@ static int get_format(const sql_function *function, sqlite3_context *context, in
     return *format != NULL;
 }
 
-/* Parses the first argument, by a format if there is one, which is NULL otherwise. */
+/* Writes the names of the language in an argument. */
+static int get_language(sqlite3_context *context, sqlite3_value *value, fots_language_names *names)
+{
+    const sql_text code = sql_text_of(value);
+    return sql_check(context, "language", fots_names_of_language(code.bytes, code.length, names));
+}
+
+static fots_parse_moment_result of_date(fots_parse_date_result parsed)
+{
+    return (fots_parse_moment_result){parsed.status, parsed.date, 0, {0}, 0, parsed.position};
+}
+
+static fots_parse_moment_result by_format(sql_text text, const fots_format *format, int form)
+{
+    if (form == SQL_DATE) {
+        return of_date(fots_date_parse_format(text.bytes, text.length, format));
+    }
+    return form == SQL_LOCAL ? fots_pair_parse_format(text.bytes, text.length, format) : fots_moment_parse_format(text.bytes, text.length, format);
+}
+
+static fots_parse_moment_result in_language(sql_text text, const fots_format *format, const fots_language_names *names, int form)
+{
+    if (form == SQL_DATE) {
+        return of_date(fots_date_parse_names(text.bytes, text.length, format, names));
+    }
+    return form == SQL_LOCAL ? fots_pair_parse_names(text.bytes, text.length, format, names)
+                             : fots_moment_parse_names(text.bytes, text.length, format, names);
+}
+
+/* Parses the first argument, by a format and with the names of a language if there are any. The format is NULL without one, and
+ * with a language, as sentences have English names. */
 static int get_parsed(const sql_function *function, sqlite3_context *context, int count, sqlite3_value **values, fots_parse_moment_result *found,
     const fots_format **by)
 {
@@ -49,15 +79,17 @@ static int get_parsed(const sql_function *function, sqlite3_context *context, in
     if (!get_format(function, context, count, values, 1, &format)) {
         return 0;
     }
-    *by = format;
-    if (form == SQL_DATE) {
-        const fots_parse_date_result parsed = fots_date_parse_format(text.bytes, text.length, format);
-        *found = (fots_parse_moment_result){parsed.status, parsed.date, 0, {0}, 0, parsed.position};
+    if (count == 3) {
+        fots_language_names names;
+        if (!get_language(context, values[2], &names)) {
+            return 0;
+        }
+        *found = in_language(text, format, &names, form);
     } else {
-        *found = form == SQL_LOCAL ? fots_pair_parse_format(text.bytes, text.length, format)
-                                   : fots_moment_parse_format(text.bytes, text.length, format);
+        *by = format;
+        *found = by_format(text, format, form);
     }
-    return found->status != FOTS_INSUFFICIENT_FORMAT || sql_check(context, "format", found->status);
+    return (found->status != FOTS_INSUFFICIENT_FORMAT && found->status != FOTS_AMBIGUOUS_NAMES) || sql_check(context, "format", found->status);
 }
 
 static void valid(const sql_function *function, sqlite3_context *context, int count, sqlite3_value **values)
@@ -104,11 +136,13 @@ static void parse(const sql_function *function, sqlite3_context *context, int co
 }
 
 #define FORMAT_BYTES (FOTS_MAX_ITEMS * FOTS_MAX_ITEM_LENGTH)
+#define NAMED_BYTES (FOTS_MAX_ITEMS * FOTS_MAX_NAME_LENGTH)
 
 static void format(const sql_function *function, sqlite3_context *context, int count, sqlite3_value **values)
 {
-    char bytes[FORMAT_BYTES];
+    char bytes[NAMED_BYTES];
     const fots_format *made;
+    fots_language_names names;
     fots_moment moment = {{0}, {0}, 0};
     fots_length_result printed;
     if (function->call->form == SQL_DATE ? !get_date(context, values[0], &moment.date) : !get_local(context, values[0], &moment)) {
@@ -117,8 +151,16 @@ static void format(const sql_function *function, sqlite3_context *context, int c
     if (!get_format(function, context, count, values, 1, &made)) {
         return;
     }
-    printed = function->call->form == SQL_DATE ? fots_date_format(moment.date, made, bytes, sizeof bytes)
-                                               : fots_pair_format(moment.date, moment.time, made, bytes, sizeof bytes);
+    if (count == 3) {
+        if (!get_language(context, values[2], &names)) {
+            return;
+        }
+        printed = function->call->form == SQL_DATE ? fots_date_format_names(moment.date, made, &names, bytes, sizeof bytes)
+                                                   : fots_pair_format_names(moment.date, moment.time, made, &names, bytes, sizeof bytes);
+    } else {
+        printed = function->call->form == SQL_DATE ? fots_date_format(moment.date, made, bytes, sizeof bytes)
+                                                   : fots_pair_format(moment.date, moment.time, made, bytes, sizeof bytes);
+    }
     if (sql_check(context, "format", printed.status)) {
         set_text(context, bytes, printed.length);
     }
@@ -191,11 +233,11 @@ const sql_call sql_text_calls[] = {
     {"cal_error", 1, 2, error, NULL, NULL, NULL, SQL_DATE, 0},
     {"cal_error_local", 1, 2, error, NULL, NULL, NULL, SQL_LOCAL, 0},
     {"cal_error_instant", 1, 2, error, NULL, NULL, NULL, SQL_INSTANT, 0},
-    {"cal_parse", 1, 2, parse, NULL, NULL, NULL, SQL_DATE, 0},
-    {"cal_parse_local", 1, 2, parse, NULL, NULL, NULL, SQL_LOCAL, 0},
-    {"cal_parse_instant", 1, 2, parse, NULL, NULL, NULL, SQL_INSTANT, 0},
-    {"cal_format", 2, 2, format, NULL, NULL, NULL, SQL_DATE, 0},
-    {"cal_format_local", 2, 2, format, NULL, NULL, NULL, SQL_LOCAL, 0},
+    {"cal_parse", 1, 3, parse, NULL, NULL, NULL, SQL_DATE, 0},
+    {"cal_parse_local", 1, 3, parse, NULL, NULL, NULL, SQL_LOCAL, 0},
+    {"cal_parse_instant", 1, 3, parse, NULL, NULL, NULL, SQL_INSTANT, 0},
+    {"cal_format", 2, 3, format, NULL, NULL, NULL, SQL_DATE, 0},
+    {"cal_format_local", 2, 3, format, NULL, NULL, NULL, SQL_LOCAL, 0},
     {"cal_format_zoned", 3, 3, format_zoned, NULL, NULL, NULL, SQL_INSTANT, 1},
     {"cal_recurrence_text", 1, 1, recurrence_text, NULL, NULL, NULL, 0, 0},
     {"cal_recurrence_lines", 1, 1, recurrence_lines, NULL, NULL, NULL, 0, 0},

@@ -83,6 +83,18 @@ SELECT * FROM (VALUES
     (25, cal_add_months(NULL, 1)::text, NULL), (26, cal_workdays('2024-01-01', '2024-02-01', NULL)::text, NULL)
 ) AS row(id, result, expected) WHERE result IS DISTINCT FROM expected;
 
+-- the names of a language
+SELECT * FROM (VALUES
+    (1, cal_format('2024-02-29', '%A, %-d %B %Y', 'fr'), 'jeudi, 29 février 2024'), (2, cal_format_local('2024-02-29 19:30', '%p%-I:%M', 'ja'), '午後7:30'),
+    (3, cal_parse('jeudi, 29 février 2024', '%A, %-d %B %Y', 'fr')::text, '2024-02-29'),
+    (4, cal_parse_local('29. März 2024, 9:05', '%-d. %B %Y, %-H:%M', 'de')::text, '2024-03-29 09:05:00'),
+    (5, cal_parse_instant('1 января 1970 00:00 +0100', '%-d %B %Y %R %z', 'ru')::text, '1969-12-31 23:00:00+00'),
+    (6, pg_temp.error_of($$SELECT cal_parse('29 fevrier 2024', '%-d %B %Y', 'fr')$$), '22007 invalid date: "29 fevrier 2024" / unexpected byte at character 5'),
+    (7, pg_temp.error_of($$SELECT cal_parse('30 février 2024', '%-d %B %Y', 'fr')$$), '22008 invalid date: "30 février 2024" / day is out of range'),
+    (8, pg_temp.error_of($$SELECT cal_parse('Pazar 2024-03-03', '%Atesi %F', 'tr')$$), '22023 format: ambiguous names; expected names that end before what comes after them'),
+    (9, pg_temp.error_of($$SELECT cal_format('2024-02-29', '%B', 'fra')$$), '22023 language: unknown language; expected ar, de, en, es, fr, it, ja, pl, pt, ru, tr or zh'), (10, cal_format('2024-02-29', '%B', NULL), NULL)
+) AS row(id, result, expected) WHERE result IS DISTINCT FROM expected;
+
 -- why a string isn't valid: the words of the error, NULL for a valid one, and an error for a format that can't say
 SELECT * FROM (VALUES
     (1, cal_error('2024-02-29'), NULL), (2, cal_error(NULL), NULL), (3, cal_error('2023-02-29'), 'day 29 is out of range 1 to 28 (February 2023)'),
