@@ -89,7 +89,7 @@ static fots_parse_moment_result parse(FunctionCallInfo fcinfo, enum form form)
         read_language(fcinfo, 2, &names);
         found = in_language(bytes, length, format_of(fcinfo, 1), &names, form);
     }
-    if (found.status == FOTS_INSUFFICIENT_FORMAT || found.status == FOTS_AMBIGUOUS_NAMES) {
+    if (found.status == FOTS_INSUFFICIENT_FORMAT || found.status == FOTS_AMBIGUOUS_NAMES || found.status == FOTS_AMBIGUOUS_NUMBER) {
         fail("format", found.status);
     }
     return found;

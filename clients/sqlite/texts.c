@@ -4,7 +4,7 @@ SQLITE_EXTENSION_INIT3
 
 #include <string.h>
 
-/* The format of an argument, or the one of a date without it. SQLite keeps that of a constant. */
+/* The format of an argument, or the one of a date without it. SQLite keeps the format of a constant. */
 static int get_format(const sql_function *function, sqlite3_context *context, int count, sqlite3_value **values, int index,
     const fots_format **format)
 {
@@ -89,7 +89,10 @@ static int get_parsed(const sql_function *function, sqlite3_context *context, in
         *by = format;
         *found = by_format(text, format, form);
     }
-    return (found->status != FOTS_INSUFFICIENT_FORMAT && found->status != FOTS_AMBIGUOUS_NAMES) || sql_check(context, "format", found->status);
+    if (found->status == FOTS_INSUFFICIENT_FORMAT || found->status == FOTS_AMBIGUOUS_NAMES || found->status == FOTS_AMBIGUOUS_NUMBER) {
+        return sql_check(context, "format", found->status);
+    }
+    return 1;
 }
 
 static void valid(const sql_function *function, sqlite3_context *context, int count, sqlite3_value **values)

@@ -102,7 +102,7 @@ static PyObject *core_event_value(PyObject *self, PyObject *const *given, Py_ssi
 }
 
 /* Raises the error of the lines of an event, or of an argument. The number of a line comes after
- * those of the parts of a recurrence, and a position of SIZE_MAX becomes -1. */
+ * the parts of a recurrence, and a position of SIZE_MAX becomes -1. */
 static PyObject *raise_line(const State *state, int32_t status, size_t position, uint32_t line)
 {
     return !line && position == SIZE_MAX ? raise_status(state, status) :

@@ -31,7 +31,7 @@ static int order_of_durations(fots_duration one, fots_duration two)
         (one.nanoseconds > two.nanoseconds) - (one.nanoseconds < two.nanoseconds);
 }
 
-/* Returns the order of the instants, which at one offset is that of the dates and times. */
+/* Returns the order of the instants, which at one offset is the order of the dates and times. */
 static int order_of_moments(fots_moment one, fots_moment two)
 {
     return one.offset.seconds != two.offset.seconds ? fots_moment_compare(one, two).number :

@@ -259,7 +259,7 @@ class ZoneError(ValueError):
         return f"{self.reason} at {self.position}"
 
 
-# The lines of an event, in the order of C. Their numbers come after those of the parts of a recurrence.
+# The lines of an event, in the order of C. Their numbers come after the parts of a recurrence.
 _LINES = (None, "DTSTART", "RRULE", "RDATE", "EXDATE")
 
 # By status: the name of a component, and whether its range is conditional. The statuses of components

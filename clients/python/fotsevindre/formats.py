@@ -107,5 +107,5 @@ def _made(text: str, is_description: bool, pivot: int | None) -> Format:
 
 
 def format_of(format: str | Format) -> Format:
-    """Returns a format, or the one of a string."""
+    """Returns a format, or makes one of a string."""
     return format if isinstance(format, Format) else Format(format)

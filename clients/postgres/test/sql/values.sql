@@ -92,6 +92,7 @@ SELECT * FROM (VALUES
     (6, pg_temp.error_of($$SELECT cal_parse('29 fevrier 2024', '%-d %B %Y', 'fr')$$), '22007 invalid date: "29 fevrier 2024" / unexpected byte at character 5'),
     (7, pg_temp.error_of($$SELECT cal_parse('30 février 2024', '%-d %B %Y', 'fr')$$), '22008 invalid date: "30 février 2024" / day is out of range'),
     (8, pg_temp.error_of($$SELECT cal_parse('Pazar 2024-03-03', '%Atesi %F', 'tr')$$), '22023 format: ambiguous names; expected names that end before what comes after them'),
+    (11, pg_temp.error_of($$SELECT cal_parse('2024 292月', '%Y %-d%B', 'ja')$$), '22023 format: ambiguous number; expected another byte after it'),
     (9, pg_temp.error_of($$SELECT cal_format('2024-02-29', '%B', 'fra')$$), '22023 language: unknown language; expected ar, de, en, es, fr, it, ja, pl, pt, ru, tr or zh'), (10, cal_format('2024-02-29', '%B', NULL), NULL)
 ) AS row(id, result, expected) WHERE result IS DISTINCT FROM expected;
 
