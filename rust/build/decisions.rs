@@ -115,7 +115,7 @@ const HIDDEN: &[(&str, &[&str])] = &[
     ("", &["scan_positive_number", "push_interval", "push_end", "push_list", "push_week_start"]),
     ("", &["date_from_numbers", "time_from_numbers", "plain_from_numbers", "moment_from_numbers"]),
     ("", &["push_fraction", "scan_more_decimals"]),
-    ("", &["name_at", "print", "scan"]),
+    ("", &["name_at", "print", "print_items", "scan"]),
     ("", &["parse_date", "parse_time", "parse_date_time", "parse_offset_date_time"]),
     ("", &["has_room", "values_of", "put", "split", "insert_date", "add_date", "add_rule"]),
 ];

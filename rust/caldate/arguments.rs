@@ -12,10 +12,12 @@ include!(concat!(env!("OUT_DIR"), "/library.rs"));
 
 use cal_datetime::{OffsetDateTime, PlainDateTime};
 use cal_format::Format;
+use cal_names::Names;
 use cal_schedule::CalendarUnit;
 use cal_text::DateOrMoment;
 use cal_time::{Date, Month, Time, UtcOffset};
 use cal_zone::{Policy, Zone};
+use caldate_answers::reading::in_language::LanguageKind;
 use caldate_answers::reading::reader::Reader;
 use caldate_answers::reading::value_format::ValueFormat;
 use caldate_answers::reading::yearless::AssumedYear;
@@ -294,11 +296,24 @@ fn value_format_text(format: &ValueFormat) -> String {
         ValueFormat::Dates(_) => format!("date:{}", printed(format.as_format())),
         ValueFormat::Moments(_) => format!("moment:{}", printed(format.as_format())),
         ValueFormat::DateTimes(_) => format!("local:{}", printed(format.as_format())),
+        ValueFormat::InLanguage(named) => {
+            let kind = match named.kind() {
+                LanguageKind::Dates(_) => "date",
+                LanguageKind::Moments(_) => "moment",
+                LanguageKind::DateTimes(_) => "local",
+            };
+            format!("{} {kind}:{}", named_text(named.names()), printed(format.as_format()))
+        }
         ValueFormat::Lenient(_) => {
             let text = printed(format.as_format());
             format!("lenient {}:{text} from {}", kind_read(format, &text), first_year(format))
         }
     }
+}
+
+/// Returns the name of February in the language, which no other language has.
+fn named_text(names: &Names<'_>) -> String {
+    format!("{}/{}", names.months[1], names.weekdays[3])
 }
 
 /// Returns what the format reads: a date, a moment, or a moment at any offset that is assumed.
@@ -377,6 +392,7 @@ fn request_text(request: &Request<'_>) -> String {
         Request::To(form) => format!("to {}", form_name(*form)),
         Request::ToIso => "to iso".into(),
         Request::Print(format) => format!("print {}", printed(format)),
+        Request::PrintNamed(format, names) => format!("print {} {}", named_text(names), printed(format)),
         Request::Move(by) => move_text(*by),
         Request::MoveAt(clock, by) => {
             format!("at {} {}", clock_text(clock), move_text(*by))
@@ -385,6 +401,9 @@ fn request_text(request: &Request<'_>) -> String {
         Request::Since(own, target, measure) => format!("{}since {}", own_text(own), target_text(target, *measure)),
         Request::At(place, form) => format!("at {} to {}", place_text(place), form_name(*form)),
         Request::PrintAt(place, format) => format!("at {} print {}", place_text(place), printed(format)),
+        Request::PrintNamedAt(place, format, names) => {
+            format!("at {} print {} {}", place_text(place), named_text(names), printed(format))
+        }
         Request::Keep(Bounds::FromTo(first, last)) => {
             format!("keep from {} to {}", found_text(first), found_text(last))
         }

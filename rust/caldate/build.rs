@@ -20,6 +20,8 @@ fn main() -> ExitCode {
             "cal_text",
             "cal_duration",
             "cal_format",
+            "cal_names",
+            "cal_named_format",
             "cal_iso",
             "cal_zone",
             "cal_zoned",

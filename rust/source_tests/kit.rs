@@ -1,5 +1,7 @@
 //! What the tests take from the kit beside the system. Memory comes from an allocator that they
 //! name, and may run out; access to the system is a value.
+extern crate std as host;
+
 use runtime::{fmt, io, ops};
 
 /// Access to the system.
@@ -14,6 +16,18 @@ pub trait AllocGlobal {
 }
 
 impl AllocGlobal for HostRuntime {}
+
+impl runtime::fs::Files for HostRuntime {
+    type File = runtime::fs::File;
+
+    fn open(&self, path: &str) -> io::Result<Self::File> {
+        host::fs::File::open(path)
+    }
+
+    fn metadata(&self, path: &str) -> io::Result<runtime::fs::Metadata> {
+        host::fs::metadata(path)
+    }
+}
 
 impl HostRuntime {
     pub fn alloc(&self) -> alloc::Global {

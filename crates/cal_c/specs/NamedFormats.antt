@@ -32,7 +32,7 @@ pub record AreNames (p : NamesParts) : Type 0 where
   pub periods : All IsName (texts p.periods)
   pub lower_periods : All IsName (texts p.lower_periods)
 
--- The bytes are those of the names.
+-- The parts have the bytes of the names.
 pub record HasNames (p : NamesParts) (t : Names) : Type 0 where
   pub months : texts p.months ≡ texts t.months
   pub months_alone : texts p.months_alone ≡ texts t.months_alone
@@ -63,7 +63,8 @@ abbrev pub ambiguous : NamesError → NamesCheckResult
 ambiguous (AmbiguousNames n i j) = record { status = AMBIGUOUS_NAMES; byte = 0; item = n; name = i; other = j }
 ambiguous (AmbiguousNumber n b) = record { status = AMBIGUOUS_NUMBER; byte = b; item = n; name = no_position; other = no_position }
 
--- The strings of the items with the names read back, or the first item doesn't that has the error.
+-- The strings of the items with the names read back, or the result has the first item that doesn't, with
+-- its error.
 pub record IsCheckOf (items : List Item) (t : Names) (r : NamesCheckResult) : Type 0 where
   pub ok : ReadBack t items → r ≡ check_error OK
   pub error : ¬ ReadBack t items → (e : NamesError) × IsNamesError t items 0 e × (r ≡ ambiguous e)
@@ -74,8 +75,8 @@ abbrev pub IsPrintedWith : NamesParts → List Item → Bool → Moment → List
 IsPrintedWith p items shown v old new r = WithNames p (λ t. IsPrinted shown (text_in t items v) old new r)
 
 -- ---- parsing
--- The result is the value that the items hold and print with the names as the text, or says why the
--- text is rejected. If two values could have the same text, it is the first item with that error.
+-- The result is the value that the items hold and print with the names as the text, or why the text is
+-- rejected. If two values could have the same text, it is the error of the first such item.
 pub record IsReadWith {V R : Type 0} (IsHeld : List Item → V → Type 0) (moment_of : V → Moment) (ok : V → R) (error_at : ℤ → ℕ → R) (text : List ℕ) (t : Names) (items : List Item) (r : R) : Type 0 where
   pub parsed : ReadBack t items → IsParsed (λ v. IsHeld items v × (text ≡ text_in t items (moment_of v))) (IsRejectionIn t items text) ok error_at r
   pub ambiguous : ¬ ReadBack t items → (e : NamesError) × IsNamesError t items 0 e × (r ≡ error_at (names_status e) (names_item e))

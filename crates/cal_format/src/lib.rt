@@ -63,6 +63,7 @@ pub use lenient_formats::{
     LenientDateFormat, LenientDateTimeFormat, LenientOffsetDateTimeFormat, LenientTimeFormat,
 };
 pub use moment::Moment;
+pub use print::print_items;
 pub use value_formats::{
     DateFormat, DateTimeFormat, OffsetDateTimeFormat, OffsetFormat, TimeFormat,
 };

@@ -14,9 +14,10 @@ use crate::item::{Component, Item, Name, Padding};
 use crate::moment::{Moment, iso_year};
 use cal_time::ShortText;
 
-/// Writes what the items print of a moment to the buffer, from this position on. Returns the end,
-/// or `None` if the buffer is too short.
-pub(crate) fn print_items(
+/// Writes what the items print of a value to the buffer, from this position on, with an abbreviation
+/// for `%Z`. Returns the end. Returns `None` if the buffer is too short, and then leaves only the
+/// bytes before the position as they are. The items of `%d.%m.` write `29.02.` for 2024-02-29.
+pub fn print_items(
     items: &[Item],
     moment: &Moment,
     abbreviation: &[u8],

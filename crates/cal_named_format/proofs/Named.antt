@@ -218,6 +218,10 @@ pub other-shape : (t : Names) (i : Item) → ((k : Name) → i ≡ item.Name k �
 other-shape t (item.Name k) h f = absurd (h k refl)
 other-shape t _ h f = refl
 
+pub other-text : (t : Names) (v : Moment) (i : Item) → ((k : Name) → i ≡ item.Name k → ⊥) → item_text [] v i ≡ item_text_in t v i
+other-text t v (item.Name k) h = absurd (h k refl)
+other-text t v _ h = refl
+
 pub other-numbered : (t : Names) (i : Item) → ((k : Name) → i ≡ item.Name k → ⊥) → (n : ℕ) → numbered_item_in t i n ≡ numbered_item i n
 other-numbered t (item.Name k) h n = absurd (h k refl)
 other-numbered t _ h n = refl

@@ -4,7 +4,7 @@ ghost use Rattle.cal_format.specs.Printing.{Writes};
 ghost use Rattle.cal_named_format.specs.Named.{item_text_in, text_in};
 
 use crate::scanning::{first_number, table_of};
-use cal_format::{Item, Moment};
+use cal_format::{Item, Moment, print_items};
 use cal_names::Names;
 
 /// Writes what the items print of a value to the buffer, from this position on, with these names in
@@ -47,7 +47,7 @@ fn print_item(
             let text = table_of(names, name)[usize::from(index)];
             put(buffer, at, text.as_bytes())
         }
-        _ => item.print(moment, buffer, at),
+        _ => print_items(&[item], moment, b"", buffer, at),
     }
 }
 

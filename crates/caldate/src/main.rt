@@ -11,7 +11,6 @@ use caldate_args::args::arguments::{BUFFER_BYTES, join};
 use caldate_args::args::asked_by;
 use caldate_args::args::usage_error::UsageError;
 use caldate_args::command::Command;
-use caldate_args::data_files::DataFiles;
 use caldate_args::data_files::system_files::SystemFiles;
 use caldate_args::files::Joined;
 use caldate_args::files::named_files::NamedFiles;
@@ -19,6 +18,7 @@ use caldate_args::holidays::MAX_HOLIDAYS;
 use caldate_args::zones::zone_source::{MAX_FILE_BYTES, MAX_PATH_BYTES, find_folder};
 use caldate_run::clock::read_clock;
 use caldate_run::program::{perform, perform_on_files};
+use std::fs::Files;
 use std::io;
 use std::process::ExitCode;
 
@@ -37,7 +37,7 @@ fn main(rt: HostRuntime) -> ExitCode {
     let asked = parse_words(words, now, &mut files);
     let words = words.unwrap_or(b"");
     match joined.and_then(|joined| joined.first_file) {
-        Some(first) => answer_files(&rt, asked, words, &now, first),
+        Some(first) => answer_files(rt, asked, words, &now, first),
         None => answer_input(&rt, asked, words, &now),
     }
 }
@@ -45,10 +45,10 @@ fn main(rt: HostRuntime) -> ExitCode {
 /// Parses the arguments.
 // Not inlined, as the two below: parsing and the run use the same part of the stack.
 #[inline(never)]
-fn parse_words<'a, D: DataFiles<'a>>(
+fn parse_words<'a, S: Files>(
     words: Option<&'a [u8]>,
     now: Option<PlainDateTime>,
-    files: &mut D,
+    files: &mut SystemFiles<'_, 'a, S>,
 ) -> Result<Command<'a>, UsageError<'a>>
     ensures steps { IfOk result HasValidStep }
 {
@@ -75,7 +75,7 @@ fn answer_input(
 /// Answers the lines of the files from the one with this index on.
 #[inline(never)]
 fn answer_files(
-    rt: &HostRuntime,
+    rt: HostRuntime,
     asked: Result<Command<'_>, UsageError<'_>>,
     words: &[u8],
     now: &Option<PlainDateTime>,
@@ -83,9 +83,10 @@ fn answer_files(
 ) -> ExitCode
     requires { IfOk asked HasValidStep }
 {
-    let mut input = Joined::new(NamedFiles::new(rt, first, rt.reader(), rt.stderr()));
-    let mut writer = io::writer(rt);
+    let mut writer = io::writer(&rt);
     let mut errors = rt.stderr();
+    let (reader, own_errors) = (rt.reader(), rt.stderr());
+    let mut input = Joined::new(NamedFiles::new(rt, first, reader, own_errors));
     let ending = perform_on_files(asked, words, now, &mut input, &mut writer, &mut errors);
     ExitCode::from(ending.status)
 }

@@ -6,6 +6,7 @@ pub mod DigitBounds
 pub mod DigitStarts
 pub mod Durations
 pub mod FirstForms
+pub mod InLanguage
 pub mod InYear
 pub mod Lacks
 pub mod Laters

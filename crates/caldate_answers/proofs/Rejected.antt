@@ -188,39 +188,62 @@ own_rejection items ns v (UnexpectedEnd p) holds same h = h
 own_rejection items ns v (OutOfRange c) holds same h = own_range_error items v c holds (subst (λ l. IsRangeError items l c) same h)
 own_rejection items ns v (Contradiction name) holds same h = own_difference items v name holds (subst (λ l. IsContradiction items l name) same h)
 
--- ---- a text of items that are apart has one error
-stops : (items : List Item) (text : List ℕ) (p : ℕ) → IsPosition (HasForm items) text p → p < length text → HasForm items text → ⊥
-stops items text p at low form =
-    at.no_further low (record { more = drop (p + 1) text; text = subst (HasForm items) (sym (take-append-drop (p + 1) text)) form })
+-- ---- a text has one error, if its numbers give it the form and are the only ones
+abbrev pub IsRejectionBy : (List ℕ → Type 0) → (List ℕ → Type 0) → List Item → List ℕ → ParseError → Type 0
+IsRejectionBy Form Has items text (UnexpectedByte p) = IsPosition Form text p × (p < length text)
+IsRejectionBy Form Has items text (UnexpectedEnd p) = IsPosition Form text p × (p ≡ length text) × ¬ Form text
+IsRejectionBy Form Has items text e = (ns : List ℕ) × Has ns × IsNumberRejection items ns e
 
--- An error of the numbers, whose text has the form.
-abbrev IsNumbered : List Item → List ℕ → ParseError → Type 0
-IsNumbered items text e = (ns : List ℕ) × HasNumbers items ns text × IsNumberRejection items ns e
+pub record AreNumbersOf (Form Has : List ℕ → Type 0) (text : List ℕ) : Type 0 where
+  pub form : (ns : List ℕ) → Has ns → Form text
+  pub only : (ns ms : List ℕ) → Has ns → Has ms → ns ≡ ms
 
-pub numbered_form : (items : List Item) (text : List ℕ) (e : ParseError) → IsTrue (are_apart items) → IsNumbered items text e → HasForm items text
-numbered_form items text e apart h = has-form items h.0 text apart h.1
+stops : (Form : List ℕ → Type 0) (text : List ℕ) (p : ℕ) → IsPosition Form text p → p < length text → Form text → ⊥
+stops Form text p at low form =
+    at.no_further low (record { more = drop (p + 1) text; text = subst Form (sym (take-append-drop (p + 1) text)) form })
 
-same_numbered : (items : List Item) (text : List ℕ) (e f : ParseError) → IsTrue (are_apart items) → IsNumbered items text e → IsNumbered items text f → format_reason_of e ≡ format_reason_of f
-same_numbered items text e f apart h k =
-    number_reason items k.0 e f (subst (λ l. IsNumberRejection items l e) (one-numbers items h.0 k.0 text apart h.1 k.1) h.2) k.2
+same_numbered : (Has : List ℕ → Type 0) (items : List Item) (e f : ParseError) → ((ns ms : List ℕ) → Has ns → Has ms → ns ≡ ms) → (ns : List ℕ) × Has ns × IsNumberRejection items ns e → (ns : List ℕ) × Has ns × IsNumberRejection items ns f
+    → format_reason_of e ≡ format_reason_of f
+same_numbered Has items e f only h k =
+    number_reason items k.0 e f (subst (λ l. IsNumberRejection items l e) (only h.0 k.0 h.1 k.1) h.2) k.2
+
+one_by : (Form Has : List ℕ → Type 0) (items : List Item) (text : List ℕ) → AreNumbersOf Form Has text → IsOne (IsRejectionBy Form Has items text)
+one_by Form Has items text numbers (UnexpectedByte p) (UnexpectedByte q) h k = refl
+one_by Form Has items text numbers (UnexpectedByte p) (UnexpectedEnd q) h k = refl
+one_by Form Has items text numbers (UnexpectedByte p) (OutOfRange d) h k = absurd (stops Form text p h.0 h.1 (numbers.form k.0 k.1))
+one_by Form Has items text numbers (UnexpectedByte p) (Contradiction b) h k = absurd (stops Form text p h.0 h.1 (numbers.form k.0 k.1))
+one_by Form Has items text numbers (UnexpectedEnd p) (UnexpectedByte q) h k = refl
+one_by Form Has items text numbers (UnexpectedEnd p) (UnexpectedEnd q) h k = refl
+one_by Form Has items text numbers (UnexpectedEnd p) (OutOfRange d) h k = absurd (h.2 (numbers.form k.0 k.1))
+one_by Form Has items text numbers (UnexpectedEnd p) (Contradiction b) h k = absurd (h.2 (numbers.form k.0 k.1))
+one_by Form Has items text numbers (OutOfRange c) (UnexpectedByte q) h k = absurd (stops Form text q k.0 k.1 (numbers.form h.0 h.1))
+one_by Form Has items text numbers (OutOfRange c) (UnexpectedEnd q) h k = absurd (k.2 (numbers.form h.0 h.1))
+one_by Form Has items text numbers (OutOfRange c) (OutOfRange d) h k = same_numbered Has items (OutOfRange c) (OutOfRange d) numbers.only h k
+one_by Form Has items text numbers (OutOfRange c) (Contradiction b) h k = same_numbered Has items (OutOfRange c) (Contradiction b) numbers.only h k
+one_by Form Has items text numbers (Contradiction a) (UnexpectedByte q) h k = absurd (stops Form text q k.0 k.1 (numbers.form h.0 h.1))
+one_by Form Has items text numbers (Contradiction a) (UnexpectedEnd q) h k = absurd (k.2 (numbers.form h.0 h.1))
+one_by Form Has items text numbers (Contradiction a) (OutOfRange d) h k = same_numbered Has items (Contradiction a) (OutOfRange d) numbers.only h k
+one_by Form Has items text numbers (Contradiction a) (Contradiction b) h k = same_numbered Has items (Contradiction a) (Contradiction b) numbers.only h k
+
+pub one_of : (R : ParseError → Type 0) (Form Has : List ℕ → Type 0) (items : List Item) (text : List ℕ) → ((e : ParseError) → R e → IsRejectionBy Form Has items text e) → AreNumbersOf Form Has text → IsOne R
+one_of R Form Has items text by numbers e f h k = one_by Form Has items text numbers e f (by e h) (by f k)
+
+-- ---- English names
+rejection_by : (items : List Item) (text : List ℕ) (e : ParseError) → IsRejection items text e → IsRejectionBy (HasForm items) (λ ns. HasNumbers items ns text) items text e
+rejection_by items text (UnexpectedByte p) h = h
+rejection_by items text (UnexpectedEnd p) h = h
+rejection_by items text (OutOfRange c) h = h
+rejection_by items text (Contradiction name) h = h
 
 pub one_rejection : (items : List Item) (text : List ℕ) → IsTrue (are_apart items) → IsOne (IsRejection items text)
-one_rejection items text apart (UnexpectedByte p) (UnexpectedByte q) h k = refl
-one_rejection items text apart (UnexpectedByte p) (UnexpectedEnd q) h k = refl
-one_rejection items text apart (UnexpectedByte p) (OutOfRange d) h k = absurd (stops items text p h.0 h.1 (numbered_form items text (OutOfRange d) apart k))
-one_rejection items text apart (UnexpectedByte p) (Contradiction b) h k = absurd (stops items text p h.0 h.1 (numbered_form items text (Contradiction b) apart k))
-one_rejection items text apart (UnexpectedEnd p) (UnexpectedByte q) h k = refl
-one_rejection items text apart (UnexpectedEnd p) (UnexpectedEnd q) h k = refl
-one_rejection items text apart (UnexpectedEnd p) (OutOfRange d) h k = absurd (h.2 (numbered_form items text (OutOfRange d) apart k))
-one_rejection items text apart (UnexpectedEnd p) (Contradiction b) h k = absurd (h.2 (numbered_form items text (Contradiction b) apart k))
-one_rejection items text apart (OutOfRange c) (UnexpectedByte q) h k = absurd (stops items text q k.0 k.1 (numbered_form items text (OutOfRange c) apart h))
-one_rejection items text apart (OutOfRange c) (UnexpectedEnd q) h k = absurd (k.2 (numbered_form items text (OutOfRange c) apart h))
-one_rejection items text apart (OutOfRange c) (OutOfRange d) h k = same_numbered items text (OutOfRange c) (OutOfRange d) apart h k
-one_rejection items text apart (OutOfRange c) (Contradiction b) h k = same_numbered items text (OutOfRange c) (Contradiction b) apart h k
-one_rejection items text apart (Contradiction a) (UnexpectedByte q) h k = absurd (stops items text q k.0 k.1 (numbered_form items text (Contradiction a) apart h))
-one_rejection items text apart (Contradiction a) (UnexpectedEnd q) h k = absurd (k.2 (numbered_form items text (Contradiction a) apart h))
-one_rejection items text apart (Contradiction a) (OutOfRange d) h k = same_numbered items text (Contradiction a) (OutOfRange d) apart h k
-one_rejection items text apart (Contradiction a) (Contradiction b) h k = same_numbered items text (Contradiction a) (Contradiction b) apart h k
+one_rejection items text apart =
+    one_of (IsRejection items text) (HasForm items) (λ ns. HasNumbers items ns text) items text (rejection_by items text) (record {
+      form = λ ns h. has-form items ns text apart h;
+      only = λ ns ms h k. one-numbers items ns ms text apart h k;
+    })
+
+abbrev IsNumbered : List Item → List ℕ → ParseError → Type 0
+IsNumbered items text e = (ns : List ℕ) × HasNumbers items ns text × IsNumberRejection items ns e
 
 held_numbered : (items : List Item) (v : Moment) (text : List ℕ) (e : ParseError) → IsTrue (are_apart items) → Holds items v → text ≡ text_of items v → IsNumbered items text e → ⊥
 held_numbered items v text e apart holds is h =
@@ -232,5 +255,5 @@ unrejected items v text c apart holds is (inr (name, h, same)) = held_numbered i
 
 -- A string with an error of a component has the form.
 pub error_form : (items : List Item) (text : List ℕ) (c : ComponentRange) → IsTrue (are_apart items) → IsComponentError (IsRejection items text) c → HasForm items text
-error_form items text c apart (inl h) = numbered_form items text (OutOfRange c) apart h
-error_form items text c apart (inr (name, h, same)) = numbered_form items text (Contradiction name) apart h
+error_form items text c apart (inl h) = has-form items h.0 text apart h.1
+error_form items text c apart (inr (name, h, same)) = has-form items h.0 text apart h.1

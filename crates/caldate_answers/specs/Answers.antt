@@ -9,6 +9,7 @@ use Rattle.cal_datetime.specs.DateTime.{IsDateTime, date_time}
 use Rattle.cal_datetime.specs.OffsetDateTime.{LocalAndOffset, instant, local_at, unix_seconds}
 use Rattle.cal_duration.specs.DurationText.{duration_text}
 use Rattle.cal_format.specs.declared.item.Item.{Item}
+use Rattle.cal_names.specs.declared.names.Names.{Names}
 use Rattle.cal_schedule.specs.Period.{Parts}
 use Rattle.cal_text.specs.declared.any.DateOrMoment.{DateOrMoment}
 use Rattle.cal_text.specs.declared.any.DateOrMoment.TheVariants as read
@@ -23,7 +24,7 @@ use Rattle.caldate_answers.specs.Clocks.{IsPlaced}
 use Rattle.caldate_answers.specs.Counts.{IsCount}
 use Rattle.caldate_answers.specs.ClockCounts.{IsCountOn}
 use Rattle.caldate_answers.specs.Bounds.{lies_in}
-use Rattle.caldate_answers.specs.Forms.{IsInForm, format_text}
+use Rattle.caldate_answers.specs.Forms.{IsInForm, IsNamed, format_text}
 pub use Rattle.caldate_answers.specs.Found.{day_of, form_iso, form_read, is_date, moment_of}
 use Rattle.caldate_answers.specs.ClockMoves.{IsMovedOn}
 pub use Rattle.caldate_answers.specs.Moves.{floored, on_day}
@@ -42,7 +43,7 @@ use Rattle.caldate_answers.specs.declared.request.Move.TheVariants as move
 use Rattle.caldate_answers.specs.declared.request.Place.{Place}
 use Rattle.caldate_answers.specs.declared.request.Place.TheVariants as place
 use Rattle.caldate_answers.specs.declared.request.Request.{Request}
-use Rattle.caldate_answers.specs.declared.request.Request.TheVariants.{To, ToIso, Print, Move, MoveAt, Until, Since, At, PrintAt, Keep}
+use Rattle.caldate_answers.specs.declared.request.Request.TheVariants.{To, ToIso, Print, Move, MoveAt, Until, Since, At, PrintAt, PrintNamed, PrintNamedAt, Keep}
 use Rattle.caldate_answers.specs.declared.request.Target.TheVariants as target
 use Rattle.caldate_answers.specs.declared.request.TimeUnit.{TimeUnit}
 
@@ -95,6 +96,9 @@ IsAt place form from words = (m : LocalAndOffset) × IsShownAt (offset_in place 
 
 abbrev pub IsPrintedAt : Place → List Item → LocalAndOffset → List ℕ → Type 0
 IsPrintedAt place items from words = (m : LocalAndOffset) × IsShownAt (offset_in place from) from m × (words ≡ format_text items m)
+
+abbrev pub IsNamedAt : Place → Names → List Item → LocalAndOffset → List ℕ → Type 0
+IsNamedAt place names items from words = (m : LocalAndOffset) × IsShownAt (offset_in place from) from m × IsNamed names items m words
 
 -- The words are the moved day in the form that was read, at the same time of day.
 abbrev pub IsOnMovedDay : WorkWeek → DayMove → DateOrMoment → List ℕ → Type 0
@@ -162,12 +166,14 @@ abbrev pub IsAnswerTo : Option Clock → WorkWeek → Request → List ℕ → D
 IsAnswerTo clock workdays (To form) text found words = IsInForm form (moment_of found) words
 IsAnswerTo clock workdays ToIso text found words = IsInForm (form_iso found) (moment_of found) words
 IsAnswerTo clock workdays (Print items) text found words = words ≡ format_text items (moment_of found)
+IsAnswerTo clock workdays (PrintNamed items names) text found words = IsNamed names.now items (moment_of found) words
 IsAnswerTo clock workdays (Move by) text found words = IsMovedBy clock workdays by found words
 IsAnswerTo clock workdays (MoveAt other by) text found words = IsMovedAt other workdays by (Moment Rfc3339) (moment_of found) words
 IsAnswerTo clock workdays (Until own (target.Text to) unit) text found words = IsBetweenBy (own_clock own clock) workdays unit found to words
 IsAnswerTo clock workdays (Since own (target.Text from) unit) text found words = IsBetweenBy (own_clock own clock) workdays unit from found words
 IsAnswerTo clock workdays (At place form) text found words = IsAt place form (moment_of found) words
 IsAnswerTo clock workdays (PrintAt place items) text found words = IsPrintedAt place items (moment_of found) words
+IsAnswerTo clock workdays (PrintNamedAt place items names) text found words = IsNamedAt place names.now items (moment_of found) words
 IsAnswerTo clock workdays (Keep bounds) text found words = (lies_in bounds found ≡ Some true) × (words ≡ text)
 IsAnswerTo clock workdays other text found words = ⊥
 

@@ -7,10 +7,12 @@ use Rattle.cal_format.specs.Lenient.{IsLenientRejection}
 use Rattle.cal_format.specs.Rejection.{IsRejection}
 use Rattle.cal_format.specs.declared.error.ParseError.{ParseError}
 use Rattle.cal_format.specs.declared.error.ParseError.TheVariants.{Contradiction, OutOfRange}
+use Rattle.cal_named_format.specs.Rejection.{IsRejectionIn}
 use Rattle.cal_text.specs.declared.any.DateOrMoment.{DateOrMoment}
+use Rattle.caldate_answers.specs.Languages.{kind_items}
 use Rattle.caldate_answers.specs.Variants.{lenient_of}
 use Rattle.caldate_answers.specs.declared.reading.value_format.ValueFormat.{ValueFormat}
-use Rattle.caldate_answers.specs.declared.reading.value_format.ValueFormat.TheVariants.{Dates, Moments, DateTimes, Lenient}
+use Rattle.caldate_answers.specs.declared.reading.value_format.ValueFormat.TheVariants.{Dates, Moments, DateTimes, Lenient, InLanguage}
 use Rattle.caldate_lines.specs.declared.no_answer.NoAnswer.{NoAnswer}
 use Rattle.caldate_lines.specs.declared.no_answer.NoAnswer.TheVariants as why
 
@@ -24,6 +26,7 @@ IsFormatError (Dates items) text any = IsComponentError (IsRejection items text)
 IsFormatError (Moments items) text any = IsComponentError (IsRejection items text) any
 IsFormatError (DateTimes items) text any = IsComponentError (IsRejection items text) any
 IsFormatError (Lenient format) text any = IsComponentError (IsLenientRejection (lenient_of format) text) any
+IsFormatError (InLanguage format) text any = IsComponentError (IsRejectionIn format.0 (kind_items format.1) text) any
 
 -- The reason names the component, or says that the string doesn't have the form.
 abbrev pub IsReasonBy : (ComponentRange → Type 0) → NoAnswer → Type 0

@@ -1,5 +1,5 @@
 -- The string of a moment in each form.
-use Rattle.std.specs.Prelude.{◌≡◌, ℕ, ℤ, pos, ◌≤ℤ◌, List, ◌++◌, codes, take, [], ◌∷◌}
+use Rattle.std.specs.Prelude.{◌≡◌, ℕ, ℤ, pos, ◌≤ℤ◌, ◌≤◌, List, ◌++◌, codes, length, take, [], ◌∷◌}
 use Rattle.std.specs.Fmt.{signed_decimal}
 use Rattle.std.specs.Int.{int_div_euclid}
 use Rattle.cal_time.specs.Date.{year_at, month_at, day_of_month_at, weekday_at}
@@ -13,11 +13,14 @@ use Rattle.cal_format.specs.declared.item.Item.{Item}
 use Rattle.cal_format.specs.Moment.{moment_of_offset_date_time}
 use Rattle.cal_format.specs.Text.{text_of}
 use Rattle.cal_datetime.specs.OffsetDateTime.{LocalAndOffset, instant, unix_nanoseconds}
+use Rattle.cal_names.specs.declared.names.Names.{Names}
+use Rattle.cal_named_format.specs.Named.{text_in}
 use Rattle.cal_schedule.specs.Months.{quarter_at}
 use Rattle.cal_text.specs.AnyForm.{date_text}
 use Rattle.cal_text.specs.Rfc3339.{HasMomentText, moment_text}
 use Rattle.cal_text.specs.UnixText.{unix_text}
 use Rattle.cal_text.specs.declared.any.MomentForm.TheVariants as moment
+use Rattle.caldate_lines.specs.Room.{longest_answer}
 use Rattle.caldate_answers.specs.declared.request.Form.{Form}
 use Rattle.caldate_answers.specs.declared.request.Form.TheVariants.{Date, Weekday, Moment, ShortWeekday, Month, Quarter, Basic, Unix}
 use Rattle.caldate_answers.specs.declared.request.UnixUnit.{UnixUnit}
@@ -52,6 +55,11 @@ units_in Nanoseconds v = v
 -- The string of a moment in a format.
 abbrev pub format_text : List Item → LocalAndOffset → List ℕ
 format_text items m = text_of items (moment_of_offset_date_time m)
+
+-- The words are the string of a moment in a format with these names. Such a string has at most 1000
+-- bytes.
+abbrev pub IsNamed : Names → List Item → LocalAndOffset → List ℕ → Type 0
+IsNamed names items m words = (length words ≤ longest_answer) × (words ≡ text_in names items (moment_of_offset_date_time m))
 
 -- The words are the string of a moment in the form.
 abbrev pub IsInForm : Form → LocalAndOffset → List ℕ → Type 0

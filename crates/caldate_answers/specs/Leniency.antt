@@ -3,13 +3,14 @@ use Rattle.std.specs.Prelude.{◌≡◌, ◌-◌, ℕ, Bool, false, List, length
 use Rattle.cal_format.specs.Lenient.{ReadsDates, ReadsDateTimes, ReadsOffsetDateTimes, lacks_century}
 use Rattle.cal_format.specs.declared.item.Item.{Item}
 use Rattle.cal_format.specs.declared.lenient.LenientFormat.{LenientFormat}
+use Rattle.caldate_answers.specs.Languages.{kind_items}
 use Rattle.caldate_answers.specs.Variants.{lenient_items}
 use Rattle.caldate_answers.specs.declared.reading.lenient.LenientKind.{LenientKind}
 use Rattle.caldate_answers.specs.declared.reading.lenient.LenientKind.TheVariants as lenient
 use Rattle.caldate_answers.specs.declared.reading.reader.Reader.{Reader}
 use Rattle.caldate_answers.specs.declared.reading.reader.Reader.TheVariants.{Format, Yearless}
 use Rattle.caldate_answers.specs.declared.reading.value_format.ValueFormat.{ValueFormat}
-use Rattle.caldate_answers.specs.declared.reading.value_format.ValueFormat.TheVariants.{Dates, Moments, DateTimes, Lenient}
+use Rattle.caldate_answers.specs.declared.reading.value_format.ValueFormat.TheVariants.{Dates, Moments, DateTimes, Lenient, InLanguage}
 
 -- The items of a format.
 abbrev pub items_in : ValueFormat → List Item
@@ -17,6 +18,7 @@ items_in (Dates items) = items
 items_in (Moments items) = items
 items_in (DateTimes items) = items
 items_in (Lenient format) = lenient_items format
+items_in (InLanguage format) = kind_items format.1
 
 -- The items of a format without a year, which a slash and the year follow.
 abbrev pub without_year : List Item → List Item
@@ -34,6 +36,7 @@ IsForSameValues (Dates items) format found = ReadsDates format × (found ≡ len
 IsForSameValues (Moments items) format found = ReadsOffsetDateTimes format × (found ≡ lenient.Moments format)
 IsForSameValues (DateTimes items) format found = ReadsDateTimes format × (found ≡ lenient.DateTimes format)
 IsForSameValues (Lenient other) format found = ⊥
+IsForSameValues (InLanguage other) format found = ⊥
 
 abbrev pub IsLenientFormat : Option ℕ → ValueFormat → LenientKind → Type 0
 IsLenientFormat pivot format found = IsForSameValues format (record { format = read_items pivot (items_in format); pivot = pivot }) found

@@ -8,6 +8,7 @@ pub mod Counts
 pub mod FormatErrors
 pub mod Forms
 pub mod Found
+pub mod Languages
 pub mod Leniency
 pub mod Moves
 pub mod Nearness

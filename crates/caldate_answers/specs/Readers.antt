@@ -19,6 +19,7 @@ use Rattle.cal_text.specs.declared.any.DateOrMoment.TheVariants as dated
 use Rattle.cal_text.specs.declared.any.MomentForm.TheVariants.{Rfc3339}
 use Rattle.caldate_answers.specs.FormatErrors.{IsFormatError, IsReadBy, IsReasonBy}
 use Rattle.caldate_answers.specs.Found.{day_of}
+use Rattle.caldate_answers.specs.Languages.{IsTextInLanguage}
 use Rattle.caldate_answers.specs.Nearness.{IsNearestTo}
 use Rattle.caldate_answers.specs.Readings.{HasFormIn, IsErrorIn, IsTextIn}
 use Rattle.caldate_answers.specs.Spellings.{full_by}
@@ -34,7 +35,7 @@ use Rattle.caldate_answers.specs.declared.reading.reader.Reader.{Reader}
 use Rattle.caldate_answers.specs.declared.reading.reader.Reader.TheVariants.{Named, Local, Spelled, Format, Yearless}
 use Rattle.caldate_answers.specs.declared.reading.spelling.Spelling.{Spelling}
 use Rattle.caldate_answers.specs.declared.reading.value_format.ValueFormat.{ValueFormat}
-use Rattle.caldate_answers.specs.declared.reading.value_format.ValueFormat.TheVariants.{Dates, Moments, DateTimes, Lenient}
+use Rattle.caldate_answers.specs.declared.reading.value_format.ValueFormat.TheVariants.{Dates, Moments, DateTimes, Lenient, InLanguage}
 
 -- ---- formats: the string is what the items print of a value that they hold
 pub record IsDateText (items : List Item) (text : List ℕ) (n : ℕ) : Type 0 where
@@ -63,6 +64,7 @@ IsFormatText offset (Moments items) text found = (m : LocalAndOffset) × IsMomen
 IsFormatText offset (DateTimes items) text found =
     (z : ℤ) × IsDateTimeText items text z × (found ≡ dated.Moment Rfc3339 (record { local = z; offset = offset }))
 IsFormatText offset (Lenient format) text found = IsVariantText offset format text found
+IsFormatText offset (InLanguage format) text found = IsTextInLanguage offset format.0 format.1 text found
 
 -- The result of reading a string in the format. A date or moment has no error.
 abbrev pub IsReadIn : ℤ → ValueFormat → List ℕ → Result DateOrMoment NoAnswer → Type 0

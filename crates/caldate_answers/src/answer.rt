@@ -6,10 +6,10 @@ ghost use Rattle.cal_schedule.specs.Period.{Parts};
 ghost use Rattle.cal_text.specs.declared.any.DateOrMoment.{DateOrMoment};
 ghost use Rattle.caldate_lines.specs.Room.{HasRoom, longest_answer};
 ghost use Rattle.caldate_lines.specs.declared.no_answer.NoAnswer.{NoAnswer};
-ghost use Rattle.caldate_answers.specs.Answers.{IsAnswer, IsAnswerAfter, IsAnswerLater, IsAnswerNearest, IsAnswerTo, IsAt, IsBetween, IsBetweenBy, IsBetweenOn, IsMeasured, IsMeasuredOn, IsPrintedAt, form_iso, IsDayLater, IsLater, IsMomentLater, IsMoved, IsMovedAt, IsMovedBy, IsNotRead, IsOnMovedDay, IsReadAs, compares, floored, form_read, is_date, keeps, moment_of, offset_in, on_day, own_clock, until_text};
+ghost use Rattle.caldate_answers.specs.Answers.{IsAnswer, IsAnswerAfter, IsAnswerLater, IsAnswerNearest, IsAnswerTo, IsAt, IsBetween, IsBetweenBy, IsBetweenOn, IsMeasured, IsMeasuredOn, IsPrintedAt, form_iso, IsDayLater, IsLater, IsMomentLater, IsMoved, IsMovedAt, IsMovedBy, IsNamedAt, IsNotRead, IsOnMovedDay, IsReadAs, compares, floored, form_read, is_date, keeps, moment_of, offset_in, on_day, own_clock, until_text};
 ghost use Rattle.caldate_answers.specs.Bounds.{lies_in};
 ghost use Rattle.caldate_answers.specs.ClockCounts.{IsCountOn};
-ghost use Rattle.caldate_answers.specs.Forms.{IsInForm, format_text};
+ghost use Rattle.caldate_answers.specs.Forms.{IsInForm, IsNamed, format_text};
 ghost use Rattle.caldate_answers.specs.Periods.{IsPeriodBetween, IsPeriodOn, IsPeriodText};
 ghost use Rattle.caldate_answers.specs.Readers.{IsUnreadIn};
 ghost use Rattle.caldate_answers.specs.Readings.{IsTextIn};
@@ -51,7 +51,9 @@ use crate::request::{
     Bounds, Clock, DayMove, Filter, Form, Measure, Move, Place, Request, Target, TimeUnit,
 };
 use cal_datetime::OffsetDateTime;
-use cal_format::Format;
+use cal_format::{Format, Moment};
+use cal_named_format::print;
+use cal_names::Names;
 use cal_rounding::RoundingUnit;
 use cal_schedule::{Period, Workdays};
 use cal_text::{DateForm, DateOrMoment, MomentForm};
@@ -63,6 +65,9 @@ use caldate_lines::output::buffer::Buffer;
 
 /// The maximum length of a string that a format prints: 15 bytes for each of 64 items.
 const LONGEST_PRINTED: usize = 960;
+
+/// The maximum length of an answer.
+const LONGEST_ANSWER: usize = 1000;
 
 /// Appends the answer to `text`, and returns whether its line goes out.
 // The results of rare calls are matched, so that no line waits for one in memory.
@@ -240,6 +245,9 @@ fn push_answer_to(
             push_printed(buffer, format, moment_of(found));
             true
         }
+        Request::PrintNamed(format, names) => {
+            push_named(buffer, format, names, moment_of(found))
+        }
         Request::Move(by) => push_moved_by(buffer, clock, workdays, by, found),
         Request::MoveAt(clock, by) => {
             let form = Form::Moment(MomentForm::Rfc3339);
@@ -258,6 +266,9 @@ fn push_answer_to(
         Request::At(place, form) => push_at(buffer, place, *form, moment_of(found)),
         Request::PrintAt(place, format) => {
             push_printed_at(buffer, place, format, moment_of(found))
+        }
+        Request::PrintNamedAt(place, format, names) => {
+            push_named_at(buffer, place, format, names, moment_of(found))
         }
         Request::Keep(bounds) => push_kept(buffer, bounds, text, found),
     }
@@ -363,6 +374,33 @@ fn push_in_form(buffer: &mut Buffer, form: Form, moment: OffsetDateTime) -> bool
         Form::Unix(unit) => push_whole_unix(buffer, unit, moment),
     }
     true
+}
+
+/// Appends a moment in a format with the names of a language, or nothing. Returns whether the
+/// string has at most 1000 bytes.
+#[inline(never)]
+fn push_named(
+    buffer: &mut Buffer,
+    format: &Format,
+    names: &Names<'_>,
+    moment: OffsetDateTime,
+) -> bool
+    requires { HasRoom longest_answer buffer.old }
+    ensures has { result ≡ true
+        → AppendsSome (IsNamed names.now format.now moment) buffer.old buffer.new }
+    ensures none { result ≡ false → (buffer.new ≡ buffer.old)
+        × ((words : List ℕ) → ¬ IsNamed names.now format.now moment words) }
+    ensures short { length buffer.new ≤ length buffer.old + longest_answer }
+{
+    let moment = Moment::of_offset_date_time(moment);
+    let mut text = [0u8; LONGEST_ANSWER];
+    match print(format.items(), names, &moment, &mut text, 0) {
+        Some(end) => {
+            buffer.push(&text[..end]);
+            true
+        }
+        None => false,
+    }
 }
 
 /// Appends a moment in a format.
@@ -587,6 +625,29 @@ fn push_printed_at(
             push_printed(buffer, format, there);
             true
         }
+        None => false,
+    }
+}
+
+/// Appends the moment in the place in a format with the names of a language, or nothing. Returns
+/// whether it is in range there and the string has at most 1000 bytes.
+#[inline(never)]
+fn push_named_at(
+    buffer: &mut Buffer,
+    place: &Place<'_>,
+    format: &Format,
+    names: &Names<'_>,
+    moment: OffsetDateTime,
+) -> bool
+    requires { HasRoom longest_answer buffer.old }
+    ensures has { result ≡ true
+        → AppendsSome (IsNamedAt place.now names.now format.now moment) buffer.old buffer.new }
+    ensures none { result ≡ false → (buffer.new ≡ buffer.old)
+        × ((words : List ℕ) → ¬ IsNamedAt place.now names.now format.now moment words) }
+    ensures short { length buffer.new ≤ length buffer.old + longest_answer }
+{
+    match moment.checked_to_offset(offset_in(place, moment)) {
+        Some(there) => push_named(buffer, format, names, there),
         None => false,
     }
 }

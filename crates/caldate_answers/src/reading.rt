@@ -9,6 +9,7 @@ ghost use Rattle.caldate_answers.specs.Readings.{HasFormIn, IsErrorIn, IsTextIn}
 mod date;
 mod digits;
 pub(crate) mod full_text;
+pub mod in_language;
 mod iso;
 pub mod lenient;
 mod local;

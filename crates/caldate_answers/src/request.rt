@@ -6,6 +6,7 @@ ghost use Rattle.caldate_answers.specs.Targets.{target_fields, target_name};
 use crate::reading::Readers;
 use crate::reading::reader::Assumptions;
 use cal_format::Format;
+use cal_names::Names;
 use cal_rounding::RoundingUnit;
 use cal_schedule::{CalendarUnit, Period, Workdays};
 use cal_text::{DateForm, DateOrMoment, MomentForm};
@@ -164,6 +165,8 @@ pub enum Request<'a> {
     ToIso,
     /// `to FORMAT`: the same date or moment in this format.
     Print(Format),
+    /// The same with the names of a language.
+    PrintNamed(Format, &'static Names<'static>),
     /// The moved date or moment, such as `add N UNIT`.
     Move(Move),
     /// `at ZONE` or `at OFFSET`, and a move: the moment moved by these clocks, at their offset.
@@ -179,6 +182,8 @@ pub enum Request<'a> {
     At(Place<'a>, Form),
     /// `at OFFSET` or `at ZONE`, and `to FORMAT`: the same in this format.
     PrintAt(Place<'a>, Format),
+    /// The same with the names of a language.
+    PrintNamedAt(Place<'a>, Format, &'static Names<'static>),
     /// `keep BOUNDS`: the line itself if it lies within the bounds, otherwise nothing.
     Keep(Bounds),
 }
@@ -227,6 +232,14 @@ impl<'a> Request<'a> {
             Request::Until(Some(clock), _, _) => Some(clock),
             Request::Since(Some(clock), _, _) => Some(clock),
             _ => None,
+        }
+    }
+
+    /// Returns whether the request prints the names of a language.
+    pub fn is_named(&self) -> bool {
+        match self {
+            Request::PrintNamed(_, _) | Request::PrintNamedAt(_, _, _) => true,
+            _ => false,
         }
     }
 

@@ -22,14 +22,14 @@ pub mod words;
 
 use crate::args::bounds::bounds_at;
 use crate::args::clock_words::{is_day_word, now_in, now_on};
-use crate::args::formats::{to_at_place_of, to_of};
+use crate::args::formats::{is_in_language, to_at_place_of, to_of};
 use crate::args::listing::list_of;
 use crate::args::names::{CommandName, MoveVerb, Verb};
 use crate::args::numbers::counts_of;
 use crate::args::offset::offset_of;
 use crate::args::options::{
-    Options, ReaderChoices, assumptions_in, field_of, no_options, parse_options, readers_in,
-    unmet_in, zone_of,
+    Options, ReaderChoices, assumptions_in, field_of, language_in, no_options, parse_options,
+    readers_in, unmet_in, zone_of,
 };
 use crate::args::requirement::Requirement;
 use crate::args::spelling::{
@@ -38,11 +38,12 @@ use crate::args::spelling::{
 };
 use crate::args::target::target_at;
 use crate::args::usage_error::{Expected, UsageError, requirement_at, usage_error_at};
-use crate::args::words::{cut, ended, ends_at, only_at, word_as, word_at};
+use crate::args::words::{check_end, cut, ends_at, only_at, word_as, word_at};
 use crate::command::Command;
-use crate::data_files::DataFiles;
+use crate::data_files::system_files::SystemFiles;
 use crate::zones::{is_zone_like, zone_with};
 use cal_datetime::{OffsetDateTime, PlainDateTime};
+use cal_names::Names;
 use cal_schedule::Workdays;
 use cal_text::MomentForm;
 use cal_time::{SignedDuration, Weekday};
@@ -57,12 +58,13 @@ use caldate_lines::lines::next_line;
 use caldate_lines::on_invalid::OnInvalid;
 use caldate_lines::quoting::Quoting;
 use caldate_lines::several_fields::{RankedField, SeveralFields};
+use std::fs::Files;
 
 /// Parses arguments with zero bytes between them, or `None` if they are too long.
-pub fn asked_by<'a, D: DataFiles<'a>>(
+pub fn asked_by<'a, S: Files>(
     arguments: Option<&'a [u8]>,
     now: Option<PlainDateTime>,
-    files: &mut D,
+    files: &mut SystemFiles<'_, 'a, S>,
 ) -> Result<Command<'a>, UsageError<'a>>
     ensures steps { IfOk result HasValidStep }
 {
@@ -75,10 +77,10 @@ pub fn asked_by<'a, D: DataFiles<'a>>(
 /// Parses arguments with zero bytes between them, or returns the first invalid or missing word. In
 /// `add 1 fortnight` the word at index 2 is not a unit. The words `today` and `now` mean the
 /// date-time `now`, which is at UTC.
-pub fn parse_args<'a, D: DataFiles<'a>>(
+pub fn parse_args<'a, S: Files>(
     words: &'a [u8],
     now: Option<PlainDateTime>,
-    files: &mut D,
+    files: &mut SystemFiles<'_, 'a, S>,
 ) -> Result<Command<'a>, UsageError<'a>>
     ensures steps { IfOk result HasValidStep }
 {
@@ -91,11 +93,11 @@ pub fn parse_args<'a, D: DataFiles<'a>>(
         Some(CommandName::List) => list_of(words, &now_in(&None, now), files),
         Some(CommandName::Date) => once_of(words, now, files),
         Some(CommandName::Help) => {
-            ended(words, 1, ())?;
+            check_end(words, 1)?;
             Ok(Command::Help)
         }
         Some(CommandName::Version) => {
-            ended(words, 1, ())?;
+            check_end(words, 1)?;
             Ok(Command::Version)
         }
         None => Ok(lines_command(filter_at(words, Some(words), (0, false), now, files)?)),
@@ -103,10 +105,12 @@ pub fn parse_args<'a, D: DataFiles<'a>>(
 }
 
 /// Parses the string after `--date`, options and a request.
-fn once_of<'a, D: DataFiles<'a>>(
+// Filters and requests are large, so the frames of the callers don't have their copies.
+#[inline(never)]
+fn once_of<'a, S: Files>(
     words: &'a [u8],
     now: Option<PlainDateTime>,
-    files: &mut D,
+    files: &mut SystemFiles<'_, 'a, S>,
 ) -> Result<Command<'a>, UsageError<'a>>
     ensures steps { IfOk result HasValidStep }
 {
@@ -163,17 +167,18 @@ fn named_field(filter: &Filter<'_>) -> Option<Field> {
 
 /// Parses options and a request from the word at an index on, where `rest` is. With the index comes
 /// whether the only text is the date of a clock, such as `today`.
-fn filter_at<'a, D: DataFiles<'a>>(
+fn filter_at<'a, S: Files>(
     words: &'a [u8],
     rest: Option<&'a [u8]>,
     start: (usize, bool),
     now: Option<PlainDateTime>,
-    files: &mut D,
+    files: &mut SystemFiles<'_, 'a, S>,
 ) -> Result<Filter<'a>, UsageError<'a>>
     requires few { start.0 ≤ 2 }
 {
     let (at, is_day) = start;
-    let mut options = no_options();
+    let mut options: Options<'a> = no_options();
+    options.language = language_in(rest);
     let at = parse_options(&mut options, rest, at, files)?;
     if let (true, Some(index)) = (options.lenient, options.ambiguous) {
         return Err(usage_error_at(index, Expected::LenientFormat));
@@ -182,7 +187,11 @@ fn filter_at<'a, D: DataFiles<'a>>(
         return Err(requirement_at(at, requirement));
     }
     let now = now_in(&options.zone, now);
-    let request = request_at(words, at, policy_of(options.policy), now, files)?;
+    let choices = RequestChoices {
+        policy: policy_of(options.policy),
+        names: options.language,
+    };
+    let request = request_at(words, at, choices, now, files)?;
     filter_with(at, options, request)
 }
 
@@ -214,9 +223,21 @@ fn unmet_by(options: &Options<'_>, request: &Request<'_>) -> Option<Requirement>
         Some(Requirement::WorkdaysOnly)
     } else if options.policy.is_some() && options.zone.is_none() && !request.moves_at() {
         Some(Requirement::ZoneOption)
+    } else if options.has_language && !uses_language(options, request) {
+        Some(Requirement::LanguageFormat)
     } else {
         None
     }
+}
+
+/// Returns whether a format is read or printed with the names of the language.
+fn uses_language(options: &Options<'_>, request: &Request<'_>) -> bool {
+    request.is_named()
+        || options
+            .readers
+            .as_slice()
+            .iter()
+            .any(|reader| is_in_language(reader))
 }
 
 fn filter_of<'a>(options: Options<'a>, request: Request<'a>) -> Filter<'a> {
@@ -297,24 +318,34 @@ fn default_mode(request: &Request<'_>, part: bool) -> OnInvalid {
     }
 }
 
+/// The options for the request.
+#[derive(Clone, Copy)]
+struct RequestChoices {
+    /// The policy of `--ambiguous`.
+    policy: Policy,
+    /// The names of `--language`.
+    names: Option<&'static Names<'static>>,
+}
+
 /// Parses the request whose verb has this index.
-fn request_at<'a, D: DataFiles<'a>>(
+#[inline(never)]
+fn request_at<'a, S: Files>(
     words: &'a [u8],
     at: usize,
-    policy: Policy,
+    choices: RequestChoices,
     now: Option<OffsetDateTime>,
-    files: &mut D,
+    files: &mut SystemFiles<'_, 'a, S>,
 ) -> Result<Request<'a>, UsageError<'a>>
     requires { at + 7 < 2 ^ 64 }
 {
     let verb = word_as(words, at, verb_of, expected_verb(at))?;
     let at = at + 1;
     match verb {
-        Verb::To => to_at(words, at),
+        Verb::To => to_at(words, at, choices.names),
         Verb::Move(verb) => Ok(Request::Move(move_of(verb, words, at)?)),
         Verb::Until => until_at(words, at, None, now),
         Verb::Since => since_at(words, at, None, now),
-        Verb::At => at_place(words, at, policy, now, files),
+        Verb::At => at_place(words, at, choices, now, files),
         Verb::Keep => Ok(Request::Keep(bounds_at(words, at, now)?)),
     }
 }
@@ -349,13 +380,22 @@ fn weekday_at(words: &[u8], at: usize) -> Result<Weekday, UsageError<'static>>
 }
 
 /// Parses `FORM` or `FORMAT`.
-fn to_at(words: &[u8], at: usize) -> Result<Request<'static>, UsageError<'static>>
+fn to_at(
+    words: &[u8],
+    at: usize,
+    names: Option<&'static Names<'static>>,
+) -> Result<Request<'static>, UsageError<'static>>
     requires { at + 1 < 2 ^ 64 }
 {
     let usage_error = usage_error_at(at, Expected::Form);
-    let word = word_at(words, at).ok_or(usage_error)?;
-    let request = to_of(word).ok_or(usage_error)?;
-    ended(words, at + 1, request)
+    let Some(word) = word_at(words, at) else {
+        return Err(usage_error);
+    };
+    let Some(request) = to_of(word, names) else {
+        return Err(usage_error);
+    };
+    check_end(words, at + 1)?;
+    Ok(request)
 }
 
 /// Parses `PERIOD`, `day`, `hour`, `minute` or `N minutes`.
@@ -408,27 +448,24 @@ fn end_at(words: &[u8], at: usize) -> Result<Move, UsageError<'static>>
 }
 
 /// Parses `OFFSET` or `ZONE`, perhaps with a move, `until` or `since`.
-fn at_place<'a, D: DataFiles<'a>>(
+fn at_place<'a, S: Files>(
     words: &'a [u8],
     at: usize,
-    policy: Policy,
+    choices: RequestChoices,
     now: Option<OffsetDateTime>,
-    files: &mut D,
+    files: &mut SystemFiles<'_, 'a, S>,
 ) -> Result<Request<'a>, UsageError<'a>>
     requires { at + 6 < 2 ^ 64 }
 {
     let place = place_at(words, at, files)?;
     let Some(verb) = word_at(words, at + 1).and_then(verb_of) else {
-        return ended(
-            words,
-            at + 1,
-            Request::At(place, Form::Moment(MomentForm::Rfc3339)),
-        );
+        check_end(words, at + 1)?;
+        return Ok(Request::At(place, Form::Moment(MomentForm::Rfc3339)));
     };
     if let Verb::To = verb {
-        return to_at_place(words, at + 2, place);
+        return to_at_place(words, at + 2, place, choices.names);
     }
-    let Some(clock) = clock_in(place, policy) else {
+    let Some(clock) = clock_in(place, choices.policy) else {
         return Err(usage_error_at(at, Expected::Place));
     };
     let now = now_on(&clock.zone, now);
@@ -445,22 +482,26 @@ fn to_at_place<'a>(
     words: &'a [u8],
     at: usize,
     place: Place<'a>,
+    names: Option<&'static Names<'static>>,
 ) -> Result<Request<'a>, UsageError<'a>>
     requires { at + 1 < 2 ^ 64 }
 {
     let usage_error = usage_error_at(at, Expected::Form);
-    let word = word_at(words, at).ok_or(usage_error)?;
-    match to_at_place_of(word, place) {
-        Some(request) => ended(words, at + 1, request),
-        None => Err(usage_error),
-    }
+    let Some(word) = word_at(words, at) else {
+        return Err(usage_error);
+    };
+    let Some(request) = to_at_place_of(word, place, names) else {
+        return Err(usage_error);
+    };
+    check_end(words, at + 1)?;
+    Ok(request)
 }
 
 /// Parses `OFFSET` or `ZONE`, after which words may follow.
-fn place_at<'a, D: DataFiles<'a>>(
+fn place_at<'a, S: Files>(
     words: &'a [u8],
     at: usize,
-    files: &mut D,
+    files: &mut SystemFiles<'_, 'a, S>,
 ) -> Result<Place<'a>, UsageError<'a>> {
     if names_zone(words, at) {
         return Ok(Place::Zone(first_zone_at(words, at, files)?));
@@ -514,22 +555,23 @@ fn names_zone(words: &[u8], at: usize) -> bool {
 }
 
 /// Parses `ZONE`, the last word.
-pub(crate) fn zone_at<'a, D: DataFiles<'a>>(
+pub(crate) fn zone_at<'a, S: Files>(
     words: &'a [u8],
     at: usize,
-    files: &mut D,
+    files: &mut SystemFiles<'_, 'a, S>,
 ) -> Result<Zone<'a>, UsageError<'a>>
     requires { at + 1 < 2 ^ 64 }
 {
     let zone = first_zone_at(words, at, files)?;
-    ended(words, at + 1, zone)
+    check_end(words, at + 1)?;
+    Ok(zone)
 }
 
 /// Parses `ZONE`, after which words may follow.
-fn first_zone_at<'a, D: DataFiles<'a>>(
+fn first_zone_at<'a, S: Files>(
     words: &'a [u8],
     at: usize,
-    files: &mut D,
+    files: &mut SystemFiles<'_, 'a, S>,
 ) -> Result<Zone<'a>, UsageError<'a>> {
     let usage_error = usage_error_at(at, Expected::Zone);
     let name = word_at(words, at).ok_or(usage_error)?;

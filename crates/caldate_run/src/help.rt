@@ -94,6 +94,8 @@ Options, before or after a command:
                         zeros, names in any case or by three letters, and any
                         white space for white space
   --pivot YEAR          with --lenient: the first of the 100 years of %y
+  --language LANGUAGE   formats have the names of ar, de, en, es, fr, it, ja, pl,
+                        pt, ru, tr or zh
   --holidays FILE       with workdays: the dates in that file aren't workdays,
                         nor those of its rules, such as 11-4TH, or those of a
                         calendar: target, us-federal, nyse, england-and-wales,

@@ -156,11 +156,11 @@ pub fn perform<R: Source, W: Sink, E: Sink>(
 
 /// Performs the command as `perform` does, and reads the files as one input. Returns the ending of
 /// `perform`, with status 2 if a file couldn't be read.
-pub fn perform_on_files<S: Env + Files, I: Read + Drop, F: Sink + Drop, W: Sink, E: Sink>(
+pub fn perform_on_files<S: Env + Files + Drop, I: Read + Drop, F: Sink + Drop, W: Sink, E: Sink>(
     asked: Result<Command<'_>, UsageError<'_>>,
     arguments: &[u8],
     now: &Option<PlainDateTime>,
-    files: &mut Joined<NamedFiles<'_, S, I, F>>,
+    files: &mut Joined<NamedFiles<S, I, F>>,
     writer: &mut W,
     errors: &mut E,
 ) -> Ending

@@ -28,10 +28,12 @@ pub fn why_unanswered(
         Request::To(_)
         | Request::ToIso
         | Request::Print(_)
+        | Request::PrintNamed(_, _)
         | Request::Until(_, _, _)
         | Request::Since(_, _, _)
         | Request::At(_, _)
         | Request::PrintAt(_, _)
+        | Request::PrintNamedAt(_, _, _)
         | Request::Keep(_) => NoAnswer::None,
     }
 }

@@ -172,7 +172,7 @@ fn for_same_values(other: &ValueFormat, format: LenientFormat) -> Option<Lenient
         ValueFormat::Dates(_) => Some(LenientKind::Dates(format.for_dates()?)),
         ValueFormat::Moments(_) => Some(LenientKind::Moments(format.for_offset_date_times()?)),
         ValueFormat::DateTimes(_) => Some(LenientKind::DateTimes(format.for_date_times()?)),
-        ValueFormat::Lenient(_) => None,
+        ValueFormat::Lenient(_) | ValueFormat::InLanguage(_) => None,
     }
 }
 

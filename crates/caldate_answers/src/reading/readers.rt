@@ -1,5 +1,5 @@
 //! The forms that a line is read in.
-ghost use Rattle.std.specs.Prelude.{◌≡◌, ◌↔◌, ◌<◌, ◌≤◌, ◌++◌, ◌∷◌, [], IfErr, IfOk, IsTrue, Err, Ok, length, set};
+ghost use Rattle.std.specs.Prelude.{◌≡◌, ◌↔◌, ◌+◌, ◌<◌, ◌≤◌, ◌++◌, ◌∷◌, [], IfErr, IfOk, IsTrue, Err, Ok, length, set, take};
 ghost use Rattle.cal_text.specs.declared.any.DateOrMoment.{DateOrMoment};
 ghost use Rattle.caldate_answers.specs.Readers.{IsFoundBy, IsUnread, first_reason, has_form};
 ghost use Rattle.caldate_lines.specs.declared.no_answer.NoAnswer.{NoAnswer};
@@ -20,14 +20,14 @@ pub struct Readers {
 }
 
 impl Model for Readers {
-    ghost use Rattle.std.specs.Prelude.{◌≤◌, List, take};
+    ghost use Rattle.std.specs.Prelude.{◌≡◌, ◌≤◌, List, length, take};
     ghost use Rattle.caldate_answers.specs.declared.reading.reader.Reader.{Reader};
 
     ghost Value = { List Reader };
 
     ghost view = { λ readers. take readers.count readers.items };
 
-    ghost invariant = { λ readers. readers.count ≤ 12 };
+    ghost invariant = { λ readers. (readers.count ≤ 12) × (length readers.items ≡ 12) };
 }
 
 impl Readers {
@@ -63,8 +63,9 @@ impl Readers {
         if self.as_slice().len() >= MAX_READERS {
             return false;
         }
-        self.items[self.count] = reader;
-        self.count += 1;
+        let count = self.count;
+        put(&mut self.items, count, reader);
+        self.count = count + 1;
         true
     }
 
@@ -73,7 +74,7 @@ impl Readers {
         ensures { self.new ≡ set self.old index reader }
     {
         if index < self.count {
-            self.items[index] = reader;
+            put(&mut self.items, index, reader);
         }
     }
 
@@ -84,6 +85,15 @@ impl Readers {
     {
         &self.items[..self.count]
     }
+}
+
+/// Replaces the form at an index.
+fn put(items: &mut [Reader; MAX_READERS], index: usize, reader: Reader)
+    requires { index < 12 }
+    ensures value { items.new ≡ set items.old index reader }
+    ensures front { take (index + 1) items.new ≡ take index items.old ++ reader ∷ [] }
+{
+    items[index] = reader;
 }
 
 /// Parses a string in the first form that it has, or returns why it has none.

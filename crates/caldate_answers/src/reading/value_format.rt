@@ -5,6 +5,7 @@ ghost use Rattle.caldate_answers.specs.FormatErrors.{format_reason_of};
 ghost use Rattle.caldate_answers.specs.Leniency.{items_in};
 ghost use Rattle.caldate_answers.specs.Readers.{IsReadIn};
 
+use crate::reading::in_language::LanguageFormat;
 use crate::reading::lenient::LenientKind;
 use cal_datetime::OffsetDateTime;
 use cal_format::{DateFormat, DateTimeFormat, Format, OffsetDateTimeFormat, ParseError};
@@ -24,6 +25,8 @@ pub enum ValueFormat {
     DateTimes(DateTimeFormat),
     /// A format of any of these that also reads variants of their strings.
     Lenient(LenientKind),
+    /// A format of any of these with the names of a language.
+    InLanguage(LanguageFormat),
 }
 
 impl ValueFormat {
@@ -40,6 +43,7 @@ impl ValueFormat {
             ValueFormat::Moments(format) => read_moment(format, text),
             ValueFormat::DateTimes(format) => read_date_time(format, offset, text),
             ValueFormat::Lenient(format) => format.read(offset, text),
+            ValueFormat::InLanguage(format) => format.read(offset, text),
         }
     }
 
@@ -52,6 +56,7 @@ impl ValueFormat {
             ValueFormat::Moments(format) => format.as_format(),
             ValueFormat::DateTimes(format) => format.as_format(),
             ValueFormat::Lenient(format) => format.as_format(),
+            ValueFormat::InLanguage(format) => format.as_format(),
         }
     }
 }

@@ -6,6 +6,7 @@ ghost use Rattle.cal_time.specs.declared.error.ComponentRange.{ComponentRange};
 ghost use Rattle.cal_text.specs.declared.any.DateOrMoment.{DateOrMoment};
 ghost use Rattle.caldate_lines.specs.declared.no_answer.NoAnswer.{NoAnswer};
 ghost use Rattle.caldate_answers.specs.FormatErrors.{IsFormatError};
+ghost use Rattle.caldate_answers.specs.Languages.{IsTextInLanguage};
 ghost use Rattle.caldate_answers.specs.Readers.{IsFormatText, IsFoundBy, IsTextBy, IsUnread, IsUnreadBy, has_form};
 ghost use Rattle.caldate_answers.specs.Readings.{HasFormIn};
 ghost use Rattle.caldate_answers.specs.Scans.{Bounds, IsText};
@@ -13,6 +14,7 @@ ghost use Rattle.caldate_answers.specs.Spellings.{full_by};
 ghost use Rattle.caldate_answers.specs.declared.reading.reader.Assumptions.{Assumptions};
 
 use crate::reading::full_text::LONGEST;
+use crate::reading::in_language::LanguageFormat;
 use crate::reading::reader::{Assumptions, Reader};
 use crate::reading::spelling::{Spelling, unix_text};
 use crate::reading::value_format::ValueFormat;
@@ -21,8 +23,9 @@ use crate::request::Filter;
 use crate::scan::byte_at;
 use crate::scan::start::has_usual;
 use crate::scan::variant_bound::variant_bound;
-use cal_format::Format;
+use cal_format::{Format, ParseError as FormatError};
 use cal_text::ParseError;
+use cal_time::UtcOffset;
 
 /// How many bytes at the front of a moment of ISO 8601 are as in RFC 3339.
 const UNCHANGED: usize = 18;
@@ -124,6 +127,30 @@ pub fn bound_by_format(format: &ValueFormat, bytes: &[u8]) -> usize
         ValueFormat::Moments(format) => bound_by_items(format.as_format(), bytes),
         ValueFormat::DateTimes(format) => bound_by_items(format.as_format(), bytes),
         ValueFormat::Lenient(format) => variant_bound(format.as_format().items(), false, bytes),
+        ValueFormat::InLanguage(format) => bound_in_language(format, bytes),
+    }
+}
+
+/// Returns the position at which the bytes leave the form of a format with names, or their length
+/// if they don't.
+fn bound_in_language(format: &LanguageFormat, bytes: &[u8]) -> usize
+    ensures within { result ≤ length bytes.now }
+    ensures front { (offset : ℤ) (n : ℕ) (more : List ℕ) (found : DateOrMoment)
+        → n ≤ length bytes.now
+        → IsTextInLanguage offset format.now.0 format.now.1 (take n bytes.now ++ more) found
+        → n ≤ result }
+    ensures error { (n : ℕ) (more : List ℕ) (any : ComponentRange)
+        → n ≤ length bytes.now
+        → IsFormatError (ValueFormat.InLanguage format.now) (take n bytes.now ++ more) any
+        → n ≤ result }
+{
+    let _items = format.as_format();
+    match format.parse(UtcOffset::UTC, bytes) {
+        Ok(_found) => bytes.len(),
+        Err(error) => match error {
+            FormatError::UnexpectedByte(at) | FormatError::UnexpectedEnd(at) => at,
+            FormatError::OutOfRange(_) | FormatError::Contradiction(_) => bytes.len(),
+        },
     }
 }
 

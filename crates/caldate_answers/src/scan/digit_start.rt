@@ -86,7 +86,7 @@ fn is_number_first(format: &ValueFormat) -> bool
         ValueFormat::Dates(format) => begins_with_zeros(format.as_format()),
         ValueFormat::Moments(format) => begins_with_zeros(format.as_format()),
         ValueFormat::DateTimes(format) => begins_with_zeros(format.as_format()),
-        ValueFormat::Lenient(_) => false,
+        ValueFormat::Lenient(_) | ValueFormat::InLanguage(_) => false,
     }
 }
 

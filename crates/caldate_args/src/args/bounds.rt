@@ -2,7 +2,7 @@
 ghost use Rattle.std.specs.Prelude.{◌+◌, ◌<◌, ◌^◌};
 
 use crate::args::usage_error::{Expected, UsageError, usage_error_at};
-use crate::args::words::{ended, found_at, keyword_at, word_at};
+use crate::args::words::{check_end, found_at, keyword_at, word_at};
 use cal_datetime::OffsetDateTime;
 use cal_text::DateOrMoment;
 use caldate_answers::request::Bounds;
@@ -36,7 +36,8 @@ fn bound_at(
     requires { at + 1 < 2 ^ 64 }
 {
     let bound = found_at(words, at, Expected::Target, now)?;
-    ended(words, at + 1, bound)
+    check_end(words, at + 1)?;
+    Ok(bound)
 }
 
 /// Parses `A to B`.

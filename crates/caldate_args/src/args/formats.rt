@@ -3,9 +3,14 @@ ghost use Rattle.std.specs.Prelude.{IfSome, IsTrue};
 ghost use Rattle.cal_format.specs.Reading.{are_moment_items};
 
 use crate::args::names::{FORMATS, FORMS, NamedReader, READERS, value_named};
+use crate::args::usage_error::{Expected, UsageError, usage_error_at};
+use crate::data_files::data_error::DataError;
 use cal_format::{Component, Format, Item, Padding};
+use cal_named_format::{NamesError, table_of};
+use cal_names::Names;
 use cal_text::MomentForm;
 use caldate_answers::reading::Reading;
+use caldate_answers::reading::in_language::{LanguageFormat, LanguageKind};
 use caldate_answers::reading::reader::Reader;
 use caldate_answers::reading::spelling::Spelling;
 use caldate_answers::reading::value_format::ValueFormat;
@@ -48,10 +53,97 @@ pub fn format_of(word: &[u8]) -> Option<Format>
     }
 }
 
-/// Parses the argument of `to`: the name of a form, or a format.
-pub fn to_of(word: &[u8]) -> Option<Request<'static>> {
+/// Returns the names for a format. A format that has a name, such as `rfc2822`, has English names.
+pub fn names_for(
+    word: &[u8],
+    names: Option<&'static Names<'static>>,
+) -> Option<&'static Names<'static>> {
+    if index_of(b'%', word).is_some() {
+        names
+    } else {
+        None
+    }
+}
+
+/// Returns whether the form is read with the names of a language.
+pub fn is_in_language(reader: &Reader) -> bool {
+    match reader {
+        Reader::Format(ValueFormat::InLanguage(_)) => true,
+        Reader::Yearless(ValueFormat::InLanguage(_)) => true,
+        _ => false,
+    }
+}
+
+/// Returns the form with the names of the language if it is a format, or the error if a string could
+/// have two values.
+// A form is large, so the frame of the caller doesn't have its copies.
+#[inline(never)]
+pub fn in_language(reader: Reader, names: &'static Names<'static>) -> Result<Reader, NamesError> {
+    match reader {
+        Reader::Format(format) => Ok(Reader::Format(named_format(format, names)?)),
+        Reader::Yearless(format) => Ok(Reader::Yearless(named_format(format, names)?)),
+        other => Ok(other),
+    }
+}
+
+/// Returns the format with the names of a language, or the error if two values could have the same
+/// string.
+fn named_format(
+    format: ValueFormat,
+    names: &'static Names<'static>,
+) -> Result<ValueFormat, NamesError> {
+    let kind = match format {
+        ValueFormat::Dates(format) => LanguageKind::Dates(format),
+        ValueFormat::Moments(format) => LanguageKind::Moments(format),
+        ValueFormat::DateTimes(format) => LanguageKind::DateTimes(format),
+        other => return Ok(other),
+    };
+    Ok(ValueFormat::InLanguage(LanguageFormat::new(names, kind)?))
+}
+
+/// Creates the error for a format in which a string could have two values. The word has this index.
+#[inline(never)]
+pub fn ambiguous_at(
+    index: usize,
+    word: &[u8],
+    names: &'static Names<'static>,
+    error: NamesError,
+) -> UsageError<'static> {
+    let invalid = usage_error_at(index, Expected::LanguageFormat);
+    match reason_of(error, word, names) {
+        Some(reason) => invalid.because(reason),
+        None => invalid,
+    }
+}
+
+/// Returns the reason for an error in a format.
+fn reason_of(
+    error: NamesError,
+    word: &[u8],
+    names: &'static Names<'static>,
+) -> Option<DataError<'static>> {
+    match error {
+        NamesError::AmbiguousNumber(_, byte) => Some(DataError::Number(byte)),
+        NamesError::AmbiguousNames(item, name, other) => {
+            let format = format_of(word)?;
+            let Item::Name(kind) = *format.items().get(item)? else {
+                return None;
+            };
+            let table = table_of(names, kind);
+            Some(DataError::Names(*table.get(name)?, *table.get(other)?))
+        }
+    }
+}
+
+/// Parses the argument of `to`: the name of a form, or a format, perhaps with the names of a
+/// language.
+pub fn to_of(word: &[u8], names: Option<&'static Names<'static>>) -> Option<Request<'static>> {
     if is_format(word) {
-        Some(Request::Print(format_of(word)?))
+        let format = format_of(word)?;
+        Some(match names_for(word, names) {
+            Some(names) => Request::PrintNamed(format, names),
+            None => Request::Print(format),
+        })
     } else if is_iso(word) {
         Some(Request::ToIso)
     } else {
@@ -60,9 +152,17 @@ pub fn to_of(word: &[u8]) -> Option<Request<'static>> {
 }
 
 /// Parses the argument of `to` after `at` and a place.
-pub fn to_at_place_of<'a>(word: &[u8], place: Place<'a>) -> Option<Request<'a>> {
+pub fn to_at_place_of<'a>(
+    word: &[u8],
+    place: Place<'a>,
+    names: Option<&'static Names<'static>>,
+) -> Option<Request<'a>> {
     if is_format(word) {
-        Some(Request::PrintAt(place, format_of(word)?))
+        let format = format_of(word)?;
+        Some(match names_for(word, names) {
+            Some(names) => Request::PrintNamedAt(place, format, names),
+            None => Request::PrintAt(place, format),
+        })
     } else if is_iso(word) {
         Some(Request::At(place, Form::Moment(MomentForm::Rfc3339)))
     } else {

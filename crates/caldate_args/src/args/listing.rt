@@ -5,10 +5,10 @@ ghost use Rattle.caldate_args.specs.Lists.{HasValidStep, IsStep};
 use crate::args::requirement::Requirement;
 use crate::args::spelling::{iso_period_of, parse_u32, unit_of};
 use crate::args::usage_error::{Expected, UsageError, requirement_at, usage_error_at};
-use crate::args::words::{ended, ends_at, found_at, keyword_at, word_as, word_at};
+use crate::args::words::{check_end, ends_at, found_at, keyword_at, word_as, word_at};
 use crate::args::{has_period, zone_at};
 use crate::command::{Command, Listing, Moments, Occurrences, Span, Step, StepUnit};
-use crate::data_files::DataFiles;
+use crate::data_files::system_files::SystemFiles;
 use cal_datetime::OffsetDateTime;
 use cal_recurrence::{Recurrence, parse, parse_days};
 use cal_schedule::Period;
@@ -17,13 +17,14 @@ use cal_time::Date;
 use cal_zone::Policy;
 use caldate_answers::request::{Clock, TimeUnit};
 use caldate_lines::lines::index_of;
+use std::fs::Files;
 
 /// Parses `list from A to B`, and perhaps `by N UNIT`, `by PERIOD` or `by RULE`, these perhaps with
 /// `at ZONE`.
-pub fn list_of<'a, D: DataFiles<'a>>(
+pub fn list_of<'a, S: Files>(
     words: &'a [u8],
     now: &Option<OffsetDateTime>,
-    files: &mut D,
+    files: &mut SystemFiles<'_, 'a, S>,
 ) -> Result<Command<'a>, UsageError<'a>>
     ensures steps { IfOk result HasValidStep }
 {
@@ -38,7 +39,7 @@ pub fn list_of<'a, D: DataFiles<'a>>(
     keyword_at(words, 3, b"to", Expected::UpTo)?;
     let last = date_at(words, 4, now)?;
     let step = step_of(words)?;
-    ended(words, after_step(words), ())?;
+    check_end(words, after_step(words))?;
     Ok(Command::Dates(Listing { first, last, step }))
 }
 
@@ -58,10 +59,10 @@ fn is_in_zone(words: &[u8]) -> bool {
 }
 
 /// Parses `A to B by N UNIT at ZONE` or `A to B by PERIOD at ZONE`, where A and B are two moments.
-fn moments_of<'a, D: DataFiles<'a>>(
+fn moments_of<'a, S: Files>(
     words: &'a [u8],
     now: &Option<OffsetDateTime>,
-    files: &mut D,
+    files: &mut SystemFiles<'_, 'a, S>,
 ) -> Result<Moments<'a>, UsageError<'a>>
     ensures { IfOk result (λ moments. IsStep moments.step) }
 {
@@ -84,10 +85,10 @@ fn moments_of<'a, D: DataFiles<'a>>(
 }
 
 /// Parses `A to B by RULE`, where A and B are two dates or two moments, perhaps with `at ZONE`.
-fn occurrences_of<'a, D: DataFiles<'a>>(
+fn occurrences_of<'a, S: Files>(
     words: &'a [u8],
     now: &Option<OffsetDateTime>,
-    files: &mut D,
+    files: &mut SystemFiles<'_, 'a, S>,
 ) -> Result<Occurrences<'a>, UsageError<'a>> {
     let first = found_at(words, 2, Expected::Target, *now)?;
     keyword_at(words, 3, b"to", Expected::UpTo)?;
@@ -99,10 +100,10 @@ fn occurrences_of<'a, D: DataFiles<'a>>(
 }
 
 /// Parses `at ZONE` after two moments and RULE, or the end of the words.
-fn span_at<'a, D: DataFiles<'a>>(
+fn span_at<'a, S: Files>(
     words: &'a [u8],
     span: Span<'a>,
-    files: &mut D,
+    files: &mut SystemFiles<'_, 'a, S>,
 ) -> Result<Span<'a>, UsageError<'a>> {
     if ends_at(words, 7) {
         return Ok(span);

@@ -11,7 +11,7 @@ pub fn message_for(expected: Expected) -> &'static str
     match expected {
         Expected::Requirement(requirement) => requirement.message(),
         Expected::Start => {
-            "unknown command; expected to, add, next, last, until, since, start, end, on-or-after, on-or-before, round, at, keep, list, --date, --invalid, --field, --append, --csv, --header, --scan, --separator, --skip, --read, --assume, --assume-year, --lenient, --pivot, --zone, --ambiguous, --holidays, --help or --version"
+            "unknown command; expected to, add, next, last, until, since, start, end, on-or-after, on-or-before, round, at, keep, list, --date, --invalid, --field, --append, --csv, --header, --scan, --separator, --skip, --read, --assume, --assume-year, --lenient, --pivot, --language, --zone, --ambiguous, --holidays, --help or --version"
         }
         Expected::Verb => {
             "unexpected argument; expected to, add, next, last, until, since, start, end, on-or-after, on-or-before, round, at, keep or another option"
@@ -69,6 +69,10 @@ pub fn message_for(expected: Expected) -> &'static str
         Expected::LenientFormat => {
             "ambiguous lenient format; expected no digit after a number, and no letter after a name"
         }
+        Expected::Language => {
+            "unknown language; expected ar, de, en, es, fr, it, ja, pl, pt, ru, tr or zh"
+        }
+        Expected::LanguageFormat => "ambiguous format",
         Expected::Place => {
             "invalid offset or zone; expected one such as +01:00, -05:30, Z or Europe/Berlin"
         }

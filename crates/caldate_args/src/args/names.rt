@@ -35,6 +35,7 @@ pub enum OptionName {
     Near,
     Lenient,
     Pivot,
+    Language,
     Zone,
     Ambiguous,
     Holidays,
@@ -74,7 +75,7 @@ pub enum CommandName {
 }
 
 /// The options before a request.
-pub(crate) const OPTIONS: [(&str, OptionName); 16] = [
+pub(crate) const OPTIONS: [(&str, OptionName); 17] = [
     ("--invalid", OptionName::Invalid),
     ("--field", OptionName::Field),
     ("--append", OptionName::Append),
@@ -88,6 +89,7 @@ pub(crate) const OPTIONS: [(&str, OptionName); 16] = [
     ("--assume-year", OptionName::AssumeYear),
     ("--lenient", OptionName::Lenient),
     ("--pivot", OptionName::Pivot),
+    ("--language", OptionName::Language),
     ("--zone", OptionName::Zone),
     ("--ambiguous", OptionName::Ambiguous),
     ("--holidays", OptionName::Holidays),

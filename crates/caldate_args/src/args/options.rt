@@ -1,19 +1,21 @@
 //! The options before a request.
 ghost use Rattle.std.specs.Prelude.{◌+◌, ◌≤◌, ◌^◌, IfOk};
 
-use crate::args::formats::reader_of;
+use crate::args::formats::{ambiguous_at, in_language, names_for, reader_of};
 use crate::args::names::{MODES, OPTIONS, OptionName, POLICIES, value_named};
 use crate::args::offset::offset_of;
 use crate::args::requirement::Requirement;
 use crate::args::spelling::parse_i64;
 use crate::args::usage_error::{Expected, UsageError, usage_error_at};
 use crate::args::words::cut;
-use crate::data_files::DataFiles;
+use crate::data_files::system_files::SystemFiles;
+use cal_names::{Names, names_of};
 use cal_schedule::Workdays;
 use cal_text::{DateOrMoment, parse_any};
 use cal_time::{Date, UtcOffset};
 use cal_zone::{Policy, Zone};
 use caldate_answers::answer::moves::workdays_except;
+use caldate_answers::reading::in_language::LanguageKind;
 use caldate_answers::reading::lenient::{lacks_century, lenient_reader};
 use caldate_answers::reading::reader::{Assumptions, Reader};
 use caldate_answers::reading::spelling::Spelling;
@@ -27,6 +29,7 @@ use caldate_lines::field_numbers::FieldNumbers;
 use caldate_lines::lines::index_of;
 use caldate_lines::on_invalid::OnInvalid;
 use caldate_lines::several_fields::{RankedField, SeveralFields};
+use std::fs::Files;
 
 /// A set of options before a request.
 #[derive(Drop)]
@@ -63,6 +66,10 @@ pub struct Options<'a> {
     pub pivot: Option<u16>,
     /// The index of the first format that can't be read leniently.
     pub ambiguous: Option<usize>,
+    /// The names of `--language LANGUAGE`, which are known before the other options.
+    pub language: Option<&'static Names<'static>>,
+    /// `true` if `--language` is among the options so far.
+    pub has_language: bool,
     /// The zone of `--zone NAME`.
     pub zone: Option<Zone<'a>>,
     /// The policy of `--ambiguous POLICY`.
@@ -90,6 +97,8 @@ pub fn no_options<'a>() -> Options<'a> {
         lenient: false,
         pivot: None,
         ambiguous: None,
+        language: None,
+        has_language: false,
         zone: None,
         policy: None,
         workdays: None,
@@ -120,11 +129,11 @@ enum OptionWord {
 
 /// Parses the options from the word at an index on, and returns the index of the word after them.
 // The options are large, so they are changed in place.
-pub fn parse_options<'a, D: DataFiles<'a>>(
+pub fn parse_options<'a, S: Files>(
     options: &mut Options<'a>,
     words: Option<&'a [u8]>,
     at: usize,
-    files: &mut D,
+    files: &mut SystemFiles<'_, 'a, S>,
 ) -> Result<usize, UsageError<'a>>
     requires { at ≤ 2 }
     ensures within { IfOk result (λ index. index ≤ 2 ^ 63 + 2) }
@@ -147,13 +156,35 @@ pub fn parse_options<'a, D: DataFiles<'a>>(
     }
 }
 
+/// Returns the names of the first `--language` among options that may be wrong otherwise.
+pub fn language_in(words: Option<&[u8]>) -> Option<&'static Names<'static>> {
+    let mut given = None;
+    let mut left = words;
+    while let Some(some) = left {
+        let (word, rest) = cut(some);
+        match given {
+            Some(OptionName::Language) => return names_of(word),
+            Some(option) => given = option_after(option, word),
+            None => {
+                let (name, value) = cut_value(word);
+                match option_of(name)? {
+                    OptionName::Language if is_joined(word) => return names_of(value),
+                    _ => given = option_before_value(word),
+                }
+            }
+        }
+        left = rest;
+    }
+    None
+}
+
 /// Parses one more word, which has this index: an option, or if `given` is an option, its value.
-fn parse_word<'a, D: DataFiles<'a>>(
+fn parse_word<'a, S: Files>(
     options: &mut Options<'a>,
     given: Option<OptionName>,
     word: &'a [u8],
     index: usize,
-    files: &mut D,
+    files: &mut SystemFiles<'_, 'a, S>,
 ) -> Result<OptionWord, UsageError<'a>> {
     if let Some(option) = given {
         return parse_value(options, option, word, index, files);
@@ -170,12 +201,12 @@ fn parse_word<'a, D: DataFiles<'a>>(
 }
 
 /// Parses the value of one more option.
-fn parse_value<'a, D: DataFiles<'a>>(
+fn parse_value<'a, S: Files>(
     options: &mut Options<'a>,
     option: OptionName,
     value: &'a [u8],
     index: usize,
-    files: &mut D,
+    files: &mut SystemFiles<'_, 'a, S>,
 ) -> Result<OptionWord, UsageError<'a>> {
     if let Some(next) = option_after(option, value) {
         return Ok(OptionWord::Part(Some(next)));
@@ -230,6 +261,7 @@ fn has_room_for(options: &Options<'_>, option: OptionName) -> bool {
         OptionName::AssumeYear | OptionName::Near => options.year.is_none(),
         OptionName::Lenient => !options.lenient,
         OptionName::Pivot => options.pivot.is_none(),
+        OptionName::Language => !options.has_language,
         OptionName::Zone => options.zone.is_none(),
         OptionName::Ambiguous => options.policy.is_none(),
         OptionName::Holidays => options.workdays.is_none(),
@@ -260,6 +292,7 @@ fn expected_value(option: OptionName) -> Expected {
         OptionName::AssumeYear => Expected::Year,
         OptionName::Near => Expected::Day,
         OptionName::Pivot => Expected::Pivot,
+        OptionName::Language => Expected::Language,
         OptionName::Zone => Expected::Zone,
         OptionName::Ambiguous => Expected::Policy,
         OptionName::Holidays => Expected::Holidays,
@@ -299,12 +332,12 @@ pub fn option_after(option: OptionName, value: &[u8]) -> Option<OptionName> {
 /// Sets the option, or returns the error if the value is invalid. An option without a value ignores
 /// it.
 // A proof costs more the longer a function is, so the options are in three.
-fn set_option<'a, D: DataFiles<'a>>(
+fn set_option<'a, S: Files>(
     options: &mut Options<'a>,
     option: OptionName,
     value: &'a [u8],
     invalid: UsageError<'a>,
-    files: &mut D,
+    files: &mut SystemFiles<'_, 'a, S>,
 ) -> Result<(), UsageError<'a>> {
     match option {
         OptionName::Csv => options.csv = true,
@@ -339,6 +372,10 @@ fn set_meaning(options: &mut Options<'_>, option: OptionName, value: &[u8]) -> O
         OptionName::AssumeYear => options.year = Some(AssumedYear::Is(year_of(value)?)),
         OptionName::Near => options.year = Some(AssumedYear::Near(day_of(value)?)),
         OptionName::Pivot => options.pivot = Some(pivot_of(value)?),
+        OptionName::Language => {
+            options.language = Some(names_of(value)?);
+            options.has_language = true;
+        }
         OptionName::Ambiguous => options.policy = Some(value_named(value, &POLICIES)?),
         _ => return None,
     }
@@ -346,10 +383,10 @@ fn set_meaning(options: &mut Options<'_>, option: OptionName, value: &[u8]) -> O
 }
 
 /// Returns the zone with this name, or the error with the reason why it has none.
-pub fn zone_of<'a, D: DataFiles<'a>>(
+pub fn zone_of<'a, S: Files>(
     name: &'a [u8],
     invalid: UsageError<'a>,
-    files: &mut D,
+    files: &mut SystemFiles<'_, 'a, S>,
 ) -> Result<Zone<'a>, UsageError<'a>> {
     match files.zone(name) {
         Ok(zone) => Ok(zone),
@@ -359,10 +396,10 @@ pub fn zone_of<'a, D: DataFiles<'a>>(
 
 /// Returns Monday to Friday without the holidays in the file with this name, or the error with the
 /// reason why it has none.
-fn workdays_of<'a, D: DataFiles<'a>>(
+fn workdays_of<'a, S: Files>(
     name: &[u8],
     invalid: UsageError<'a>,
-    files: &mut D,
+    files: &mut SystemFiles<'_, 'a, S>,
 ) -> Result<Workdays<'a>, UsageError<'a>> {
     match files.holidays(name) {
         Ok(days) => Ok(workdays_except(days)),
@@ -527,6 +564,13 @@ fn add_reader<'a>(
     {
         options.ambiguous = Some(invalid.index);
     }
+    let reader = match names_for(value, options.language) {
+        Some(names) => match in_language(reader, names) {
+            Ok(reader) => reader,
+            Err(error) => return Err(ambiguous_at(invalid.index, value, names, error)),
+        },
+        None => reader,
+    };
     options.readers.try_push(reader);
     if is_iso {
         options.readers.try_push(Reader::Named(Reading::IsoDate));
@@ -639,8 +683,16 @@ fn any_local(readers: &[Reader]) -> bool {
 fn is_local(reader: &Reader) -> bool {
     match reader {
         Reader::Local => true,
-        Reader::Format(ValueFormat::DateTimes(_)) => true,
-        Reader::Yearless(ValueFormat::DateTimes(_)) => true,
+        Reader::Format(format) | Reader::Yearless(format) => has_no_offset(format),
+        _ => false,
+    }
+}
+
+/// Returns whether the strings in the format have no offset.
+fn has_no_offset(format: &ValueFormat) -> bool {
+    match format {
+        ValueFormat::DateTimes(_) => true,
+        ValueFormat::InLanguage(format) => matches!(format.kind(), LanguageKind::DateTimes(_)),
         _ => false,
     }
 }
@@ -659,8 +711,16 @@ fn has_own(reader: &Reader) -> bool {
     match reader {
         Reader::Named(Reading::Any | Reading::Unix(_)) => true,
         Reader::Spelled(_) => true,
-        Reader::Format(ValueFormat::Moments(_)) => true,
-        Reader::Yearless(ValueFormat::Moments(_)) => true,
+        Reader::Format(format) | Reader::Yearless(format) => has_offset(format),
+        _ => false,
+    }
+}
+
+/// Returns whether the strings in the format have an offset.
+fn has_offset(format: &ValueFormat) -> bool {
+    match format {
+        ValueFormat::Moments(_) => true,
+        ValueFormat::InLanguage(format) => matches!(format.kind(), LanguageKind::Moments(_)),
         _ => false,
     }
 }
@@ -714,7 +774,9 @@ fn unmet_by_formats(options: &Options<'_>) -> Option<Requirement> {
     let has_pivot = options.pivot.is_some();
     let is_yearless = any_yearless(readers, has_pivot);
     let is_short = readers.iter().any(|reader| lacks_century(reader));
-    if has_pivot && !options.lenient {
+    if options.has_language && options.lenient {
+        Some(Requirement::LanguageOrLenient)
+    } else if has_pivot && !options.lenient {
         Some(Requirement::Lenient)
     } else if options.lenient && !readers.iter().any(|reader| is_format(reader)) {
         Some(Requirement::LenientFormat)

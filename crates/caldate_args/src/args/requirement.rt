@@ -50,6 +50,10 @@ pub enum Requirement {
     Lenient,
     /// A format whose only year is `%y`, which `--pivot` requires.
     ShortYear,
+    /// A format, which `--language` requires.
+    LanguageFormat,
+    /// Only one of `--language` and `--lenient`.
+    LanguageOrLenient,
     /// `--zone`, or `at ZONE` and a move, which `--ambiguous` requires.
     ZoneOption,
     /// Only one of `--assume` and `--zone`.
@@ -91,6 +95,8 @@ impl Requirement {
             Requirement::LenientFormat => "--lenient requires --read of a format",
             Requirement::Lenient => "--pivot requires --lenient",
             Requirement::ShortYear => "--pivot requires --read of a format whose year is %y",
+            Requirement::LanguageFormat => "--language requires a format such as %-d %B %Y",
+            Requirement::LanguageOrLenient => "--language can't be used with --lenient",
             Requirement::ZoneOption => "--ambiguous requires --zone, or at ZONE and a move",
             Requirement::OffsetOrZone => "--assume can't be used with --zone",
             Requirement::LocalOnly => "--zone requires --read of forms without an offset only",

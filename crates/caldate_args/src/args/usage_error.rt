@@ -68,6 +68,10 @@ pub enum Expected {
     Pivot,
     /// A format in which no two values can have the same string with `--lenient`.
     LenientFormat,
+    /// A language, such as `fr`.
+    Language,
+    /// A format in which no two values can have the same string with `--language`.
+    LanguageFormat,
     /// An offset from UTC or a zone. The word is not the name of a zone.
     Place,
     /// The name of a zone that can be read, such as `Europe/Berlin`.
@@ -107,7 +111,7 @@ pub struct UsageError<'a> {
     pub index: usize,
     /// The argument that is expected there.
     pub expected: Expected,
-    /// The reason why a word that ought to name a zone or holidays doesn't.
+    /// The reason why a word names no zone or no holidays, or is a format with an ambiguous string.
     pub reason: Option<DataError<'a>>,
 }
 
@@ -126,7 +130,7 @@ pub fn requirement_at(index: usize, requirement: Requirement) -> UsageError<'sta
 }
 
 impl UsageError<'_> {
-    /// Returns the same error with the reason why the word names no zone or no holidays.
+    /// Returns the same error with the reason why the word is wrong.
     pub fn because(self, reason: DataError<'_>) -> UsageError<'_> {
         UsageError {
             index: self.index,

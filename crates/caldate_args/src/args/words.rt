@@ -83,10 +83,10 @@ pub fn ends_at(words: &[u8], at: usize) -> bool {
     word_at(words, at).is_none()
 }
 
-/// Returns `meaning` if the words end at the index or before it.
-pub fn ended<T: Drop>(words: &[u8], at: usize, meaning: T) -> Result<T, UsageError<'static>> {
+/// Returns an error unless the words end at the index or before it.
+pub fn check_end(words: &[u8], at: usize) -> Result<(), UsageError<'static>> {
     if ends_at(words, at) {
-        Ok(meaning)
+        Ok(())
     } else {
         Err(usage_error_at(at, Expected::End))
     }
@@ -103,5 +103,6 @@ pub fn only_at<T: Drop, F: FnOnce(&[u8]) -> Option<T>>(
     requires fits { at + 1 < 2 ^ 64 }
 {
     let meaning = word_as(words, at, meaning, expected)?;
-    ended(words, at + 1, meaning)
+    check_end(words, at + 1)?;
+    Ok(meaning)
 }

@@ -1,4 +1,4 @@
-//! Why a word names no zone and no holidays.
+//! Why a word names no zone and no holidays, or is an ambiguous format.
 ghost use Rattle.std.specs.Prelude.{◌+◌, ◌≤◌, length};
 
 use crate::files::named_files::push_file_name;
@@ -9,7 +9,7 @@ use caldate_lines::output::buffer::Buffer;
 /// The maximum length of the folder and of the name to show. An argument isn't longer.
 const MAX_SHOWN: usize = 4096;
 
-/// A reason why a word names no zone or no holidays.
+/// A reason why a word names no zone or no holidays, or is a format with an ambiguous string.
 #[derive(Clone, Copy, Debug, PartialEq, Eq)]
 pub enum DataError<'a> {
     /// The word isn't the name of a zone.
@@ -20,6 +20,10 @@ pub enum DataError<'a> {
     Zone(&'a [u8], &'a [u8], ReadZoneError),
     /// The file has no holidays.
     Holidays(ReadHolidaysError),
+    /// The first name can go on to the other one, or is the same.
+    Names(&'a str, &'a str),
+    /// A number can go on with this byte.
+    Number(u8),
 }
 
 /// Appends the reason to a message: `; expected one such as Europe/Berlin`, or
@@ -43,7 +47,30 @@ pub fn push_data_error(line: &mut Buffer, error: DataError<'_>)
             line.push(b": ");
             push_holidays_error(line, error);
         }
+        DataError::Names(name, other) => push_names(line, name.as_bytes(), other.as_bytes()),
+        DataError::Number(byte) => {
+            line.push(b": a number can go on with '");
+            line.push(&[byte]);
+            line.push(b"'");
+        }
     }
+}
+
+/// Appends two names of which one can go on to the other: `: 'Pazar' can go on to 'Pazartesi'`.
+fn push_names(line: &mut Buffer, name: &[u8], other: &[u8])
+    requires { length line.old ≤ 600 }
+    ensures short { length line.new ≤ 9_000 }
+{
+    if name == other {
+        line.push(b": two names are '");
+        push_shown(line, name);
+    } else {
+        line.push(b": '");
+        push_shown(line, name);
+        line.push(b"' can go on to '");
+        push_shown(line, other);
+    }
+    line.push(b"'");
 }
 
 /// Appends the folder or the name.

@@ -5,7 +5,6 @@ ghost use Rattle.cal_time.specs.Date.{julian_day_at};
 ghost use Rattle.caldate_args.specs.Zones.{is_zone_name};
 
 use crate::args::names::value_named;
-use crate::data_files::DataFiles;
 use crate::data_files::data_error::DataError;
 use crate::holidays::calendar_holidays::calendar_holidays;
 use crate::holidays::read_holidays_error::ReadHolidaysError;
@@ -83,10 +82,9 @@ impl<'s, 'a, S: Files> SystemFiles<'s, 'a, S> {
             Err(error) => Err(ReadHolidaysError::File(error)),
         }
     }
-}
 
-impl<'a, S: Files> DataFiles<'a> for SystemFiles<'_, 'a, S> {
-    fn zone(&mut self, name: &'a [u8]) -> Result<Zone<'a>, DataError<'a>> {
+    /// Returns the zone with this name, or why it has none.
+    pub fn zone(&mut self, name: &'a [u8]) -> Result<Zone<'a>, DataError<'a>> {
         if !is_zone_name(name) {
             return Err(DataError::Name);
         }
@@ -99,7 +97,10 @@ impl<'a, S: Files> DataFiles<'a> for SystemFiles<'_, 'a, S> {
         }
     }
 
-    fn holidays(&mut self, name: &[u8]) -> Result<&'a [Date], DataError<'a>> {
+    /// Returns the holidays in the file with this name, in ascending order, or why it has none.
+    pub fn holidays(&mut self, name: &[u8]) -> Result<&'a [Date], DataError<'a>>
+        ensures { IfOk result (λ days. IsRising julian_day_at days.now) }
+    {
         match self.holidays_in(name) {
             Ok(days) => Ok(days),
             Err(error) => Err(DataError::Holidays(error)),

@@ -40,8 +40,8 @@ enum Current<F: Drop> {
 
 /// The files that arguments name, of which one is open at a time.
 #[derive(Drop)]
-pub struct NamedFiles<'a, S: Env + Files, R: Read + Drop, E: Sink + Drop> {
-    system: &'a S,
+pub struct NamedFiles<S: Env + Files + Drop, R: Read + Drop, E: Sink + Drop> {
+    system: S,
     /// The index of the argument that names the next file, or of an option before it.
     next: usize,
     /// `true` if no option comes any more, as after `--`.
@@ -52,13 +52,13 @@ pub struct NamedFiles<'a, S: Env + Files, R: Read + Drop, E: Sink + Drop> {
     has_failed: bool,
 }
 
-impl<'a, S: Env + Files, R: Read + Drop, E: Sink + Drop> NamedFiles<'a, S, R, E> {
+impl<S: Env + Files + Drop, R: Read + Drop, E: Sink + Drop> NamedFiles<S, R, E> {
     /// Creates a reader of the files that the arguments from the index `first` on name, with options
     /// between them up to a `--`. None is open yet. Standard input, whose name is `-`, is `input`, and
     /// failures are written to `errors`.
     ///
     /// In `caldate to week jan --skip 1 -`, the file `jan` has the index 3, and `-` the index 6.
-    pub fn new(system: &'a S, first: usize, input: R, errors: E) -> Self
+    pub fn new(system: S, first: usize, input: R, errors: E) -> Self
         ensures { result.has_failed ≡ false }
     {
         NamedFiles {
@@ -93,7 +93,7 @@ impl<'a, S: Env + Files, R: Read + Drop, E: Sink + Drop> NamedFiles<'a, S, R, E>
             self.current = Current::Input;
             return;
         }
-        let opened = open_any(self.system, name);
+        let opened = open_any(&self.system, name);
         self.go_to(name, opened);
     }
 
@@ -158,7 +158,7 @@ impl<'a, S: Env + Files, R: Read + Drop, E: Sink + Drop> NamedFiles<'a, S, R, E>
     }
 }
 
-impl<S: Env + Files, R: Read + Drop, E: Sink + Drop> Texts for NamedFiles<'_, S, R, E> {
+impl<S: Env + Files + Drop, R: Read + Drop, E: Sink + Drop> Texts for NamedFiles<S, R, E> {
     ghost rest = { λ files. None };
 
     ghost later = { λ files. None };
@@ -176,7 +176,7 @@ impl<S: Env + Files, R: Read + Drop, E: Sink + Drop> Texts for NamedFiles<'_, S,
 
     fn go_on(&mut self) -> bool {
         let mut name = [0u8; MAX_NAME_BYTES];
-        let (index, only_files) = next_file(self.system, self.next, self.only_files, &mut name);
+        let (index, only_files) = next_file(&self.system, self.next, self.only_files, &mut name);
         self.only_files = only_files;
         match self.system.arg(index, &mut name) {
             Ok(length) => {

@@ -92,3 +92,14 @@ returns-in-Lenient-clause-error c = λ n more any fits h.
     let variants = error_variant (lenient_of c.in-Lenient.format) text any is in
     let items = sym (c.items.ensures.items ∙ c.as_format-in-Lenient.ensures.items) in
     c.variant_bound.ensures.front variants.0 n more fits (subst (λ l. HasVariants false l variants.0 text) items variants.1)
+
+pub returns-in-InLanguage-clause-within : goal.returns-in-InLanguage-clause-within
+returns-in-InLanguage-clause-within c = c.bound_in_language.ensures.within
+
+pub returns-in-InLanguage-clause-front : goal.returns-in-InLanguage-clause-front
+returns-in-InLanguage-clause-front c = λ offset n more found fits h.
+    c.bound_in_language.ensures.front offset n more found fits (subst (λ f. IsFormatText offset f (take n c.args.bytes.now ++ more) found) c.in-InLanguage.is h)
+
+pub returns-in-InLanguage-clause-error : goal.returns-in-InLanguage-clause-error
+returns-in-InLanguage-clause-error c = λ n more any fits h.
+    c.bound_in_language.ensures.error n more any fits (subst (λ f. IsFormatError f (take n c.args.bytes.now ++ more) any) c.in-InLanguage.is h)

@@ -13,3 +13,6 @@ returns-in-DateTimes c = subst (λ f. IsReadIn c.args.offset f c.args.text.now c
 
 pub returns-in-Lenient : goal.returns-in-Lenient
 returns-in-Lenient c = subst (λ f. IsReadIn c.args.offset f c.args.text.now c.read.result) (sym c.in-Lenient.is) c.read.ensures
+
+pub returns-in-InLanguage : goal.returns-in-InLanguage
+returns-in-InLanguage c = subst (λ f. IsReadIn c.args.offset f c.args.text.now c.read-in-InLanguage.result) (sym c.in-InLanguage.is) c.read-in-InLanguage.ensures
