@@ -1,11 +1,12 @@
 -- Names that are written one by one.
-use Rattle.std.proofs.Common.{◌≡◌, ℕ, suc, ◌+◌, ◌<◌, List, [], ◌∷◌, ◌++◌, get_or, length, map, take, sym, ap, subst, ◌∙◌, arith, inl, inr}
+use Rattle.std.proofs.Common.{◌≡◌, ℕ, zero, suc, ◌+◌, ◌<◌, ◌≤◌, List, [], ◌∷◌, ◌++◌, get_or, length, take, sym, ap, subst, ◌∙◌, arith, inl, inr}
 use Rattle.std.proofs.Math.ListN.{set}
 use Rattle.std.proofs.Math.Seq.{take-suc, take-suc-set}
 use Rattle.std.proofs.lemmas.Bool.{cases_lt}
 use Rattle.std.proofs.lemmas.List.{length-map, map-set}
 use Rattle.std.specs.Borrow.{Bor}
 use Rattle.cal_names.specs.Apart.{texts, text_at}
+use Rattle.cal_names.specs.NameShape.{longest}
 
 pub length-texts : (xs : List (Bor (List ℕ))) → length (texts xs) ≡ length xs
 length-texts xs = length-map xs (λ x. x.now)
@@ -23,3 +24,9 @@ same_more xs ys i y lt room is same =
 -- one more name is like those before it
 pub one_more : (P : ℕ → Type 0) (i : ℕ) → ((k : ℕ) → k < i → P k) → P i → (k : ℕ) → k < i + 1 → P k
 one_more P i before here k lt = elim (cases_lt k i) as (λ _. P k) [ inl less ↦ before k less | inr least ↦ subst P (omega (arith, lt, least)) here ]
+
+-- no name is longer than the longest one
+pub within-longest : (names : List (List ℕ)) (k : ℕ) → length (get_or names k []) ≤ longest names
+within-longest [] k = omega arith
+within-longest (x ∷ names) zero = omega arith
+within-longest (x ∷ names) (suc k) = omega (arith, within-longest names k)

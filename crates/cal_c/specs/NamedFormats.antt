@@ -1,5 +1,5 @@
 -- Formats with the names of a language.
-use Rattle.std.specs.Prelude.{◌≡◌, ℕ, ◌≤◌, ℤ, All, Bool, List, length}
+use Rattle.std.specs.Prelude.{◌≡◌, ℕ, ◌≤◌, ℤ, All, Bool, List, [], length}
 use Rattle.std.specs.Str.{IsUtf8}
 use Rattle.cal_format.specs.declared.item.Item.{Item}
 use Rattle.cal_format.specs.declared.moment.Moment.{Moment}
@@ -31,6 +31,19 @@ pub record AreNames (p : NamesParts) : Type 0 where
   pub short_weekdays : All IsName (texts p.short_weekdays)
   pub periods : All IsName (texts p.periods)
   pub lower_periods : All IsName (texts p.lower_periods)
+
+-- No name has a byte.
+abbrev pub HasNoBytes : List ℕ → Type 0
+HasNoBytes bytes = bytes ≡ []
+
+pub record AreEmpty (p : NamesParts) : Type 0 where
+  pub months : All HasNoBytes (texts p.months)
+  pub months_alone : All HasNoBytes (texts p.months_alone)
+  pub short_months : All HasNoBytes (texts p.short_months)
+  pub weekdays : All HasNoBytes (texts p.weekdays)
+  pub short_weekdays : All HasNoBytes (texts p.short_weekdays)
+  pub periods : All HasNoBytes (texts p.periods)
+  pub lower_periods : All HasNoBytes (texts p.lower_periods)
 
 -- The parts have the bytes of the names.
 pub record HasNames (p : NamesParts) (t : Names) : Type 0 where

@@ -1,6 +1,6 @@
 //! The names of a language by its code.
-ghost use Rattle.std.specs.Prelude.{◌≡◌, is_some};
-ghost use Rattle.cal_names.specs.Languages.{is_one_of, language_codes};
+ghost use Rattle.std.specs.Prelude.{◌≡◌, is_some, IfSome};
+ghost use Rattle.cal_names.specs.Languages.{AreShort, is_one_of, language_codes};
 
 use crate::languages;
 use crate::names::Names;
@@ -33,7 +33,8 @@ static CHINESE: Names<'static> = languages::CHINESE;
 /// `pl`, `pt`, `ru`, `tr` or `zh`. Returns `None` for another code. The second month of `fr` is
 /// `février`.
 pub fn names_of(code: &[u8]) -> Option<&'static Names<'static>>
-    ensures { is_some result ≡ is_one_of code.now language_codes }
+    ensures known { is_some result ≡ is_one_of code.now language_codes }
+    ensures short { IfSome result (λ names. AreShort names.now) }
 {
     let names = if code == b"ar".as_slice() {
         &ARABIC

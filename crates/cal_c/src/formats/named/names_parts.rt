@@ -1,6 +1,8 @@
 //! The names of a language as C passes them.
-ghost use Rattle.std.specs.Prelude.{◌≡◌, ◌<◌, ◌↔◌, All, IsTrue, MatchOption, length};
+ghost use Rattle.std.specs.Prelude.{◌≡◌, ◌<◌, ◌≤◌, ◌↔◌, All, IsTrue, MatchOption, length};
 ghost use Rattle.cal_names.specs.Apart.{texts, text_at};
+ghost use Rattle.cal_names.specs.Languages.{AreShort};
+ghost use Rattle.cal_names.specs.NameShape.{longest};
 ghost use Rattle.cal_c.specs.NamedFormats.{AreNames, HasNames, IsName};
 
 use cal_names::Names;
@@ -41,7 +43,8 @@ pub struct NamesParts<'a> {
 impl<'a> NamesParts<'a> {
     /// Writes the bytes of names.
     pub(super) fn set(&mut self, names: &Names<'a>)
-        ensures { HasNames self.new names.now }
+        ensures same { HasNames self.new names.now }
+        ensures names { AreShort names.now → AreNames self.new }
     {
         write_bytes(&names.months, &mut self.months);
         write_bytes(&names.months_alone, &mut self.months_alone);
@@ -86,7 +89,8 @@ impl<'a> NamesParts<'a> {
 /// Writes the bytes of names.
 fn write_bytes<'a>(names: &[&'a str], bytes: &mut [&'a [u8]])
     requires { length bytes.old ≡ length names.now }
-    ensures { texts bytes.new ≡ texts names.now }
+    ensures same { texts bytes.new ≡ texts names.now }
+    ensures names { longest (texts names.now) ≤ 127 → All IsName (texts names.now) }
 {
     for index in 0..names.len() {
         bytes[index] = name_at(names, index).as_bytes();
