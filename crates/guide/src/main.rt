@@ -14,6 +14,8 @@ mod days;
 mod durations;
 mod errors;
 mod generic;
+mod holidays;
+mod names;
 mod order;
 mod periods;
 mod printing;
@@ -50,5 +52,7 @@ fn main(rt: HostRuntime) -> io::Result<()> {
     periods::show(&rt)?;
     rounding::show(&rt)?;
     durations::show(&rt)?;
+    names::show(&rt)?;
+    holidays::show(&rt)?;
     arrival::main(rt)
 }
