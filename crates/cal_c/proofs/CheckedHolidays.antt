@@ -1,5 +1,5 @@
 -- Holidays of a struct, and its working days by their ranks.
-use Rattle.std.proofs.Common.{◌≡◌, ℕ, zero, suc, ◌+◌, ◌-◌, ◌<◌, ◌≤◌, sym, ap, ◌∙◌, arith, subst, List, All, Bool, add-one, if◌then◌else◌, not, false, pos, length, get_or, take, Option, true, inl, inr, ℤ, negsuc, ◌+ℤ◌, ◌-ℤ◌, ◌<ℤ◌, ◌≤ℤ◌}
+use Rattle.std.proofs.Common.{◌≡◌, ℕ, zero, suc, ◌+◌, ◌-◌, ◌<◌, ◌≤◌, sym, ap, ◌∙◌, arith, subst, List, Bool, add-one, if◌then◌else◌, not, false, pos, length, get_or, take, Option, true, inl, inr, ℤ, negsuc, ◌+ℤ◌, ◌-ℤ◌, ◌<ℤ◌, ◌≤ℤ◌}
 use Rattle.std.specs.Int.Signed.{lt_z, lt_z_yes, lt_z_no}
 use Rattle.std.specs.Prelude.{Result, Ok, Err}
 use Rattle.std.specs.Int.{from_bool}
@@ -16,7 +16,7 @@ use Rattle.cal_schedule.specs.Workdays.{WorkWeek, is_marked, is_workday, nth_wor
 use Rattle.cal_schedule.specs.WorkdaysSplit.{marked_count, IsRanked}
 use Rattle.cal_schedule.proofs.WorkdaysSearch.{from-rank, back-rank}
 use Rattle.cal_text.proofs.Results.{one}
-use Rattle.cal_c.specs.CheckedWorkdays.{counted_at, counted_in, week_of, AreCounted, CountedHolidays, HasLimits, IsChecked, IsForView, IsForWeek, IsNext, IsValid}
+use Rattle.cal_c.specs.CheckedWorkdays.{counted_at, counted_in, week_of, AreCounted, CountedHolidays, HasLimits, IsForView, IsForWeek, IsNext, IsValid}
 use Rattle.cal_c.specs.Values.{IsJulianDay, dates_in, day_of, max_dates}
 use Rattle.cal_c.specs.Weekmasks.{AreHolidays, IsWeekmask}
 use Rattle.cal_c.specs.declared.schedule.workdays.checked_workdays.CheckedWorkdays.{CheckedWorkdays}

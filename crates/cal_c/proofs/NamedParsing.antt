@@ -1,6 +1,5 @@
 -- The result of parsing with names, from what the check of the names returns.
-use Rattle.std.proofs.Common.{◌≡◌, ℕ, ℤ, List, Result, Ok, Err, refl, ◌↔◌}
-use Rattle.std.specs.Prelude.{IsOk}
+use Rattle.std.proofs.Common.{◌≡◌, ℕ, ℤ, List}
 use Rattle.cal_format.specs.declared.item.Item.{Item}
 use Rattle.cal_format.specs.declared.moment.Moment.{Moment}
 use Rattle.cal_names.specs.declared.names.Names.{Names}

@@ -1,7 +1,7 @@
 -- The clauses of the calls for repeated intervals leave one result.
-use Rattle.std.proofs.Common.{◌≡◌, ◌⊎◌, ◌∙◌, ◌-◌, ℕ, ap, arith, inl, inr, sym, Option, Result, Ok, Err, IfErr, IfOk}
+use Rattle.std.proofs.Common.{◌≡◌, ◌∙◌, ◌-◌, ℕ, ap, arith, inl, inr, sym, Option, Result, Ok, Err, IfErr, IfOk}
 use Rattle.std.proofs.lemmas.Int.{ints}
-use Rattle.std.specs.Prelude.{ℤ, pos}
+use Rattle.std.specs.Prelude.{ℤ}
 use Rattle.cal_schedule.specs.Period.{Parts}
 use Rattle.cal_schedule.specs.Steps.{IsRepeated}
 use Rattle.cal_interval.specs.DateTimeRepeats as pairs

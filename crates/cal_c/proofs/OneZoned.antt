@@ -1,5 +1,5 @@
 -- The clauses of the calls for date-times in a zone leave one result.
-use Rattle.std.proofs.Common.{◌≡◌, ◌∙◌, ◌==◌, ℕ, refl, sym, ap, subst, arith}
+use Rattle.std.proofs.Common.{◌≡◌, ◌∙◌, ◌==◌, ℕ, refl, sym, ap, arith}
 use Rattle.std.proofs.lemmas.Int.{ints}
 use Rattle.std.specs.Prelude.{if◌then◌else◌, Option, Result, ℤ, Ok, Err}
 use Rattle.cal_time.specs.Date.{IsDate}

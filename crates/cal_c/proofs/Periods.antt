@@ -1,5 +1,5 @@
 -- Periods by their parts, and the results of the calls that add them.
-use Rattle.std.proofs.Common.{◌≡◌, ◌∙◌, sym, ap, subst, ℕ}
+use Rattle.std.proofs.Common.{◌≡◌, ◌∙◌, ap, subst, ℕ}
 use Rattle.std.specs.Prelude.{Option, Some, None, SomeIff, ℤ}
 use Rattle.cal_datetime.specs.DateTime.{IsDateTime, date_at, time_at}
 use Rattle.cal_schedule.specs.Period.{parts, Parts, IsOneSign}

@@ -1,5 +1,5 @@
 -- Results of calls for date-times in a zone.
-use Rattle.std.proofs.Common.{◌≡◌, ◌∙◌, refl, ap, subst}
+use Rattle.std.proofs.Common.{◌≡◌, ◌∙◌, ap, subst}
 use Rattle.std.specs.Prelude.{Option, Some, None, IfNone, IfSome, MatchOption, ℕ, ℤ, pos, ◌-ℤ◌, Result, Ok, Err}
 use Rattle.cal_datetime.specs.DateTime.{IsDateTime}
 use Rattle.cal_datetime.specs.OffsetDateTime.{LocalAndOffset}
@@ -20,7 +20,7 @@ use Rattle.cal_rounding.specs.InZone.{IsRoundedByClock, IsRoundedToDay}
 use Rattle.cal_rounding.specs.declared.rounding_mode.RoundingMode.{RoundingMode}
 use Rattle.cal_c.specs.Moments.{moment_error, moment_ok}
 use Rattle.cal_c.specs.Rounding.{RoundsInZone}
-use Rattle.cal_c.specs.Results.{duration_ok, duration_or_out_of_range, int64_error}
+use Rattle.cal_c.specs.Results.{duration_or_out_of_range, int64_error}
 use Rattle.cal_c.specs.Values.{need◌else◌then◌}
 use Rattle.cal_c.specs.Zoned.{zoned_or_error, IsDayLengthResult, IsEndResult, IsLaterSeconds, IsSecondsAfter}
 use Rattle.cal_c.specs.Zones.{policy_number, zone_in, HasZone, IsPolicy}

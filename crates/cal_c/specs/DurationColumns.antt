@@ -1,5 +1,5 @@
 -- Columns of durations in text, and of rounded times of day and dates.
-use Rattle.std.specs.Prelude.{◌≡◌, ℕ, ◌+◌, ℤ, pos, List, []}
+use Rattle.std.specs.Prelude.{◌≡◌, ℕ, ℤ, pos, List, []}
 use Rattle.cal_duration.specs.declared.error.DurationComponent.{DurationComponent}
 use Rattle.cal_duration.specs.DurationText.{duration_text}
 use Rattle.cal_duration.specs.Form.{HasDurationForm}

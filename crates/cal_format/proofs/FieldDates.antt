@@ -1,6 +1,6 @@
 -- The date of fields is the date of the text.
-use Rattle.std.proofs.Common.{◌≡◌, ◌⊎◌, ℕ, ◌+◌, ◌%◌, ◌≤◌, List, [], ◌∷◌, refl, sym, ap, subst, ◌∙◌, arith, inl, inr}
-use Rattle.std.specs.Prelude.{Bool, true, false, ◌||◌, ◌&&◌, not, IsTrue, Option, Some, None, pos, unsigned_abs, if◌then◌else◌}
+use Rattle.std.proofs.Common.{◌≡◌, ℕ, ◌+◌, ◌%◌, ◌≤◌, List, [], ◌∷◌, refl, sym, ap, subst, ◌∙◌, arith, inl, inr}
+use Rattle.std.specs.Prelude.{Bool, true, false, ◌||◌, ◌&&◌, not, IsTrue, Option, Some, None, pos, unsigned_abs}
 use Rattle.std.proofs.lemmas.Bool.Decides.{nat_tests}
 use Rattle.cal_time.specs.Date.{HasCalendarDate, HasOrdinalDate}
 use Rattle.cal_time.specs.DateText.{sign_text}
@@ -21,7 +21,7 @@ use Rattle.cal_format.specs.Values.{contradiction, first_contradiction, year_in,
 use Rattle.cal_format.proofs.Apart.{either_test, both_tests, same_test, index-one}
 use Rattle.cal_format.proofs.Choices.{first-choice, is-not}
 use Rattle.cal_format.proofs.Contradictions.{same-text}
-use Rattle.cal_format.proofs.FieldShapes.{clash, CalendarMarks, OrdinalMarks, WeekMarks, calendar-marks, ordinal-marks, week-marks, calendar-ordinal, calendar-week, ordinal-week}
+use Rattle.cal_format.proofs.FieldShapes.{clash, CalendarMarks, OrdinalMarks, WeekMarks, calendar-marks, ordinal-marks, week-marks}
 use Rattle.cal_format.proofs.Moments.{date-holds}
 use Rattle.cal_format.proofs.OnePass.{IsScanned, held-read, own-index, first-or, second-or}
 use Rattle.cal_format.proofs.Own.{agrees}

@@ -1,6 +1,6 @@
 -- What the marks of a date and of a time of day say of each component.
 use Rattle.std.proofs.Common.{◌≡◌, List, refl}
-use Rattle.std.specs.Prelude.{Bool, true, false, ◌||◌, ◌&&◌, not, IsTrue, if◌then◌else◌}
+use Rattle.std.specs.Prelude.{Bool, true, false, ◌||◌, ◌&&◌, not, IsTrue}
 use Rattle.cal_format.specs.declared.item.Component.TheVariants.{Year, Century, YearOfCentury, IsoYear, Month, Day, Ordinal, IsoWeek, Weekday, DaysFromMonday, DaysFromSunday, SundayWeekday, SundayWeek, MondayWeek, Minute, Second, Subsecond1, Subsecond2, Subsecond4, Subsecond5, Subsecond7, Subsecond8}
 use Rattle.cal_format.specs.Reading.{mark_of}
 use Rattle.cal_format.specs.Shown.{shows_rare, is_calendar, is_ordinal, is_week, shows_hour_once, shows_rare_part, shows_one_part, shows_part, is_clock}

@@ -1,24 +1,22 @@
 -- The time of day of fields, alone or after a date, is the time of day of the text.
-use Rattle.std.proofs.Common.{◌≡◌, ℕ, ◌+◌, ◌*◌, ◌/◌, ◌%◌, ◌≤◌, List, refl, sym, ap, subst, ◌∙◌, arith, inl, inr, lit<, lit≤}
-use Rattle.std.specs.Prelude.{Bool, true, false, ◌||◌, ◌&&◌, not, IsTrue, ℤ, pos, if◌then◌else◌}
+use Rattle.std.proofs.Common.{◌≡◌, ℕ, ◌+◌, ◌*◌, ◌/◌, ◌%◌, ◌≤◌, List, refl, sym, subst, ◌∙◌, arith, inl, inr, lit≤}
+use Rattle.std.specs.Prelude.{Bool, true, false, ◌||◌, ◌&&◌, not, IsTrue, pos, if◌then◌else◌}
 use Rattle.std.proofs.lemmas.Bool.Decides.{nat_tests}
-use Rattle.cal_time.specs.Date.{IsDate}
-use Rattle.cal_time.specs.Time.{IsTime, hour_of, minute_of, second_of, nanosecond_of, time_of}
-use Rattle.cal_datetime.specs.DateTime.{IsDateTime, date_time, date_at, time_at}
+use Rattle.cal_time.specs.Time.{IsTime, hour_of, nanosecond_of, time_of}
+use Rattle.cal_datetime.specs.DateTime.{date_time, date_at, time_at}
 use Rattle.cal_datetime.specs.DateTimeLaws.{IsDateTime-date_time, date_at-date_time, time_at-date_time, date_time-parts}
 use Rattle.cal_format.specs.declared.fields.Fields.{Fields}
 use Rattle.cal_format.specs.declared.item.Component.{Component}
-use Rattle.cal_format.specs.declared.item.Component.TheVariants.{Year, Century, YearOfCentury, IsoYear, Hour, Hour12, Minute, Second, Period, Subsecond1, Subsecond2, Millisecond, Subsecond4, Subsecond5, Microsecond, Subsecond7, Subsecond8, Nanosecond, OffsetHour, OffsetSign}
+use Rattle.cal_format.specs.declared.item.Component.TheVariants.{Year, Century, YearOfCentury, IsoYear, Hour, Hour12, Minute, Second, Period, Subsecond1, Subsecond2, Millisecond, Subsecond4, Subsecond5, Microsecond, Subsecond7, Subsecond8, Nanosecond, OffsetSign}
 use Rattle.cal_format.specs.declared.item.Item.{Item}
 use Rattle.cal_format.specs.declared.moment.Moment.{Moment}
 use Rattle.cal_format.specs.Moment.{moment_of_time, moment_of_date_time}
-use Rattle.cal_format.specs.Ranges.{maximum}
-use Rattle.cal_format.specs.Reading.{index, mark_of, any_shows, is_within, show_within, shows_year, shows_calendar_date, shows_ordinal_date, shows_iso_week_date, shows_date, shows_hour, shows_subsecond, shows_time, shows_offset, shows_timestamp, holds_time, are_apart, are_time_items, are_date_time_items, DeterminesTime, DeterminesDateTime}
-use Rattle.cal_format.specs.Scanning.{number_at, nanosecond_at, HasHour, IsDateOfFields, IsTimeOfFields, IsOneTime, IsOnePair}
+use Rattle.cal_format.specs.Reading.{mark_of, any_shows, is_within, show_within, shows_year, shows_calendar_date, shows_ordinal_date, shows_iso_week_date, shows_date, shows_hour, shows_subsecond, shows_time, shows_offset, shows_timestamp, are_apart, are_time_items, are_date_time_items, DeterminesTime, DeterminesDateTime}
+use Rattle.cal_format.specs.Scanning.{number_at, IsDateOfFields, IsTimeOfFields, IsOneTime, IsOnePair}
 use Rattle.cal_format.specs.Shown.{shows_part, is_clock}
-use Rattle.cal_format.specs.Values.{hour_in, nanosecond_in, time_in, IsDateOf, IsMomentOf, IsPrinted}
-use Rattle.cal_format.proofs.Apart.{either_test, both_tests}
-use Rattle.cal_format.proofs.Choices.{first-choice, other-choice, is-not}
+use Rattle.cal_format.specs.Values.{hour_in, nanosecond_in, time_in, IsDateOf, IsMomentOf}
+use Rattle.cal_format.proofs.Apart.{either_test}
+use Rattle.cal_format.proofs.Choices.{first-choice, other-choice}
 use Rattle.cal_format.proofs.FieldDates.{Agrees, AreMarks, all-agree, date-agrees, shown-within, none-shown, no-first, no-year, no-timestamp, date-shown, date-of, has-numbers}
 use Rattle.cal_format.proofs.FieldShapes.{clash, ClockMarks, clock-marks}
 use Rattle.cal_format.proofs.Marks.{neither-shown}

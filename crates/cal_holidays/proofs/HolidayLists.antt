@@ -1,5 +1,5 @@
 -- Lists of holidays: dates that are added, and lists with the same dates.
-use Rattle.std.proofs.Common.{Bool, Bor, ◌≡◌, ◌⊎◌, ℕ, zero, suc, ◌+◌, ◌-◌, ◌<◌, ◌≤◌, ℤ, pos, ◌+ℤ◌, ◌-ℤ◌, List, length, get_or, take, Option, Some, None, inl, inr, refl, sym, ap, subst, ◌∙◌, arith}
+use Rattle.std.proofs.Common.{Bool, Bor, ◌≡◌, ◌⊎◌, ℕ, zero, suc, ◌+◌, ◌-◌, ◌<◌, ◌≤◌, ℤ, pos, ◌+ℤ◌, List, length, get_or, Option, Some, None, inl, inr, refl, sym, ap, subst, ◌∙◌, arith}
 use Rattle.std.specs.Prelude.{◌↔◌, Contains, IfSome, IfNone, IsNone, option_map, unsigned_abs}
 use Rattle.std.specs.List.{insert}
 use Rattle.std.proofs.lemmas.Bool.{cases_lt}
@@ -10,7 +10,7 @@ use Rattle.cal_time.specs.Counted.{IsRising}
 use Rattle.cal_time.specs.Date.{julian_day_at}
 use Rattle.cal_schedule.proofs.WorkdaysWeeks.{Rises, rises}
 use Rattle.cal_schedule.specs.Workdays.{WorkWeek}
-use Rattle.cal_holidays.specs.Holidays.{AreMore, AreHolidays, AreWorkdays, IsHolidayFor, IsHoliday, IsHolidayOfYear}
+use Rattle.cal_holidays.specs.Holidays.{AreMore, AreHolidays, AreWorkdays, IsHolidayFor, IsHoliday}
 use Rattle.cal_holidays.specs.HolidaySearch.{IsHolidayIn, IsHolidayBy, AreAmongYears, year_of_number}
 use Rattle.cal_holidays.specs.declared.holiday_rule.HolidayRule.{HolidayRule}
 use Rattle.cal_holidays.proofs.DayLists.{IsInserted, rising_inserted, contains_inserted}

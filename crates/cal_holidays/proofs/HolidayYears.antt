@@ -1,15 +1,15 @@
 -- How far from its year the holiday of a rule is.
-use Rattle.std.proofs.Common.{◌≡◌, ℕ, ◌+◌, ◌-◌, ◌*◌, ◌/◌, ◌%◌, ◌<◌, ◌≤◌, ℤ, pos, ◌+ℤ◌, ◌-ℤ◌, refl, sym, ap, subst, ◌∙◌, arith}
+use Rattle.std.proofs.Common.{◌≡◌, ℕ, ◌+◌, ◌-◌, ◌*◌, ◌/◌, ◌<◌, ◌≤◌, ℤ, pos, ◌+ℤ◌, refl, ap, subst, arith}
 use Rattle.std.specs.Prelude.{slice_index_or, unsigned_abs}
 use Rattle.std.proofs.lemmas.Bool.Decides.{nat_tests}
 use Rattle.std.proofs.lemmas.Int.{ints}
 use Rattle.cal_date.specs.CountLaws.{days_of_years, years_before, days_of_years-closed}
-use Rattle.cal_date.specs.Date.{IsDate, IsYear, year_at, ordinal_at, weekday_at}
+use Rattle.cal_date.specs.Date.{IsDate, IsYear, year_at, weekday_at}
 use Rattle.cal_date.proofs.Dates.{stands}
 use Rattle.cal_date.proofs.JulianDays.{after_years}
 use Rattle.cal_holidays.specs.Easter.{IsEaster, IsJulianEaster}
-use Rattle.cal_holidays.specs.Epacts.{full_moon, julian_full_moon, table_year}
-use Rattle.cal_holidays.specs.Holidays.{IsDayOf, IsHolidayFor}
+use Rattle.cal_holidays.specs.Epacts.{full_moon, table_year}
+use Rattle.cal_holidays.specs.Holidays.{IsDayOf}
 use Rattle.cal_holidays.specs.HolidaySearch.{AreMovesWithin, AreWithinYears, IsNearEaster, IsWithinYears}
 use Rattle.cal_holidays.specs.declared.holiday_day.HolidayDay.{HolidayDay}
 use Rattle.cal_holidays.specs.declared.holiday_day.HolidayDay.TheVariants.{Fixed, Nth, Last, OnOrAfter, Easter, JulianEaster}

@@ -1,6 +1,5 @@
 -- The known calendars.
-use denote.Ref.{Bor}
-use Rattle.std.specs.Prelude.{ℕ, List, map}
+use Rattle.std.specs.Prelude.{List, map}
 use Rattle.cal_holidays.specs.declared.calendars.TheConstants.{CALENDARS}
 use Rattle.cal_holidays.specs.declared.holiday_rule.HolidayRule.{HolidayRule}
 

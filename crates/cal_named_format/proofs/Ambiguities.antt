@@ -2,7 +2,7 @@
 use Rattle.std.proofs.Common.{◌≡◌, ℕ, ◌+◌, ◌<◌, ◌≤◌, List, [], ◌∷◌, length, refl, subst, inl, inr, arith}
 use Rattle.std.specs.Prelude.{Option, None, Some, IfNone, get_or}
 use Rattle.std.proofs.lemmas.Bool.{cases_lt}
-use Rattle.cal_text.specs.Shape.{Shape, unmatched_bytes}
+use Rattle.cal_text.specs.Shape.{unmatched_bytes}
 use Rattle.cal_text.proofs.Stops.{gone_over}
 use Rattle.cal_format.specs.declared.item.Item.{Item}
 use Rattle.cal_format.specs.declared.item.Item.TheVariants as item

@@ -1,5 +1,5 @@
 -- The sentence of a component that a string of a format shows and that is out of range.
-use Rattle.std.specs.Prelude.{◌≡◌, ◌⊎◌, ℕ, ℤ, pos, List, Option, Some, None, if◌then◌else◌}
+use Rattle.std.specs.Prelude.{◌≡◌, ◌⊎◌, ℕ, pos, List, Option, Some, None, if◌then◌else◌}
 use Rattle.cal_errors.specs.Components.{always, bounds_of, sentence_in}
 use Rattle.cal_errors.specs.declared.components.Components.{Components}
 use Rattle.cal_format.specs.declared.item.Component.{Component as Shown}
@@ -13,7 +13,7 @@ use Rattle.cal_format.specs.Reading.{any_shows}
 use Rattle.cal_format.specs.Scanning.{signed_seconds}
 use Rattle.cal_format.specs.Values.{number_in, year_in}
 use Rattle.cal_time.specs.declared.error.Component.{Component}
-use Rattle.cal_time.specs.declared.error.Component.TheVariants.{Year, Month, Day, Ordinal, Week, Weekday, JulianDay, Hour, Minute, Second, Millisecond, Microsecond, Nanosecond, OffsetHour, OffsetMinute, OffsetSecond, Seconds, Timestamp}
+use Rattle.cal_time.specs.declared.error.Component.TheVariants.{Month, Day, Ordinal, Week, Weekday, Hour, Minute, Second, OffsetHour, OffsetMinute, OffsetSecond, Timestamp}
 
 -- The components of the numbers `at` in a year. The numbers of an offset and a Unix time have its sign.
 abbrev pub numbered : ℕ → (Shown → ℕ) → Components

@@ -1,6 +1,6 @@
 -- The components that a string of ISO 8601 or RFC 3339 shows, and the sentence of one that is out of
 -- range.
-use Rattle.std.specs.Prelude.{◌≡◌, ◌⊎◌, ℕ, ℤ, pos, neg_ℤ, false, List, Option, Some, None}
+use Rattle.std.specs.Prelude.{◌≡◌, ◌⊎◌, ℕ, ℤ, pos, neg_ℤ, List, Option, Some, None}
 use Rattle.cal_errors.specs.Components.{always, bounds_of, sentence_in}
 use Rattle.cal_errors.specs.declared.bounds.Bounds.{Bounds}
 use Rattle.cal_errors.specs.declared.components.Components.{Components}

@@ -1,5 +1,5 @@
 -- The strings of a format with the names of a language.
-use Rattle.std.proofs.Common.{◌≡◌, ◌∙◌, ◌⊎◌, ℕ, ℤ, List, Result, Ok, Err, ap, inl, inr, refl, subst, sym}
+use Rattle.std.proofs.Common.{◌≡◌, ◌∙◌, ◌⊎◌, ℕ, ℤ, List, Ok, Err, ap, inl, inr, refl, subst, sym}
 use Rattle.cal_format.specs.Moment.{moment_of_date, moment_of_date_time, moment_of_offset_date_time}
 use Rattle.cal_format.specs.Values.{Holds}
 use Rattle.cal_format.specs.declared.error.ParseError.{ParseError}

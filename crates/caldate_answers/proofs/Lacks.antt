@@ -1,6 +1,6 @@
 -- A text that a form doesn't read, by what its parser says of it.
-use Rattle.std.proofs.Common.{◌≡◌, ◌⊎◌, ◌∙◌, ℕ, Bool, true, false, List, [], ◌∷◌, Option, Some, None, Result, Ok, Err, ap, inl, inr, refl, subst, sym}
-use Rattle.std.specs.Prelude.{◌↔◌, IfErr, IsSomeAnd, if◌then◌else◌}
+use Rattle.std.proofs.Common.{◌≡◌, ◌∙◌, ℕ, List, Some, None, Result, Ok, Err, ap, inl, inr, refl, subst, sym}
+use Rattle.std.specs.Prelude.{◌↔◌, IfErr, IsSomeAnd}
 use Rattle.caldate_answers.specs.Spellings.{full_by}
 use Rattle.std.proofs.lemmas.Option.{none-some, same_Some}
 use Rattle.cal_time.specs.declared.error.ComponentRange.{ComponentRange}
@@ -11,26 +11,14 @@ use Rattle.cal_text.specs.declared.any.DateOrMoment.{DateOrMoment}
 use Rattle.cal_text.specs.declared.error.ParseError.{ParseError}
 use Rattle.cal_text.specs.declared.error.ParseError.TheVariants.{UnexpectedByte, UnexpectedEnd, OutOfRange}
 use Rattle.cal_text.proofs.Positions.{one_position}
-use Rattle.cal_datetime.specs.OffsetDateTime.{LocalAndOffset}
-use Rattle.cal_text.specs.declared.any.DateOrMoment.TheVariants.{Date, Moment}
-use Rattle.cal_text.specs.declared.any.MomentForm.{MomentForm}
-use Rattle.cal_zone.specs.Policy.{moment_by}
-use Rattle.cal_zone.specs.declared.local_time_error.LocalTimeError.{LocalTimeError}
-use Rattle.cal_zone.specs.declared.local_time_error.LocalTimeError.TheVariants.{Skipped, Repeated, OutOfRange as PastRange}
-use Rattle.caldate_answers.specs.Answers.{IsAnswer, IsNotRead}
-use Rattle.caldate_answers.specs.Clocks.{IsPlaced, placed_as}
-use Rattle.caldate_answers.specs.Readers.{IsReason, IsSpellingError, IsUnreadBy, IsUnreadIn, IsUnspelled, first_reason, has_form}
+use Rattle.cal_zone.specs.declared.local_time_error.LocalTimeError.TheVariants.{Skipped, Repeated}
+use Rattle.caldate_answers.specs.Readers.{IsSpellingError, IsUnreadIn, IsUnspelled}
 use Rattle.caldate_answers.specs.Readings.{HasFormIn, IsErrorIn}
 use Rattle.caldate_lines.specs.Reasons.{brief_reason_of, reason_of}
 use Rattle.caldate_lines.specs.declared.no_answer.NoAnswer.{NoAnswer}
 use Rattle.caldate_lines.specs.declared.no_answer.NoAnswer.TheVariants as why
 use Rattle.caldate_answers.specs.declared.reading.Reading.{Reading}
-use Rattle.caldate_answers.specs.declared.reading.reader.Assumptions.{Assumptions}
-use Rattle.caldate_answers.specs.declared.reading.reader.Reader.{Reader}
-use Rattle.caldate_answers.specs.declared.reading.reader.Reader.TheVariants.{Named, Local, Spelled, Format, Yearless}
 use Rattle.caldate_answers.specs.declared.reading.spelling.Spelling.{Spelling}
-use Rattle.caldate_answers.specs.declared.request.Clock.{Clock}
-use Rattle.caldate_answers.specs.declared.request.Filter.{Filter}
 
 pub is_unread : (reading : Reading) (text : List ℕ) (error : ParseError)
     → (FailsWithSyntax {V = DateOrMoment} (Err error) ↔ ¬ HasFormIn reading text)

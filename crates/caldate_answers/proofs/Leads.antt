@@ -1,11 +1,11 @@
 -- Moves past the range, and the single day after a move.
 use Rattle.std.proofs.Common.{◌≡◌, ◌⊎◌, ℕ, zero, suc, ◌+◌, ◌-◌, ◌≤◌, ◌∙◌, ap, sym, subst, arith, inl, inr, Option, None, Some, ℤ, pos, negsuc, ◌*ℤ◌, ◌≤ℤ◌, ◌<ℤ◌}
-use Rattle.std.specs.Prelude.{neg_ℤ, ◌<◌, IfSome, SomeIff, MatchOption}
+use Rattle.std.specs.Prelude.{neg_ℤ, ◌<◌, IfSome, MatchOption}
 use Rattle.std.proofs.lemmas.Int.{ints, by_lt_z}
-use Rattle.cal_time.specs.Date.{IsDate, last_day, weekday_at}
+use Rattle.cal_time.specs.Date.{IsDate, last_day}
 use Rattle.cal_schedule.specs.Months.{IsMonthsLater}
 use Rattle.cal_schedule.specs.Workdays.{WorkWeek, nth_workday, is_workday}
-use Rattle.cal_time.specs.Laws.{calendar_date-one, weekday_at-is}
+use Rattle.cal_time.specs.Laws.{calendar_date-one}
 use Rattle.cal_schedule.proofs.MonthMoves.{IsMonthNumber-date, one_later}
 use Rattle.cal_schedule.specs.Ranks.{count-most, none-nth_from, none-nth_back}
 use Rattle.caldate_answers.specs.Moves.{MovesTo}

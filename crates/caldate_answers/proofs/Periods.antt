@@ -1,10 +1,8 @@
 -- A date or moment has one that is a period later, and one nearest multiple, and two have one period.
-use Rattle.std.proofs.Common.{◌≡◌, ◌∙◌, ℕ, zero, suc, ◌<◌, ℤ, pos, Option, Some, None, Ok, ap, refl, sym, subst, arith}
-use Rattle.std.proofs.lemmas.Int.{ints}
-use Rattle.std.specs.Prelude.{◌+ℤ◌, ◌<ℤ◌, IfNone, IfSome, MatchOption}
-use Rattle.cal_datetime.specs.DateTime.{IsDateTime, date_at, date_time, time_at, with_date}
+use Rattle.std.proofs.Common.{◌≡◌, ◌∙◌, ℕ, zero, suc, ℤ, pos, Option, Some, None, ap, refl, sym, subst, arith}
+use Rattle.std.specs.Prelude.{◌+ℤ◌, IfNone, IfSome, MatchOption}
+use Rattle.cal_datetime.specs.DateTime.{IsDateTime, date_at, date_time, with_date}
 use Rattle.cal_datetime.specs.OffsetDateTime.{LocalAndOffset, instant, local_at, unix_seconds}
-use Rattle.cal_rounding.specs.Rounding.{IsRounded, RoundsTimeOf, distance, multiple}
 use Rattle.cal_rounding.specs.declared.rounding_mode.RoundingMode.TheVariants.{HalfCeil}
 use Rattle.cal_rounding.proofs.OneResult.{date_time-one}
 use Rattle.cal_schedule.specs.Period.{Parts, days_of, months_of}

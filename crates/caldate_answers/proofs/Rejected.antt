@@ -1,5 +1,5 @@
 -- The reason why a format rejects a string: it has one.
-use Rattle.std.proofs.Common.{◌≡◌, ◌∙◌, ◌⊎◌, ap, subst, sym, refl, inl, inr, arith, ℕ, ◌+◌, ◌<◌, Bool, true, false, List, length, take, drop, take-append-drop, Option, Some, None, Result, Ok, Err}
+use Rattle.std.proofs.Common.{◌≡◌, ◌∙◌, ap, subst, sym, refl, inl, inr, arith, ℕ, ◌+◌, ◌<◌, Bool, true, false, List, length, drop, take-append-drop, Result, Ok, Err}
 use Rattle.std.specs.Prelude.{◌||◌, IfErr, IfOk, IsTrue, not, pos}
 use Rattle.std.proofs.lemmas.Bool.{false≢true}
 use Rattle.std.proofs.lemmas.Int.{ints}
@@ -9,7 +9,7 @@ use Rattle.cal_time.specs.declared.error.Component.{Component as Named}
 use Rattle.cal_time.specs.declared.error.ComponentRange.{ComponentRange}
 use Rattle.cal_format.specs.Form.{HasForm, HasNumbers, numbers_of}
 use Rattle.cal_format.specs.Moment.{IsMoment}
-use Rattle.cal_format.specs.Reading.{are_apart, shows_calendar_date, shows_date, shows_iso_week_date, shows_ordinal_date, shows_timestamp}
+use Rattle.cal_format.specs.Reading.{are_apart, shows_calendar_date, shows_iso_week_date, shows_ordinal_date, shows_timestamp}
 use Rattle.cal_format.specs.Rejection.{IsContradiction, IsNumberRejection, IsRangeError, IsRejection}
 use Rattle.cal_format.specs.Text.{text_of}
 use Rattle.cal_format.specs.Values.{Holds, IsDateOf, IsMomentOf, first_contradiction, number_in, weekday_in, year_in}

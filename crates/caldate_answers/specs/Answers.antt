@@ -45,7 +45,6 @@ use Rattle.caldate_answers.specs.declared.request.Place.TheVariants as place
 use Rattle.caldate_answers.specs.declared.request.Request.{Request}
 use Rattle.caldate_answers.specs.declared.request.Request.TheVariants.{To, ToIso, Print, Move, MoveAt, Until, Since, At, PrintAt, PrintNamed, PrintNamedAt, Keep}
 use Rattle.caldate_answers.specs.declared.request.Target.TheVariants as target
-use Rattle.caldate_answers.specs.declared.request.TimeUnit.{TimeUnit}
 
 -- A date moves by only the whole days of a duration, a moment by all of it.
 pub record IsDayLater (n : ℕ) (d : ℤ) (m : LocalAndOffset) : Type 0 where

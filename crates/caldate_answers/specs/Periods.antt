@@ -5,7 +5,7 @@ use Rattle.cal_time.specs.DateText.{digits_at_least}
 use Rattle.cal_time.specs.SignedDuration.{hour, minute, second}
 use Rattle.cal_datetime.specs.DateTime.{IsDateTime, date_time}
 use Rattle.cal_datetime.specs.OffsetDateTime.{LocalAndOffset, instant, local_at}
-use Rattle.cal_duration.specs.DurationText.{duration_text, period_text}
+use Rattle.cal_duration.specs.DurationText.{period_text}
 use Rattle.cal_duration.specs.Form.{sign_text}
 use Rattle.cal_schedule.specs.Period.{Parts, IsDaysLater, days_of, months_of}
 use Rattle.cal_schedule.specs.declared.unit.CalendarUnit.TheVariants.{Year}

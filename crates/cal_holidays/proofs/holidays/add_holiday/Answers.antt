@@ -1,7 +1,6 @@
 use Rattle.std.proofs.Common.{◌≡◌, ◌⊎◌, ℕ, length, take, inl, inr, ◌∙◌, SFits, rules, w32}
 use Rattle.std.specs.Prelude.{◌↔◌, Contains}
 use Rattle.std.proofs.lemmas.Int.{to_z-of_z}
-use Rattle.cal_holidays.specs.Holidays.{AreMore}
 use Rattle.cal_holidays.specs.HolidaySearch.{IsHolidayIn, year_of_number}
 use Rattle.cal_holidays.proofs.HolidayLists.{are_more-map, if_none-map, if_some-map, is_holiday-date, none_or, same_or}
 use Rattle.cal_holidays.proofs.holidays.add_holiday.Goals as goal

@@ -1,4 +1,4 @@
-use Rattle.std.proofs.Common.{◌⊎◌, ℕ, length, take, subst, arith}
+use Rattle.std.proofs.Common.{◌⊎◌, length, take, subst, arith}
 use Rattle.std.specs.Prelude.{Contains}
 use Rattle.cal_holidays.specs.Holidays.{AreMore}
 use Rattle.cal_holidays.specs.HolidaySearch.{IsHolidayBy, IsHolidayIn, year_of_number}

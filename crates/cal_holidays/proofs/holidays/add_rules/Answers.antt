@@ -1,8 +1,6 @@
-use Rattle.std.proofs.Common.{◌⊎◌, ℕ, length, take, subst, arith}
-use Rattle.std.specs.Prelude.{Contains}
+use Rattle.std.proofs.Common.{length, take, subst}
 use Rattle.std.proofs.lemmas.List.{get_or_default}
 use Rattle.cal_holidays.specs.Holidays.{AreMore, IsHoliday}
-use Rattle.cal_holidays.specs.HolidaySearch.{IsHolidayBy}
 use Rattle.cal_holidays.proofs.HolidayLists.{all_rules, are_more-map, by_rule, one_rule}
 use Rattle.cal_holidays.proofs.holidays.add_rules.Goals as goal
 

@@ -1,4 +1,4 @@
-use Rattle.std.proofs.Common.{get_or, pos, arith, rules, FitsSigned, w32, w64, to_z, of_z}
+use Rattle.std.proofs.Common.{get_or, pos, arith, rules, FitsSigned, w64, to_z, of_z}
 use Rattle.std.proofs.lemmas.Int.{to_z-of_z}
 use Rattle.cal_schedule.specs.Period.{parts}
 use Rattle.cal_c.specs.ZoneColumns.{int64_row}

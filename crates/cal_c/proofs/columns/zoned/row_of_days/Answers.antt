@@ -1,9 +1,5 @@
 use Rattle.std.proofs.Common.{rules, FitsSigned, w32}
 use Rattle.std.proofs.Math.Facts.{to_z-of_z}
-use Rattle.std.specs.Prelude.{MatchOption}
-use Rattle.cal_zone.specs.Timeline.{Timeline, InOrder}
-use Rattle.cal_zone.specs.declared.policy.Policy.{Policy}
-use Rattle.cal_c.specs.ZoneColumns.{int64_row}
 use Rattle.cal_c.proofs.HeldDays.{IsLaterSeconds-held}
 use Rattle.cal_c.proofs.ZoneResults.{match_by}
 use Rattle.cal_c.proofs.columns.zoned.row_of_days.Goals as goal

@@ -1,11 +1,10 @@
 use Rattle.std.proofs.Math.Facts.{to_z-of_z}
 use Rattle.std.proofs.Common.{FitsSigned, w64, rules, refl, ap, subst, ◌∙◌}
-use Rattle.std.specs.Prelude.{Some, None, Option, ℤ, ℕ}
+use Rattle.std.specs.Prelude.{Some, None, ℕ}
 use Rattle.cal_datetime.specs.DateTime.{date_at, date_time}
 use Rattle.cal_datetime.specs.OffsetDateTime.{LocalAndOffset}
 use Rattle.cal_zoned.specs.Day.{IsStart}
 use Rattle.cal_zoned.specs.Unchecked.{in_zone}
-use Rattle.cal_zoned.specs.Zoned.{InZone}
 use Rattle.cal_c.specs.Results.{int64_ok}
 use Rattle.cal_c.proofs.Needs.{met, unmet}
 use Rattle.cal_c.proofs.columns.zoned.start_seconds.Goals as goal

@@ -1,5 +1,5 @@
-use Rattle.std.proofs.Common.{rules, IsTrue, subst, sym, ◌∙◌, ap, ℤ, ◌-ℤ◌}
-use Rattle.cal_datetime.specs.OffsetDateTime.{instant, LocalAndOffset}
+use Rattle.std.proofs.Common.{rules, IsTrue, subst, sym}
+use Rattle.cal_datetime.specs.OffsetDateTime.{LocalAndOffset}
 use Rattle.cal_zone.specs.Local.{Shows}
 use Rattle.cal_zoned.specs.Unchecked.{result_in}
 use Rattle.cal_c.proofs.Needs.{met, unmet}

@@ -1,9 +1,9 @@
-use Rattle.std.proofs.Common.{◌≡◌, ◌∙◌, rules, arith, sym, subst, to_z, of_z, w64, pos, ◌+ℤ◌, ◌-ℤ◌, ◌<ℤ◌}
+use Rattle.std.proofs.Common.{◌≡◌, ◌∙◌, rules, arith, to_z, of_z, w64, pos, ◌+ℤ◌, ◌<ℤ◌}
 use Rattle.std.proofs.lemmas.Grind.{common_steps}
 use Rattle.std.proofs.lemmas.Int.{ints, by_lt_z}
 use Rattle.cal_time.specs.Date.{last_day}
 use Rattle.cal_datetime.specs.DateTime.{date_at}
-use Rattle.caldate_answers.specs.Counts.{AreMonths, number_of, reached}
+use Rattle.caldate_answers.specs.Counts.{reached}
 use Rattle.caldate_answers.proofs.Outside.{clamp, months_reached, months_within}
 use Rattle.caldate_answers.proofs.answer.counts.months_to.Goals as goal
 

@@ -1,5 +1,4 @@
-use Rattle.std.proofs.Common.{◌∙◌, ap, refl, subst, sym}
-use Rattle.std.specs.Prelude.{IsTrue}
+use Rattle.std.proofs.Common.{◌∙◌, ap, refl, sym}
 use Rattle.cal_format.proofs.Moments.{date-holds}
 use Rattle.cal_format.proofs.Outcomes.{no-result, same-result}
 use Rattle.cal_format.specs.Lenient.{IsLenientRejection, items_of}

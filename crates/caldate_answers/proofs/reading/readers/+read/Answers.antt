@@ -1,4 +1,4 @@
-use Rattle.std.proofs.Common.{rules, arith, ◌∙◌, ◌∷◌, ap, inl, subst, sym}
+use Rattle.std.proofs.Common.{rules, ◌∙◌, ◌∷◌, ap, inl, subst, sym}
 use Rattle.caldate_answers.specs.Readers.{IsFoundBy}
 use Rattle.caldate_answers.proofs.FirstForms.{other_has, others_of, parts}
 use Rattle.caldate_answers.proofs.reading.readers.+read.Goals as goal

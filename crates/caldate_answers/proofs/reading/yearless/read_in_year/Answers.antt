@@ -2,7 +2,7 @@ use Rattle.std.proofs.Common.{◌≡◌, ◌∙◌, ap, arith, length, of_z, sym
 use Rattle.std.proofs.lemmas.Int.{ints}
 use mir.Syntax.{w32}
 use Rattle.cal_time.specs.Date.{year_at}
-use Rattle.caldate_answers.proofs.InYear.{found_elsewhere, found_in_year, no_such_year, unread_in_year, with_error}
+use Rattle.caldate_answers.proofs.InYear.{found_elsewhere, found_in_year, unread_in_year, with_error}
 use Rattle.caldate_answers.proofs.Nearest.{few_digits, full_is}
 use Rattle.caldate_answers.proofs.reading.yearless.read_in_year.Goals as goal
 

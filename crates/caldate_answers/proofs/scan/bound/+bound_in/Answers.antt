@@ -1,4 +1,4 @@
-use Rattle.std.proofs.Common.{◌≤◌, ◌∙◌, ◌∷◌, ap, arith, subst, sym, take}
+use Rattle.std.proofs.Common.{◌∙◌, ◌∷◌, ap, arith, subst, sym, take}
 use Rattle.caldate_answers.specs.Readers.{IsUnread}
 use Rattle.caldate_answers.proofs.FirstForms.{others_of, parts}
 use Rattle.caldate_answers.proofs.TextBounds.{rejected_by}

@@ -1,4 +1,4 @@
-use Rattle.std.proofs.Common.{◌∙◌, ap, arith, length}
+use Rattle.std.proofs.Common.{ap, arith, length}
 use Rattle.caldate_lines.proofs.HeaderNames.{longer}
 use Rattle.caldate_lines.proofs.input.fields.count_fields.Goals as goal
 

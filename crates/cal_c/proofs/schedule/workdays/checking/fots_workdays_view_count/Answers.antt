@@ -1,4 +1,4 @@
-use Rattle.std.proofs.Common.{◌≡◌, ◌∙◌, ap, arith, length, get_or, pos, rules, to_z, w32}
+use Rattle.std.proofs.Common.{◌≡◌, ◌∙◌, ap, arith, length, get_or, pos, rules, w32}
 use Rattle.std.proofs.lemmas.Int.{to_z_pos}
 use Rattle.cal_schedule.specs.WorkdaysSplit.{marked_count}
 use Rattle.cal_c.specs.CheckedWorkdays.{HavePlaces}

@@ -1,10 +1,10 @@
-use Rattle.std.proofs.Common.{◌≡◌, ◌∙◌, Ok, ap, subst, sym}
+use Rattle.std.proofs.Common.{◌∙◌, Ok, ap, subst, sym}
 use Rattle.cal_format.proofs.Outcomes.{no-result, same-result}
 use Rattle.cal_text.specs.declared.any.DateForm.TheVariants.{Calendar}
 use Rattle.cal_text.specs.declared.any.DateOrMoment.TheVariants.{Date, Moment}
 use Rattle.cal_text.specs.declared.any.MomentForm.TheVariants.{Rfc3339}
 use Rattle.caldate_answers.specs.Languages.{IsTextInLanguage}
-use Rattle.caldate_answers.specs.declared.reading.in_language.LanguageKind.TheVariants.{Dates, Moments, DateTimes}
+use Rattle.caldate_answers.specs.declared.reading.in_language.LanguageKind.TheVariants.{Moments, DateTimes}
 use Rattle.caldate_answers.proofs.reading.in_language.LanguageFormat.parse.Goals as goal
 
 pub returns-in-Ok-clause-every : goal.returns-in-Ok-clause-every
