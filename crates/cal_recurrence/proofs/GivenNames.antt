@@ -32,10 +32,13 @@ zone-of (x ∷ xs) v named h =
     let rest = str_to_ascii_lowercase xs in
     let date : is_alike (x ∷ xs) (codes "VALUE=DATE") ≡ false = ap (λ c. bytes_eq (c ∷ rest) (str_to_ascii_lowercase (codes "VALUE=DATE"))) is in
     let time : is_alike (x ∷ xs) (codes "VALUE=DATE-TIME") ≡ false = ap (λ c. bytes_eq (c ∷ rest) (str_to_ascii_lowercase (codes "VALUE=DATE-TIME"))) is in
+    let period : is_alike (x ∷ xs) (codes "VALUE=PERIOD") ≡ false = ap (λ c. bytes_eq (c ∷ rest) (str_to_ascii_lowercase (codes "VALUE=PERIOD"))) is in
+    let either = is_alike (x ∷ xs) (codes "VALUE=DATE-TIME") || is_alike (x ∷ xs) (codes "VALUE=PERIOD") in
+    let neither : either ≡ false = ap (λ t. t || is_alike (x ∷ xs) (codes "VALUE=PERIOD")) time ∙ period in
     let zone = is_zone_name (zone_in (x ∷ xs)) && is_local v in
     let last = λ (t : Bool). cond t zone (is_ignored (x ∷ xs)) in
-    sym (ap (λ t. cond t (is_date v) (cond (is_alike (x ∷ xs) (codes "VALUE=DATE-TIME")) (not (is_date v)) (last (names_zone (x ∷ xs))))) date
-    ∙ ap (λ t. cond t (not (is_date v)) (last (names_zone (x ∷ xs)))) time ∙ ap last named) ∙ h
+    sym (ap (λ t. cond t (is_date v) (cond either (not (is_date v)) (last (names_zone (x ∷ xs))))) date
+    ∙ ap (λ t. cond t (not (is_date v)) (last (names_zone (x ∷ xs)))) neither ∙ ap last named) ∙ h
 
 pub zone-if : (ps : List (List ℕ)) (v : DateOrTime) (zone : List ℕ) → first_zone ps ≡ Some zone → all_allow ps v ≡ true → (is_zone_name zone ≡ true) × (is_local v ≡ true)
 zone-if [] v zone e h = absurd (cc)

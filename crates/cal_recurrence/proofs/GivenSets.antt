@@ -1,16 +1,16 @@
 -- A parsed set is spelled: each value is a value of its line, and some line names its zone.
 use Rattle.std.proofs.Common.{◌≡◌, ℕ, ◌+◌, Bool, true, false, cond, eqb, List, [], ◌∷◌, ◌++◌, append-nil, append_assoc, length, Option, Some, None, Result, Ok, Err, refl, sym, ap, subst, ◌∙◌, arith}
-use Rattle.std.specs.Prelude.{⊤, ◌&&◌, ◌||◌, codes, IfOk, IfSome, is_some, option_map, unwrap_or}
+use Rattle.std.specs.Prelude.{⊤, ◌&&◌, ◌||◌, codes, IfOk, IfSome, is_some, option_and_then, option_map, unwrap_or}
 use Rattle.std.specs.List.{All, list_any}
 use Rattle.std.specs.Option.{option_map_or, option_or, option_zip}
 use Rattle.std.specs.Result.{result_err, result_ok}
-use Rattle.std.proofs.lemmas.Bool.{false≢true}
+use Rattle.std.proofs.lemmas.Bool.{and_parts, false≢true}
 use Rattle.std.proofs.lemmas.List.Elements.{All-append, All-cons, All-nil}
 use Rattle.std.proofs.lemmas.List.Folds.{list_any-append}
 use Rattle.std.proofs.lemmas.Option.{IfSome_then}
 use Rattle.cal_recurrence.specs.DateWords.{date_or_time_of}
 use Rattle.cal_recurrence.specs.Days.{excluded, ranks_alone}
-use Rattle.cal_recurrence.specs.SetText.{all_allow, all_ignored, error_after, first_zone, has_value, if_allowed, is_local, is_zone_name, kind_of, lines_of, once, parameters_on, parts_from, parts_of, recurrence_on, value_error, value_of, value_on, values_on, with_line, with_value, with_zone, zone_error, AreValid, SaysSet}
+use Rattle.cal_recurrence.specs.SetText.{all_allow, all_ignored, error_after, first_zone, has_value, if_allowed, is_local, is_zone_name, kind_of, lines_of, once, parameters_on, parts_from, parts_of, read_part, recurrence_on, value_error, value_of, value_on, values_on, with_line, with_value, with_zone, zone_error, AreValid, SaysSet}
 use Rattle.cal_recurrence.specs.SetWritten.{IsSpelledSet, IsZoneOf}
 use Rattle.cal_recurrence.specs.Spelled.{IsByDay, IsDateOrTime, IsHour, IsMinute, IsMonthDay, IsPosition, IsSecond, IsSpelled, IsWeek}
 use Rattle.cal_recurrence.specs.Text.{checked, each, fault, later_of, list_of, nothing, parts_say, place_of, read_on}
@@ -82,9 +82,14 @@ once-spelled = record {
 abbrev IsAllowed : List (List ℕ) → DateOrTime → Type 0
 IsAllowed ps v = IsDateOrTime v × (all_allow ps v ≡ true)
 
+part-dates : (part : Option (List ℕ)) → IfSome (option_and_then date_or_time_of part) IsDateOrTime
+part-dates None = tt
+part-dates (Some part) = dates part
+
 value-is : (ps : List (List ℕ)) (word : List ℕ) → IfSome (value_of ps word) (IsAllowed ps)
 value-is ps word =
-    if_there IsDateOrTime (IsAllowed ps) (if_allowed ps) (date_or_time_of word) (λ v h. guarded (IsAllowed ps) (all_allow ps v) v (λ e. (h, e))) (dates word)
+    if_there IsDateOrTime (IsAllowed ps) (if_allowed ps) (option_and_then date_or_time_of (read_part ps word)) (λ v h. guarded (IsAllowed ps) (all_allow ps v) v (λ e. (h, e)))
+    (part-dates (read_part ps word))
 
 -- the values of a line, which are readings without `Z` if the line names a zone
 record AreGiven (ps : List (List ℕ)) (vs : List DateOrTime) : Type 0 where
@@ -208,11 +213,11 @@ exceptions-is d ps (Some vs) h e k = record {
 named-is : (its : SetLine) (d : SetDraft) (text : List ℕ) → IsDraft d → kind_of text ≡ Some its → value_error d text its ≡ None
     → IsNamed (parameters_on text) (with_value d text its)
 named-is line.Start d text h e k =
-    start-is d (parameters_on text) (value_on text) h (no-value d.start _ (first-none _ _ k)) (passes _ _ (second-none _ _ k)) (value-is (parameters_on text) (rest_outside 58 text))
+    start-is d (parameters_on text) (value_on text) h (no-value d.start _ (first-none _ _ k)) (and_parts _ (is_some (value_on text)) (passes _ _ (second-none _ _ k))).1 (value-is (parameters_on text) (rest_outside 58 text))
 named-is line.Rule d text h e k =
     rule-is d (parameters_on text) (recurrence_on text) h (second-none _ _ k) (recurrence-is text) (no-zone text)
 named-is line.Dates d text h e k = dates-is d (parameters_on text) (values_on text) h (passes _ _ (second-none _ _ k)) (values-given (parameters_on text) (rest_outside 58 text))
-named-is line.Exceptions d text h e k = exceptions-is d (parameters_on text) (values_on text) h (passes _ _ (second-none _ _ k)) (values-given (parameters_on text) (rest_outside 58 text))
+named-is line.Exceptions d text h e k = exceptions-is d (parameters_on text) (values_on text) h (passes _ _ (second-none _ _ (second-none _ _ k))) (values-given (parameters_on text) (rest_outside 58 text))
 
 zone-is : (d : SetDraft) (ps : List (List ℕ)) → IsNamed ps d → IsDraft (record d { zone = option_or d.zone (first_zone ps) })
 zone-is d ps h = record {

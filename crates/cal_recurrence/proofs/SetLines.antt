@@ -10,7 +10,7 @@ use Rattle.std.proofs.lemmas.List.Folds.{list_any-append}
 use Rattle.std.proofs.lemmas.List.Elements.{All-head, All-tail}
 use Rattle.std.proofs.lemmas.Slice.Eq.{bytes_eq-Decides}
 use Rattle.cal_recurrence.specs.Buffers.{IsPut}
-use Rattle.cal_recurrence.specs.SetText.{after_first_part, all_allow, all_name, error_after, error_unless, first_zone, has_room, is_local, is_name_byte, is_zone_name, kind_of, line_of, lines_of, parameters_of, parameters_on, parts_from, parts_of, recurrence_on, unless_error, unquoted, value_error, value_of, value_on, values_on, with_line, with_value, without_return, AreValid, SaysSet}
+use Rattle.cal_recurrence.specs.SetText.{after_first_part, all_allow, all_name, are_periods, error_after, error_unless, first_zone, has_periods, has_room, is_local, is_name_byte, is_zone_name, kind_of, line_of, lines_of, parameters_of, parameters_on, parts_from, parts_of, recurrence_on, unless_error, unquoted, value_error, value_of, value_on, values_on, with_line, with_value, without_return, AreValid, SaysSet}
 use Rattle.cal_recurrence.specs.SetWritten.{head_text, is_same_kind, line_end, more_text, parameter_text, set_text, values_text, IsSpelledSet, IsZoneOf}
 use Rattle.cal_recurrence.specs.Spelled.{IsDateOrTime, IsSpelled}
 use Rattle.cal_recurrence.specs.Text.{fault, parts_say, ReadsBack}
@@ -225,11 +225,17 @@ same-kind (Date n) = refl
 same-kind (Local z) = refl
 same-kind (Utc z) = refl
 
+no-periods : (tzid : Option (List ℕ)) (v : DateOrTime) → are_periods (parameters tzid v) ≡ false
+no-periods tzid (Date n) = refl
+no-periods None (Local z) = refl
+no-periods (Some tzid) (Local z) = refl
+no-periods tzid (Utc z) = refl
+
 kind-word : (tzid : Option (List ℕ)) (v w : DateOrTime) → IsZone tzid → is_same_kind v w ≡ true → IsDateOrTime w
     → IsWord (value_of (parameters tzid v)) w (date_or_time_text w)
 kind-word tzid v w z same is =
     let word = date-word w is in
-    record { apart = word.apart; means = rw (word.means, allowed tzid v w z same) refl }
+    record { apart = word.apart; means = rw (no-periods tzid v, word.means, allowed tzid v w z same) refl }
 
 -- the values of a line after the first, v
 abbrev IsRun : Option (List ℕ) → DateOrTime → List DateOrTime → Type 0
@@ -256,7 +262,7 @@ joined-and v ws w =
 record IsList (name : List ℕ) (its : SetLine) (to : List DateOrTime → Option (List ℕ) → SetDraft) : Type 0 where
   plain : IsName name
   means : line_of name ≡ Some its
-  puts : (ds ws : List DateOrTime) (s : Option (List ℕ)) (whole : List ℕ) → has_room (length ds) (rest_outside 58 whole) ≡ true → values_on whole ≡ Some ws
+  puts : (ds ws : List DateOrTime) (s : Option (List ℕ)) (whole : List ℕ) → has_room (length ds) (rest_outside 58 whole) ≡ true → values_on whole ≡ Some ws → has_periods whole ≡ false
       → (value_error (to ds s) whole its ≡ None) × (with_value (to ds s) whole its ≡ to (ds ++ ws) s)
   zoned : (ds : List DateOrTime) (s t : Option (List ℕ)) → ((to ds s).zone ≡ s) × (record (to ds s) { zone = t } ≡ to ds t)
   locals : (ds ws : List DateOrTime) (s t : Option (List ℕ)) → some_local (to ds s) ≡ false → list_any is_local ws ≡ false → some_local (to (ds ++ ws) t) ≡ false
@@ -285,7 +291,7 @@ line-put name its to h tzid s v ws ds z known run few =
     let is = line-by name (head_of name tzid v) value its texts (head-is name tzid v h.plain z) h.means in
     let values : values_on whole ≡ Some (v ∷ ws) =
     rw (is.parameters, is.rest) (list-value (value_of texts) date_or_time_text v ws run (omega (arith, few))).means in
-    let puts = h.puts ds (v ∷ ws) s whole (ap (has_room (length ds)) is.rest ∙ room-for tzid v ws (length ds) run few) values in
+    let puts = h.puts ds (v ∷ ws) s whole (ap (has_room (length ds)) is.rest ∙ room-for tzid v ws (length ds) run few) values (ap are_periods is.parameters ∙ no-periods tzid v) in
     let zones = h.zoned (ds ++ v ∷ ws) s (zone_after tzid s v) in
     line-done (to ds s) (to (ds ++ v ∷ ws) s) whole its texts value s (zone_after tzid s v) is (h.zoned ds s s).0 zones.0 puts.0 puts.1 (zone-put its tzid s v z known)
     ∙ ap Ok zones.1
@@ -407,7 +413,7 @@ dates-list : (start : DateOrTime) (r : Recurrence) → IsList (codes "RDATE") li
 dates-list start r = record {
   plain = (refl, refl, refl, refl);
   means = refl;
-  puts = λ ds ws s whole room values. (rw (room, values) refl, rw values refl);
+  puts = λ ds ws s whole room values plain. (rw (room, values) refl, rw values refl);
   zoned = λ ds s t. (refl, refl);
   locals = λ ds ws s t none plain.
       ap (λ b. is_local start || (b || false)) (list_any-append is_local ds ws) ∙ more-false (is_local start) (list_any is_local ds) (list_any is_local ws) false none plain;
@@ -418,7 +424,7 @@ exceptions-list : (start : DateOrTime) (r : Recurrence) (dates : List DateOrTime
 exceptions-list start r dates = record {
   plain = (refl, refl, refl, refl);
   means = refl;
-  puts = λ ds ws s whole room values. (rw (room, values) refl, rw values refl);
+  puts = λ ds ws s whole room values plain. (rw (room, values, plain) refl, rw values refl);
   zoned = λ ds s t. (refl, refl);
   locals = λ ds ws s t none plain.
       ap (λ b. is_local start || (list_any is_local dates || b)) (list_any-append is_local ds ws)
@@ -436,8 +442,9 @@ start-put tzid start z is =
     let word = kind-word tzid start start z (same-kind start) is in
     let split = line-by name (head_of name tzid start) value line.Start texts (head-is name tzid start (refl, refl, refl, refl) z) refl in
     let means : value_on whole ≡ Some start = rw (split.parameters, split.rest, append-nil) word.means in
+    let plain : has_periods whole ≡ false = ap are_periods split.parameters ∙ no-periods tzid start in
     line-done (parts_of []) (draft_of (Some start) None [] [] None) whole line.Start texts value None (zone_after tzid None start) split refl refl
-    (rw means refl) (rw means refl) (first-zone line.Start tzid start z)
+    (rw (means, plain) refl) (rw means refl) (first-zone line.Start tzid start z)
 
 -- the recurrence
 rule-put : (start : DateOrTime) (s : Option (List ℕ)) (r : Recurrence) (text : List ℕ) → parts_say 6 (parts_at 59 text) ≡ Ok r

@@ -68,8 +68,21 @@ is_ignored parameter =
     list_any (λ b. b == 61) parameter && (is_token name && not (is_known name))
 
 -- ---- values
--- A parameter allows a value: `VALUE=DATE` a date, `VALUE=DATE-TIME` a reading, `TZID` with the name
--- of a zone a reading without `Z`, and a parameter that readers ignore each value.
+-- The values are periods (RFC 5545, section 3.3.9): a parameter is `VALUE=PERIOD`.
+abbrev pub are_periods : List (List ℕ) → Bool
+are_periods [] = false
+are_periods (parameter ∷ parameters) = is_alike parameter (codes "VALUE=PERIOD") || are_periods parameters
+
+-- The start of a period, which comes before `/` (47). Its end or duration isn't read.
+abbrev pub period_start : List ℕ → Option (List ℕ)
+period_start word = if list_any (λ b. b == 47) word then Some (front_at 47 word) else None
+
+-- The part of a word that is read: the start of a period, or else the whole word.
+abbrev pub read_part : List (List ℕ) → List ℕ → Option (List ℕ)
+read_part parameters word = if are_periods parameters then period_start word else Some word
+
+-- A parameter allows a value: `VALUE=DATE` a date, `VALUE=DATE-TIME` and `VALUE=PERIOD` a reading,
+-- `TZID` with the name of a zone a reading without `Z`, and a parameter that readers ignore each value.
 abbrev pub is_date : DateOrTime → Bool
 is_date (Date n) = true
 is_date (Local z) = false
@@ -83,7 +96,7 @@ is_local (Utc z) = false
 abbrev pub allows : List ℕ → DateOrTime → Bool
 allows parameter value =
     if is_alike parameter (codes "VALUE=DATE") then is_date value else
-    if is_alike parameter (codes "VALUE=DATE-TIME") then not (is_date value) else
+    if is_alike parameter (codes "VALUE=DATE-TIME") || is_alike parameter (codes "VALUE=PERIOD") then not (is_date value) else
     if names_zone parameter then is_zone_name (zone_in parameter) && is_local value else
     is_ignored parameter
 
@@ -107,7 +120,7 @@ if_allowed parameters value = if all_allow parameters value then Some value else
 
 -- The value that a word says, if each parameter allows it.
 abbrev pub value_of : List (List ℕ) → List ℕ → Option DateOrTime
-value_of parameters word = option_and_then (if_allowed parameters) (date_or_time_of word)
+value_of parameters word = option_and_then (if_allowed parameters) (option_and_then date_or_time_of (read_part parameters word))
 
 -- A list of some values has room for the words with commas between them: there are at most 62.
 abbrev pub has_room : ℕ → List ℕ → Bool
@@ -219,12 +232,16 @@ error_unless passes why = if passes then None else Some why
 abbrev pub list_error : ℕ → List ℕ → SetLine → Option ParseSetErrorKind
 list_error filled text its = option_or (error_unless (has_room filled (rest_outside 58 text)) (TooMany its)) (error_unless (is_some (values_on text)) (Value its))
 
+-- The values of a line are periods. Only dates of `RDATE` may be.
+abbrev pub has_periods : List ℕ → Bool
+has_periods text = are_periods (parameters_on text)
+
 -- The error in the value of a line after lines that say some parts.
 abbrev pub value_error : SetDraft → List ℕ → SetLine → Option ParseSetErrorKind
-value_error said text line.Start = option_or (error_unless (not (is_some said.start)) (Twice line.Start)) (error_unless (is_some (value_on text)) (Value line.Start))
+value_error said text line.Start = option_or (error_unless (not (is_some said.start)) (Twice line.Start)) (error_unless (not (has_periods text) && is_some (value_on text)) (Value line.Start))
 value_error said text line.Rule = option_or (error_unless (not (is_some said.recurrence)) (Twice line.Rule)) (option_map Rule (result_err (recurrence_on text)))
 value_error said text line.Dates = list_error (length said.dates) text line.Dates
-value_error said text line.Exceptions = list_error (length said.exceptions) text line.Exceptions
+value_error said text line.Exceptions = option_or (error_unless (not (has_periods text)) (Value line.Exceptions)) (list_error (length said.exceptions) text line.Exceptions)
 
 -- The error of a line that names another zone than a line before it, or two zones.
 abbrev pub zone_error : SetDraft → List ℕ → SetLine → Option ParseSetErrorKind

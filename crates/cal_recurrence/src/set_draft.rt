@@ -1,7 +1,7 @@
 //! A recurrence set while it is parsed.
 ghost use Rattle.std.specs.Prelude.{◌≡◌, ◌+◌, ◌≤◌, ◌++◌, [], length, option_map, unwrap_or};
 ghost use Rattle.cal_schedule.specs.Values.{most_values};
-ghost use Rattle.cal_recurrence.specs.SetText.{error_after, kind_of, line_of, list_error, once, parameters_of, parts_from, parts_of, recurrence_on, unless_error, value_error, value_of, value_on, values_on, with_line, with_value, with_zone, zone_error, zone_on};
+ghost use Rattle.cal_recurrence.specs.SetText.{error_after, has_periods, kind_of, line_of, list_error, once, parameters_of, parts_from, parts_of, recurrence_on, unless_error, value_error, value_of, value_on, values_on, with_line, with_value, with_zone, zone_error, zone_on};
 ghost use Rattle.cal_recurrence.specs.Text.{list_of};
 ghost use Rattle.cal_recurrence.specs.Words.{parts_at, rest_outside};
 
@@ -13,7 +13,7 @@ use crate::parsing::parse_parts;
 use crate::recurrence::{Recurrence, RuleEnd};
 use crate::rule_count::RuleCount;
 use crate::set_fault::{ParseSetErrorKind, SetLine};
-use crate::set_parameters::{all_allow, all_ignored, all_name, first_zone};
+use crate::set_parameters::{all_allow, all_ignored, all_name, are_periods, first_zone, read_part};
 use crate::set_parts::SetParts;
 use crate::times_of_day::TimesOfDay;
 use crate::words::{cut, cut_outside, is_alike};
@@ -35,7 +35,7 @@ pub struct SetDraft<'a> {
 fn value_of(head: &[u8], word: &[u8]) -> Option<DateOrTime>
     ensures { result ≡ value_of (parameters_of head.now) word.now }
 {
-    let value = date_or_time_of(word)?;
+    let value = date_or_time_of(read_part(head, word)?)?;
     if all_allow(head, &value) {
         Some(value)
     } else {
@@ -98,6 +98,13 @@ fn more_of(
         return Err(ParseSetErrorKind::TooMany(kind));
     }
     more_values(dates, cut_outside(line, b':').0, tail(line)).ok_or(ParseSetErrorKind::Value(kind))
+}
+
+/// Returns `true` if the values of a line are periods.
+fn has_periods(line: &[u8]) -> bool
+    ensures { result ≡ has_periods line.now }
+{
+    are_periods(cut_outside(line, b':').0)
 }
 
 /// Returns the recurrence of a set without `RRULE`.
@@ -205,7 +212,8 @@ impl<'a> SetDraft<'a> {
     }
 
     /// Parses the value of one more line. Returns `Twice` for a second start or recurrence, `Rule`
-    /// for an invalid recurrence, `Value` for another invalid value, or the errors of `more_of`.
+    /// for an invalid recurrence, `Value` for another invalid value, or for a period that isn't one
+    /// of `RDATE`, or the errors of `more_of`.
     fn with_value(mut self, line: &[u8], kind: SetLine) -> Result<Self, ParseSetErrorKind>
         ensures { result ≡ unless_error (value_error self.entry line.now kind)
             (with_value self.entry line.now kind) }
@@ -214,7 +222,7 @@ impl<'a> SetDraft<'a> {
             SetLine::Start if self.start.is_some() => return Err(ParseSetErrorKind::Twice(kind)),
             SetLine::Start => {
                 self.start = value_on(line);
-                if self.start.is_none() {
+                if has_periods(line) || self.start.is_none() {
                     return Err(ParseSetErrorKind::Value(kind));
                 }
             }
@@ -228,6 +236,9 @@ impl<'a> SetDraft<'a> {
             SetLine::Dates => {
                 let dates = std::mem::replace(&mut self.dates, no_values());
                 self.dates = more_of(dates, line, kind)?;
+            }
+            SetLine::Exceptions if has_periods(line) => {
+                return Err(ParseSetErrorKind::Value(kind));
             }
             SetLine::Exceptions => {
                 let exceptions = std::mem::replace(&mut self.exceptions, no_values());

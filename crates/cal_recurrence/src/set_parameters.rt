@@ -1,7 +1,7 @@
 //! The parameters of a line of a recurrence set.
 ghost use Rattle.std.specs.Prelude.{◌≡◌, Some, None, option_map, if◌then◌else◌};
 ghost use Rattle.std.specs.List.{list_all};
-ghost use Rattle.cal_recurrence.specs.SetText.{all_allow, all_ignored, all_name, allows, first_zone, is_date, is_ignored, is_known, is_local, is_name_byte, is_token, is_token_byte, is_zone_name, names_zone, parameters_of, zone_in};
+ghost use Rattle.cal_recurrence.specs.SetText.{all_allow, all_ignored, all_name, allows, are_periods, first_zone, is_date, is_ignored, is_known, is_local, is_name_byte, is_token, is_token_byte, is_zone_name, names_zone, parameters_of, read_part, zone_in};
 
 use crate::date_or_time::DateOrTime;
 use crate::words::{cut, cut_outside, is_alike, unquoted};
@@ -93,13 +93,40 @@ pub(crate) fn all_ignored(head: &[u8]) -> bool
     }
 }
 
+/// Returns `true` if a parameter says that the values are periods. The parameters come after the name
+/// of a line, or after another parameter.
+pub(crate) fn are_periods(head: &[u8]) -> bool
+    ensures { result ≡ are_periods (parameters_of head.now) }
+{
+    match cut_outside(head, b';').1 {
+        Some(rest) => { is_alike(cut_outside(rest, b';').0, b"VALUE=PERIOD") || are_periods(rest) }
+        None => false,
+    }
+}
+
+/// Returns the start of a period, before `/`, or another word as it is. Returns `None` for a period
+/// without `/`.
+pub(crate) fn read_part<'a>(head: &[u8], word: &'a [u8]) -> Option<&'a [u8]>
+    ensures { option_map (λ part. part.now) result
+        ≡ read_part (parameters_of head.now) word.now }
+{
+    if !are_periods(head) {
+        return Some(word);
+    }
+    if word.contains(&b'/') {
+        Some(cut(word, b'/').0)
+    } else {
+        None
+    }
+}
+
 /// Returns `true` if the parameter allows the value.
 fn allows(parameter: &[u8], value: &DateOrTime) -> bool
     ensures { result ≡ allows parameter.now value.now }
 {
     if is_alike(parameter, b"VALUE=DATE") {
         is_date(value)
-    } else if is_alike(parameter, b"VALUE=DATE-TIME") {
+    } else if is_alike(parameter, b"VALUE=DATE-TIME") || is_alike(parameter, b"VALUE=PERIOD") {
         !is_date(value)
     } else {
         match zone_in(parameter) {

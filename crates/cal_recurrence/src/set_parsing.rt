@@ -21,6 +21,9 @@ use crate::words::{cut, split};
 /// and `TZID=Europe/Berlin` requires times without `Z`. A set has one zone, so each `TZID` has the
 /// same name, byte by byte. The name can be in quotation marks, and has no `"`, `:` or `;`.
 ///
+/// With `VALUE=PERIOD`, each value of `RDATE` is the time before a `/`, and the end or the duration
+/// after it isn't read: `20240101T090000Z/PT1H` is `20240101T090000Z`.
+///
 /// Other parameters are ignored, such as `X-FOO=1` or `X-FOO="a:b;c"`. `RRULE` can have only such
 /// parameters.
 ///
