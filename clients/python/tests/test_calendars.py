@@ -1,6 +1,6 @@
 """Compares the holidays of calendars, from Monday to Friday, with the packages python3-holidays 0.10.1,
 python3-workalendar 17.0.0, libdate-holidays-de-perl 2.06 and quantlib-python 1.29 of Debian 12, and
-python3-holidays 0.71 of Debian 13, if they are installed."""
+python3-holidays 0.71 of Debian 13, if they are installed, and with published lists."""
 
 import datetime
 import subprocess
@@ -25,6 +25,75 @@ except ImportError:
     workalendar = None
 
 STATES = "bw by be bb hb hh he mv ni nw rp sl sn st sh th".split()
+
+# Published lists, and days without prices or rates: a calendar, the first and the last day of the list, the days
+# from Monday to Friday that it lacks, and its days by year.
+PUBLISHED = (
+    # The lists of nyse.com for 2007 to 2011, as in tests of the package r-cran-timedate 4022.108-1. They lack a day of
+    # mourning, 2 January 2007.
+    ("nyse", "2007-01-01", "2011-12-31", "2007-01-02", """
+    2007: 01-01 01-15 02-19 04-06 05-28 07-04 09-03 11-22 12-25
+    2008: 01-01 01-21 02-18 03-21 05-26 07-04 09-01 11-27 12-25
+    2009: 01-01 01-19 02-16 04-10 05-25 07-03 09-07 11-26 12-25
+    2010: 01-01 01-18 02-15 04-02 05-31 07-05 09-06 11-25 12-24
+    2011: 01-17 02-21 04-22 05-30 07-04 09-05 11-24 12-26
+    """),
+    # Weekdays without a close of the S&P 500, by the examples of bqplot 0.12.32.
+    ("nyse", "1995-01-03", "2020-07-30", "", """
+    1995: 02-20 04-14 05-29 07-04 09-04 11-23 12-25
+    1996: 01-01 02-19 04-05 05-27 07-04 09-02 11-28 12-25
+    1997: 01-01 02-17 03-28 05-26 07-04 09-01 11-27 12-25
+    1998: 01-01 01-19 02-16 04-10 05-25 07-03 09-07 11-26 12-25
+    1999: 01-01 01-18 02-15 04-02 05-31 07-05 09-06 11-25 12-24
+    2000: 01-17 02-21 04-21 05-29 07-04 09-04 11-23 12-25
+    2001: 01-01 01-15 02-19 04-13 05-28 07-04 09-03 09-11 09-12 09-13 09-14 11-22 12-25
+    2002: 01-01 01-21 02-18 03-29 05-27 07-04 09-02 11-28 12-25
+    2003: 01-01 01-20 02-17 04-18 05-26 07-04 09-01 11-27 12-25
+    2004: 01-01 01-19 02-16 04-09 05-31 06-11 07-05 09-06 11-25 12-24
+    2005: 01-17 02-21 03-25 05-30 07-04 09-05 11-24 12-26
+    2006: 01-02 01-16 02-20 04-14 05-29 07-04 09-04 11-23 12-25
+    2007: 01-01 01-02 01-15 02-19 04-06 05-28 07-04 09-03 11-22 12-25
+    2008: 01-01 01-21 02-18 03-21 05-26 07-04 09-01 11-27 12-25
+    2009: 01-01 01-19 02-16 04-10 05-25 07-03 09-07 11-26 12-25
+    2010: 01-01 01-18 02-15 04-02 05-31 07-05 09-06 11-25 12-24
+    2011: 01-17 02-21 04-22 05-30 07-04 09-05 11-24 12-26
+    2012: 01-02 01-16 02-20 04-06 05-28 07-04 09-03 10-29 10-30 11-22 12-25
+    2013: 01-01 01-21 02-18 03-29 05-27 07-04 09-02 11-28 12-25
+    2014: 01-01 01-20 02-17 04-18 05-26 07-04 09-01 11-27 12-25
+    2015: 01-01 01-19 02-16 04-03 05-25 07-03 09-07 11-26 12-25
+    2016: 01-01 01-18 02-15 03-25 05-30 07-04 09-05 11-24 12-26
+    2017: 01-02 01-16 02-20 04-14 05-29 07-04 09-04 11-23 12-25
+    2018: 01-01 01-15 02-19 03-30 05-28 07-04 09-03 11-22 12-05 12-25
+    2019: 01-01 01-21 02-18 04-19 05-27 07-04 09-02 11-28 12-25
+    2020: 01-01 01-20 02-17 04-10 05-25 07-03
+    """),
+    # The list of gov.uk for England and Wales of 1 October 2022, as in tests of r-cran-timedate 4022.108-1.
+    ("england-and-wales", "2017-01-01", "2022-12-31", "", """
+    2017: 01-02 04-14 04-17 05-01 05-29 08-28 12-25 12-26
+    2018: 01-01 03-30 04-02 05-07 05-28 08-27 12-25 12-26
+    2019: 01-01 04-19 04-22 05-06 05-27 08-26 12-25 12-26
+    2020: 01-01 04-10 04-13 05-08 05-25 08-31 12-25 12-28
+    2021: 01-01 04-02 04-05 05-03 05-31 08-30 12-27 12-28
+    2022: 01-03 04-15 04-18 05-02 06-02 06-03 08-29 09-19 12-26 12-27
+    """),
+    # Weekdays without reference rates of the European Central Bank, by its file in r-cran-xml 3.99-0.13.
+    ("target", "1999-01-04", "2006-10-06", "", """
+    1999: 12-31
+    2000: 04-21 04-24 05-01 12-25 12-26
+    2001: 01-01 04-13 04-16 05-01 12-25 12-26 12-31
+    2002: 01-01 03-29 04-01 05-01 12-25 12-26
+    2003: 01-01 04-18 04-21 05-01 12-25 12-26
+    2004: 01-01 04-09 04-12
+    2005: 03-25 03-28 12-26
+    2006: 04-14 04-17 05-01
+    """),
+    # Google's calendar of 2022, as in tests of python-ical 9.0.0, without the regional Inauguration Day.
+    ("us-federal", "2021-01-01", "2023-12-31", "", """
+    2021: 01-01 01-18 02-15 05-31 06-18 07-05 09-06 10-11 11-11 11-25 12-24 12-31
+    2022: 01-17 02-21 05-30 06-20 07-04 09-05 10-10 11-11 11-24 12-26
+    2023: 01-02 01-16 02-20 05-29 06-19 07-04 09-04 10-09 11-10 11-23 12-25
+    """),
+)
 
 
 def ours(calendar, first, last):
@@ -58,6 +127,13 @@ class Calendars(unittest.TestCase):
         """Checks that only these days are holidays for one of the two, but not for the other."""
         found = ours(calendar, *years) ^ {day for day in others if day.weekday() < 5}
         self.assertEqual(sorted(map(str, found)), days.split(), calendar)
+
+    def test_published(self):
+        for calendar, first, last, lacks, years in PUBLISHED:
+            lines = (line.split(": ") for line in years.split("\n")[1:-1])
+            published = {f"{year.strip()}-{day}" for year, days in lines for day in days.split()}
+            found = {str(day) for day in ours(calendar, int(first[:4]), int(last[:4])) if first <= str(day) <= last}
+            self.assertEqual(found ^ published, set(lacks.split()), calendar)
 
     @unittest.skipUnless(is_version(holidays, "0.10.1"), "needs python3-holidays 0.10.1")
     def test_python_holidays(self):
