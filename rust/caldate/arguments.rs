@@ -311,7 +311,7 @@ fn value_format_text(format: &ValueFormat) -> String {
     }
 }
 
-/// Returns the name of February in the language, which no other language has.
+/// Returns the names of February and Thursday, which no two languages share.
 fn named_text(names: &Names<'_>) -> String {
     format!("{}/{}", names.months[1], names.weekdays[3])
 }
