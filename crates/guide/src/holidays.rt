@@ -1,6 +1,6 @@
 //! Holidays by rules.
-ghost use Rattle.std.specs.Prelude.{◌↔◌, ℕ, Contains, IfSome};
-ghost use Rattle.cal_holidays.specs.Holidays.{IsHoliday, IsHolidayFor};
+ghost use Rattle.std.specs.Prelude.{◌≡◌, ◌↔◌, ℕ, ◌∷◌, [], true, false, Contains, IfSome, IsNone, length};
+ghost use Rattle.cal_holidays.specs.Holidays.{AreMore, IsHoliday, IsHolidayFor};
 
 use cal_holidays::{HolidayDay, HolidayRule, workdays_from_rules};
 use cal_schedule::Workdays;
@@ -15,16 +15,19 @@ const NEW_YEAR: HolidayRule = HolidayRule {
     moves: [0, 0, 0, 0, 0, -1, 1],
 };
 
-/// Returns the working days from Monday to Friday with the holidays of rules in a year, or `None` if
-/// the buffer has no room for them.
+/// Returns the working days from Monday to Friday with the holidays of rules from one date through
+/// another, or `None` if the buffer has no room for them.
 fn office<'a>(
     rules: &[HolidayRule],
     first: Date,
     last: Date,
     days: &'a mut [Date],
 ) -> Option<Workdays<'a>>
-    ensures { IfSome result (λ week. (n : ℕ) → Contains week.holidays n
+    ensures marks { IfSome result (λ week.
+        week.marks ≡ true ∷ true ∷ true ∷ true ∷ true ∷ false ∷ false ∷ []) }
+    ensures holidays { IfSome result (λ week. (n : ℕ) → Contains week.holidays n
         ↔ IsHoliday rules.now first last n) }
+    ensures none { IsNone result ↔ AreMore (IsHoliday rules.now first last) (length days.old) }
 {
     let marks = [true, true, true, true, true, false, false];
     workdays_from_rules(marks, rules, first, last, days)

@@ -1,5 +1,5 @@
 //! Dates with the names of a language.
-ghost use Rattle.std.specs.Prelude.{◌≡◌, ℕ, Some, IfSome};
+ghost use Rattle.std.specs.Prelude.{◌≡◌, ℕ, None, Some, IfSome};
 ghost use Rattle.cal_format.specs.Moment.{moment_of_date};
 ghost use Rattle.cal_named_format.specs.Ambiguity.{ReadBack};
 ghost use Rattle.cal_named_format.specs.Named.{text_in};
@@ -18,6 +18,7 @@ fn date_in(format: &DateFormat, names: &Names, text: &[u8]) -> Option<Date>
     ensures value { IfSome result (λ n. text.now ≡ text_in names.now format.now (moment_of_date n)) }
     ensures every { ReadBack names.now format.now → (n : ℕ) → HoldsDate format.now n
         → text.now ≡ text_in names.now format.now (moment_of_date n) → result ≡ Some n }
+    ensures none { ¬ ReadBack names.now format.now → result ≡ None }
 {
     if check_names(format.as_format().items(), names).is_err() {
         return None;
