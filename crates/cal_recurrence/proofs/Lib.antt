@@ -1,6 +1,7 @@
 pub mod Cuts
 pub mod Numbers
 pub mod Dates
+pub mod DayBounds
 pub mod Digits
 pub mod Listed
 pub mod Marked

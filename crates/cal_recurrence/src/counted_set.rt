@@ -126,6 +126,7 @@ impl<'a> CountedSet<'a> {
                     return found;
                 }
             }
+            self.left.pass_over(&mut self.set.rule, reading);
             if !self.left.count_on(&mut self.set.rule) {
                 return found;
             }

@@ -1,5 +1,5 @@
 //! The readings of a `COUNT`, counted as far as a search needs them.
-ghost use Rattle.std.specs.Prelude.{◌≡◌, ◌<◌, ◌-◌, ◌∷◌, false, true, [], length, MatchOption};
+ghost use Rattle.std.specs.Prelude.{◌≡◌, ◌<◌, ◌≤◌, ◌-◌, ◌∷◌, false, true, [], length, MatchOption};
 ghost use Rattle.cal_recurrence.specs.CountedSet.{unread, whole_rule};
 ghost use Rattle.cal_recurrence.specs.Cursors.{resumed_rule, StandsFor};
 
@@ -69,6 +69,36 @@ impl Uncounted {
         let reading = self.readings.next()?;
         self.left = self.left.saturating_sub(1);
         Some(reading)
+    }
+
+    /// Passes over the readings up to this one, if at least as many are left as the rule can have, so
+    /// that the count never ends it. Does nothing if no reading comes after this one.
+    pub(crate) fn pass_over(&mut self, rule: &mut DateTimeRule, reading: PlainDateTime)
+        requires { self.old.readings ≡ unread rule.old self.old.left }
+        ensures whole { whole_rule rule.new self.new.readings ≡ whole_rule rule.old self.old.readings }
+        ensures counted { self.new.readings ≡ unread rule.new self.new.left }
+        ensures fewer { length self.new.readings ≤ length self.old.readings }
+        ensures none { self.new.readings ≡ [] → rule.new ≡ rule.old }
+        ensures all { self.new.readings ≡ [] → self.old.readings ≡ [] }
+    {
+        let Some(last) = rule.until() else {
+            return;
+        };
+        if rule.is_not_after(reading) {
+            return;
+        }
+        if reading.date() == last.date() {
+            return;
+        }
+        let endless = rule.endless();
+        if u64::from(self.left) < endless.max_readings() {
+            return;
+        }
+        let Some(_next) = endless.next_after(reading) else {
+            return;
+        };
+        self.readings = endless.first_after(reading, self.left);
+        rule.end_at(reading);
     }
 
     /// Counts some readings, twice as many each time, and moves the end of the rule to the last of
