@@ -1,7 +1,8 @@
 //! Parses the text of a recurrence.
 ghost use Rattle.std.specs.Prelude.{◌≡◌, ◌+◌, ◌<◌, ◌^◌, length, IfOk};
+ghost use Rattle.cal_recurrence.specs.Drafts.{read_on};
 ghost use Rattle.cal_recurrence.specs.Spelled.{IsSpelled};
-ghost use Rattle.cal_recurrence.specs.Text.{day_recurrence_of, days_say, later, parts_say, place_of, read_on, recurrence_of};
+ghost use Rattle.cal_recurrence.specs.Text.{day_recurrence_of, days_say, later, parts_say, place_of, recurrence_of};
 ghost use Rattle.cal_recurrence.specs.Words.{parts_at};
 
 use crate::draft::Draft;
