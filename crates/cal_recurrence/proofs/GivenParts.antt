@@ -1,8 +1,8 @@
 -- A parsed recurrence is spelled: each value is a value of its part.
-use Rattle.std.proofs.Common.{◌≡◌, ℕ, zero, suc, ◌+◌, ◌-◌, ◌/◌, ◌%◌, ◌<◌, ◌≤◌, Bool, true, false, cond, eqb, List, [], ◌∷◌, length, take, drop, Option, Some, None, ℤ, pos, refl, sym, ap, ◌∙◌, subst, arith}
-use Rattle.std.specs.Prelude.{⊤, codes, min, nat_le, nat_lt, neg_ℤ, slice_index, option_map, option_and_then, not, ◌&&◌, unwrap_or, IfSome, ◌≤ℤ◌}
+use Rattle.std.proofs.Common.{◌≡◌, ℕ, zero, suc, ◌+◌, ◌-◌, ◌/◌, ◌%◌, ◌<◌, ◌≤◌, Bool, true, false, cond, eqb, List, [], ◌∷◌, length, take, drop, Option, Some, None, Ok, Err, ℤ, pos, refl, sym, ap, ◌∙◌, subst, arith}
+use Rattle.std.specs.Prelude.{⊤, codes, min, nat_le, nat_lt, neg_ℤ, slice_index, option_map, option_and_then, not, ◌&&◌, is_some, unwrap_or, IfSome, ◌≤ℤ◌}
 use Rattle.std.specs.List.{All}
-use Rattle.std.specs.Option.{option_or, option_zip}
+use Rattle.std.specs.Option.{option_map_or, option_or, option_zip}
 use Rattle.std.specs.Str.Parse.{digits_value}
 use Rattle.std.proofs.lemmas.Bool.{and_parts}
 use Rattle.std.proofs.lemmas.Bool.Decides.{nat_tests}
@@ -24,13 +24,16 @@ use Rattle.cal_schedule.specs.declared.rule.rule.Frequency.TheVariants.{Daily}
 use Rattle.cal_recurrence.specs.DateWords.{date_or_time_of, day_with, has_digits, time_with, with_time, with_zone}
 use Rattle.cal_recurrence.specs.Days.{excluded, ranks_alone}
 use Rattle.cal_recurrence.specs.Spelled.{HasFourDigits, IsCount, IsDateOrTime, IsIndex, IsMonthDay, IsByDay, IsHour, IsMinute, IsPosition, IsSecond, IsWeek, IsEnd, IsPeriod, IsSpelled, IsWhole}
-use Rattle.cal_recurrence.specs.Text.{each, end_said, list_of, recurrence_said, said}
+use Rattle.cal_recurrence.specs.Text.{each, end_said, fault, first_error, list_of, place_of, recurrence_said, said, valid_parts_say, value_in}
 use Rattle.cal_recurrence.specs.Words.{bytes_after, by_hour_of, by_minute_of, by_second_of, clock_value_of, first_bytes, is_alike, parts_at, up_to, frequency_of, is_number, number_of, from_one_to, count_of, short_count_of, index_of, weekday_of, month_of, month_day_of, week_of, by_day_of, position_of}
 use Rattle.cal_recurrence.specs.declared.clock_unit.ClockUnit.{ClockUnit}
 use Rattle.cal_recurrence.specs.declared.date_or_time.DateOrTime.{DateOrTime}
 use Rattle.cal_recurrence.specs.declared.date_or_time.DateOrTime.TheVariants.{Date, Local, Utc}
+use Rattle.cal_recurrence.specs.declared.fault.ParseRuleError.{ParseRuleError}
+use Rattle.cal_recurrence.specs.declared.fault.ParseRuleErrorKind.TheVariants.{Missing}
 use Rattle.cal_recurrence.specs.declared.fault.RulePart.{RulePart}
 use Rattle.cal_recurrence.specs.declared.fault.RulePart.TheVariants as part
+use Rattle.cal_recurrence.specs.declared.recurrence.Recurrence.{Recurrence}
 use Rattle.cal_recurrence.specs.declared.recurrence.RuleEnd.TheVariants.{Never, Until, Count}
 use Rattle.cal_recurrence.proofs.Dates.{has_them}
 use Rattle.cal_recurrence.proofs.Numbers.{digits, is_numeral}
@@ -244,7 +247,7 @@ end-is until count =
     either-end None (Some n) h k = k
     either-end None None h k = tt
 
-pub said_is_spelled : (values : RulePart → Option (List ℕ)) → excluded (recurrence_said values) ≡ None → ranks_alone (recurrence_said values) ≡ false
+said_is_spelled : (values : RulePart → Option (List ℕ)) → excluded (recurrence_said values) ≡ None → ranks_alone (recurrence_said values) ≡ false
     → IsSpelled (recurrence_said values)
 said_is_spelled values allowed ranked = record {
   period = said-is (λ x. IsPeriod x.0 x.1) frequency_of (Daily, None) tt periods (values part.Frequency);
@@ -261,3 +264,15 @@ said_is_spelled values allowed ranked = record {
   ranked = ranked;
   end = end-is (values part.Until) (values part.Count);
 }
+
+pub valid_is_spelled : (at : ℕ) (texts : List (List ℕ)) (r : Recurrence)
+    → Ok r ≡ valid_parts_say at texts → excluded r ≡ None → ranks_alone r ≡ false → IsSpelled r
+valid_is_spelled at texts r e =
+    let values = value_in texts in
+    by (first_error at [] texts) (is_some (values part.Frequency)) (fault (place_of (codes "FREQ") at texts) Missing) (recurrence_said values) e (said_is_spelled values)
+  where
+    by : (o : Option ParseRuleError) (b : Bool) (missing : ParseRuleError) (said : Recurrence) → Ok r ≡ option_map_or Err o (cond b (Ok said) (Err missing))
+        → (excluded said ≡ None → ranks_alone said ≡ false → IsSpelled said) → excluded r ≡ None → ranks_alone r ≡ false → IsSpelled r
+    by (Some why) b missing said e h = absurd (cc)
+    by None false missing said e h = absurd (cc)
+    by None true missing said e h = let is : said ≡ r = cc in subst (λ x. excluded x ≡ None → ranks_alone x ≡ false → IsSpelled x) is h

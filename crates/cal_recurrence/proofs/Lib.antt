@@ -16,6 +16,7 @@ pub mod SetSteps
 pub mod SetLines
 pub mod GivenParts
 pub mod SaidParts
+pub mod PartOrder
 pub mod GivenNames
 pub mod GivenSets
 pub mod FirstNumbers

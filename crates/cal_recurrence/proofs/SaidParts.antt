@@ -67,14 +67,14 @@ pub name-of : (at : RulePart) (word : List ℕ) → part_of word ≡ Some at →
 name-of at word h = subst (λ o. IfSome o (λ at. is_alike word (part_name at) ≡ true)) h (names word)
 
 -- two parts have the same name
-abbrev same : RulePart → RulePart → Bool
+abbrev pub same : RulePart → RulePart → Bool
 same at p = is_alike (part_name at) (part_name p)
 
-part-test : (at p : RulePart) (text : List ℕ) → part_of (front_at 61 text) ≡ Some at → is_part p text ≡ same at p
+pub part-test : (at p : RulePart) (text : List ℕ) → part_of (front_at 61 text) ≡ Some at → is_part p text ≡ same at p
 part-test at p text h =
     rw (lower (front_at 61 text) (part_name at) (name-of at (front_at 61 text) h)) refl
 
-same-part : (at p : RulePart) → same at p ≡ true → p ≡ at
+pub same-part : (at p : RulePart) → same at p ≡ true → p ≡ at
 same-part at p h =
     let one = of-name p (part_name at) h in
     let other = of-name at (part_name at) ((bytes_eq-Decides (str_to_ascii_lowercase (part_name at)) (str_to_ascii_lowercase (part_name at))).1 refl) in
@@ -82,7 +82,7 @@ same-part at p h =
 
 -- ---- the values of one more part
 -- the draft of some values
-abbrev draft_of : (RulePart → Option (List ℕ)) → Draft
+abbrev pub draft_of : (RulePart → Option (List ℕ)) → Draft
 draft_of v = record {
   recurrence = recurrence_said v;
   has_frequency = is_some (v part.Frequency);
@@ -116,7 +116,7 @@ value_in-more before text at p named none =
     by true e = ap (λ o. option_or o (Some (rest_at 61 text))) (ap (value_in before) (same-part at p e) ∙ none)
     by false e = or-none (value_in before p)
 
-same-draft : (v w : RulePart → Option (List ℕ)) → ((p : RulePart) → v p ≡ w p) → draft_of v ≡ draft_of w
+pub same-draft : (v w : RulePart → Option (List ℕ)) → ((p : RulePart) → v p ≡ w p) → draft_of v ≡ draft_of w
 same-draft v w h =
     rw (h part.Frequency, h part.Interval, h part.WeekStart, h part.Months, h part.Weeks, h part.YearDays, h part.MonthDays, h part.Weekdays, h part.Hours, h part.Minutes, h part.Seconds, h part.Positions, h part.Until, h part.Count) refl
 
@@ -259,26 +259,27 @@ no-value v part.Until new = is-none _ (or_parts _ _ new).0
 no-value v part.Count new = is-none _ (or_parts _ _ new).1
 
 -- a text is a part with a valid value that no text before it repeats
-record IsNew (before : List (List ℕ)) (text : List ℕ) : Type 0 where
-  part : RulePart
-  named : part_of (front_at 61 text) ≡ Some part
-  new : list_any (repeats part) before ≡ false
-  value : is_value part (rest_at 61 text) ≡ true
+pub record IsNew (before : List (List ℕ)) (text : List ℕ) : Type 0 where
+  pub part : RulePart
+  pub named : part_of (front_at 61 text) ≡ Some part
+  pub new : list_any (repeats part) before ≡ false
+  pub few : has_few_words (rest_at 61 text) ≡ true
+  pub value : is_value part (rest_at 61 text) ≡ true
 
-new-part : (before : List (List ℕ)) (text : List ℕ) → part_error before text ≡ None → IsNew before text
+pub new-part : (before : List (List ℕ)) (text : List ℕ) → part_error before text ≡ None → IsNew before text
 new-part before text none = by-part (part_of (front_at 61 text)) refl none
   where
-    by-tests : (at : RulePart) (few given valid : Bool) → cond (not few) (Some (TooMany at)) (cond given (Some (Twice at)) (cond valid None (Some (Value at)))) ≡ None → (given ≡ false) × (valid ≡ true)
+    by-tests : (at : RulePart) (few given valid : Bool) → cond (not few) (Some (TooMany at)) (cond given (Some (Twice at)) (cond valid None (Some (Value at)))) ≡ None → (given ≡ false) × (few ≡ true) × (valid ≡ true)
     by-tests at false given valid e = absurd (cc)
     by-tests at true true valid e = absurd (cc)
     by-tests at true false false e = absurd (cc)
-    by-tests at true false true e = (refl, refl)
+    by-tests at true false true e = (refl, refl, refl)
 
     by-part : (o : Option RulePart) → part_of (front_at 61 text) ≡ o → option_map_or (value_error before (rest_at 61 text)) o (Some Unknown) ≡ None → IsNew before text
     by-part None named e = absurd (cc)
     by-part (Some at) named e =
-        let both = by-tests at (has_few_words (rest_at 61 text)) (list_any (repeats at) before) (is_value at (rest_at 61 text)) e in
-        record { part = at; named = named; new = both.0; value = both.1 }
+        let tests = by-tests at (has_few_words (rest_at 61 text)) (list_any (repeats at) before) (is_value at (rest_at 61 text)) e in
+        record { part = at; named = named; new = tests.0; few = tests.1; value = tests.2 }
 
 more-values : (before : List (List ℕ)) (text : List ℕ) → AreValues (value_in before) → part_error before text ≡ None → AreValues (value_in (before ++ text ∷ []))
 more-values before text h none p =
@@ -371,5 +372,5 @@ read-after at before (text ∷ texts) h =
         ∙ ap (λ whole. option_map_or Err (first_error next (before ++ text ∷ []) texts) (all_say whole (place_of (codes "FREQ") next texts))) (append_assoc before (text ∷ []) texts)
         ∙ ap (option_map_or Err (first_error next (before ++ text ∷ []) texts)) (by-place (is_part part.Frequency text) refl)
 
-pub read-said : (at : ℕ) (texts : List (List ℕ)) → read_on at nothing texts ≡ valid_parts_say at texts
-read-said at texts = read-after at [] texts (λ p. tt)
+pub read_said : (at : ℕ) (texts : List (List ℕ)) → read_on at nothing texts ≡ valid_parts_say at texts
+read_said at texts = read-after at [] texts (λ p. tt)

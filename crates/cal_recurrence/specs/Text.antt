@@ -81,7 +81,7 @@ recurrence_said values =
       end = end_said (values part.Until) (values part.Count);
     }
 
--- ---- errors
+-- ---- what a text says
 -- A value is valid in a part.
 abbrev pub is_value : RulePart → List ℕ → Bool
 is_value part.Frequency value = is_some (frequency_of value)
@@ -105,6 +105,29 @@ repeats part.Until text = is_part part.Until text || is_part part.Count text
 repeats part.Count text = is_part part.Until text || is_part part.Count text
 repeats at text = is_part at text
 
+-- A text is a valid part: a name of a part, and at most 62 words that are a value of it.
+pub record IsValidPart (text : List ℕ) : Type 0 where
+  pub part : RulePart
+  pub named : is_part part text ≡ true
+  pub few : has_few_words (rest_at 61 text) ≡ true
+  pub valid : is_value part (rest_at 61 text) ≡ true
+
+-- Texts, in any order, are the parts of a rule that says r: each is valid, none repeats another, one
+-- is FREQ, and r is what they say. No two of its parts exclude each other, and a BYSETPOS has another
+-- list.
+pub record SaysRule (texts : List (List ℕ)) (r : Recurrence) : Type 0 where
+  pub parts : All IsValidPart texts
+  pub once : (at : RulePart) → count_by (repeats at) texts ≤ 1
+  pub frequency : is_some (value_in texts part.Frequency) ≡ true
+  pub is : r ≡ recurrence_said (value_in texts)
+  pub allowed : excluded r ≡ None
+  pub ranked : ranks_alone r ≡ false
+
+-- The parts of a text, with or without `RRULE:` in front.
+abbrev pub parts_in : List ℕ → List (List ℕ)
+parts_in text = parts_at 59 (if has_name text then bytes_after 6 text else text)
+
+-- ---- errors
 -- The error of a part with a value after other parts, if it has one: too many words, then a part
 -- that was given before, and then an invalid value.
 abbrev pub value_error : List (List ℕ) → List ℕ → RulePart → Option ParseRuleErrorKind
