@@ -1,6 +1,6 @@
 -- A parsed recurrence is spelled: each value is a value of its part.
 use Rattle.std.proofs.Common.{◌≡◌, ℕ, zero, suc, ◌+◌, ◌-◌, ◌/◌, ◌%◌, ◌<◌, ◌≤◌, Bool, true, false, cond, eqb, List, [], ◌∷◌, length, take, drop, Option, Some, None, Ok, Err, ℤ, pos, refl, sym, ap, ◌∙◌, subst, arith}
-use Rattle.std.specs.Prelude.{⊤, codes, min, nat_le, nat_lt, neg_ℤ, slice_index, option_map, option_and_then, not, ◌&&◌, is_some, unwrap_or, IfSome, ◌≤ℤ◌}
+use Rattle.std.specs.Prelude.{⊤, codes, min, nat_le, nat_lt, neg_ℤ, slice_index, option_map, option_and_then, ◌&&◌, is_some, unwrap_or, IfSome, ◌≤ℤ◌}
 use Rattle.std.specs.List.{All}
 use Rattle.std.specs.Option.{option_map_or, option_or, option_zip}
 use Rattle.std.specs.Str.Parse.{digits_value}
@@ -25,7 +25,7 @@ use Rattle.cal_recurrence.specs.DateWords.{date_or_time_of, day_with, has_digits
 use Rattle.cal_recurrence.specs.Days.{excluded, ranks_alone}
 use Rattle.cal_recurrence.specs.Spelled.{HasFourDigits, IsCount, IsDateOrTime, IsIndex, IsMonthDay, IsByDay, IsHour, IsMinute, IsPosition, IsSecond, IsWeek, IsEnd, IsPeriod, IsSpelled, IsWhole}
 use Rattle.cal_recurrence.specs.Text.{each, end_said, fault, first_error, list_of, place_of, recurrence_said, said, valid_parts_say, value_in}
-use Rattle.cal_recurrence.specs.Words.{bytes_after, by_hour_of, by_minute_of, by_second_of, clock_value_of, first_bytes, is_alike, parts_at, up_to, frequency_of, is_number, number_of, from_one_to, count_of, short_count_of, index_of, weekday_of, month_of, month_day_of, week_of, by_day_of, position_of}
+use Rattle.cal_recurrence.specs.Words.{bytes_after, by_hour_of, by_minute_of, by_second_of, clock_value_of, first_bytes, is_alike, parts_at, up_to, frequency_of, is_number, number_of, from_one_to, count_of, short_count_of, index_of, weekday_of, month_day_of, week_of, by_day_of, position_of}
 use Rattle.cal_recurrence.specs.declared.clock_unit.ClockUnit.{ClockUnit}
 use Rattle.cal_recurrence.specs.declared.date_or_time.DateOrTime.{DateOrTime}
 use Rattle.cal_recurrence.specs.declared.date_or_time.DateOrTime.TheVariants.{Date, Local, Utc}

@@ -1,5 +1,5 @@
 -- What the parts of a text say is a relation, and their order is free.
-use Rattle.std.proofs.Common.{◌≡◌, ℕ, ◌+◌, ◌≤◌, ◌⊎◌, Bool, true, false, cond, not, List, [], ◌∷◌, ◌++◌, append-nil, append_assoc, length, Option, Some, None, Result, Ok, Err, inl, inr, refl, sym, ap, subst, ◌∙◌, arith}
+use Rattle.std.proofs.Common.{◌≡◌, ℕ, ◌+◌, ◌≤◌, ◌⊎◌, Bool, true, false, cond, List, [], ◌∷◌, ◌++◌, append-nil, append_assoc, length, Option, Some, None, Ok, Err, inl, inr, refl, sym, ap, subst, ◌∙◌, arith}
 use Rattle.std.specs.Prelude.{◌||◌, codes, count_by, is_some, option_map, IsPermutation}
 use Rattle.std.specs.List.{All, list_any}
 use Rattle.std.specs.Option.{option_map_or, option_or}
@@ -8,14 +8,14 @@ use Rattle.std.proofs.lemmas.List.Elements.{All-cons, All-head, All-nil, All-tai
 use Rattle.std.proofs.lemmas.List.Sorted.{All-permutation, IsPermutation-sym, sum_by-IsPermutation}
 use Rattle.std.proofs.lemmas.List.Sums.{sum_by-append, sum_by-cons}
 use Rattle.cal_recurrence.specs.Days.{excluded, ranks_alone}
-use Rattle.cal_recurrence.specs.Text.{checked, fault, first_error, has_few_words, is_part, is_value, later_of, part_error, parts_in, parts_say, place_of, recurrence_of, recurrence_said, repeats, value_error, value_in, IsValidPart, SaysRule}
+use Rattle.cal_recurrence.specs.Text.{checked, fault, first_error, is_part, later_of, part_error, parts_in, parts_say, place_of, recurrence_of, recurrence_said, repeats, value_error, value_in, IsValidPart, SaysRule}
 use Rattle.cal_recurrence.specs.Words.{bytes_after, front_at, has_name, part_of, parts_at, rest_at}
 use Rattle.cal_recurrence.specs.declared.fault.ParseRuleError.{ParseRuleError}
-use Rattle.cal_recurrence.specs.declared.fault.ParseRuleErrorKind.{ParseRuleErrorKind}
-use Rattle.cal_recurrence.specs.declared.fault.ParseRuleErrorKind.TheVariants.{Alone, Missing, TooMany, Twice, Unknown, Value}
+use Rattle.cal_recurrence.specs.declared.fault.ParseRuleErrorKind.TheVariants.{Alone, Missing, Unknown}
 use Rattle.cal_recurrence.specs.declared.fault.RulePart.{RulePart}
 use Rattle.cal_recurrence.specs.declared.fault.RulePart.TheVariants as part
 use Rattle.cal_recurrence.specs.declared.recurrence.Recurrence.{Recurrence}
+use Rattle.cal_recurrence.proofs.SaidLines.{first-none, second-none}
 use Rattle.cal_recurrence.proofs.SaidParts.{name-of, new-part, of-name, same-draft}
 
 -- ---- counts
@@ -113,10 +113,6 @@ once-more before text at named new once p =
     ]
 
 -- ---- the first error
-first-none : {X : Type 0} (o p : Option X) → option_or o p ≡ None → (o ≡ None) × (p ≡ None)
-first-none None p e = (refl, e)
-first-none (Some x) p e = absurd (cc)
-
 map-none : {X Y : Type 0} (f : X → Y) (o : Option X) → option_map f o ≡ None → o ≡ None
 map-none f None e = refl
 map-none f (Some x) e = absurd (cc)
@@ -124,9 +120,8 @@ map-none f (Some x) e = absurd (cc)
 valid-parts : (at : ℕ) (before texts : List (List ℕ)) → AreOnce before → first_error at before texts ≡ None → All IsValidPart texts × AreOnce (before ++ texts)
 valid-parts at before [] once e = (All-nil IsValidPart, subst AreOnce (sym (append-nil before)) once)
 valid-parts at before (text ∷ texts) once e =
-    let both = first-none (option_map (fault at) (part_error before text)) (first_error (at + length text + 1) (before ++ text ∷ []) texts) e in
-    let is = new-part before text (map-none (fault at) (part_error before text) both.0) in
-    let others = valid-parts (at + length text + 1) (before ++ text ∷ []) texts (once-more before text is.part is.named is.new once) both.1 in
+    let is = new-part before text (map-none (fault at) (part_error before text) (first-none _ _ e)) in
+    let others = valid-parts (at + length text + 1) (before ++ text ∷ []) texts (once-more before text is.part is.named is.new once) (second-none _ _ e) in
     let valid : IsValidPart text = record { part = is.part; named = name-of is.part (front_at 61 text) is.named; few = is.few; valid = is.value } in
     (All-cons IsValidPart text texts valid others.0, subst AreOnce (append_assoc before (text ∷ []) texts) others.1)
 

@@ -1,6 +1,6 @@
 -- The parts of a text, read one after another into a draft, say the recurrence of their values.
 use Rattle.std.proofs.Common.{◌≡◌, ℕ, ◌+◌, ◌-◌, Bool, true, false, cond, eqb, not, List, [], ◌∷◌, ◌++◌, append-nil, append_assoc, length, Option, Some, None, Result, Ok, Err, refl, sym, ap, subst, ◌∙◌, arith}
-use Rattle.std.specs.Prelude.{⊤, ◌||◌, codes, is_some, option_and_then, option_map, unwrap_or, IfSome}
+use Rattle.std.specs.Prelude.{◌||◌, codes, is_some, option_and_then, option_map, unwrap_or, IfSome}
 use Rattle.std.specs.List.{list_any}
 use Rattle.std.specs.Option.{option_map_or, option_or, option_zip}
 use Rattle.std.specs.Str.{str_to_ascii_lowercase}
@@ -8,7 +8,7 @@ use Rattle.std.proofs.lemmas.Bool.{false≢true, ne_eqb, or_parts, true≢false}
 use Rattle.std.proofs.lemmas.Slice.Eq.{bytes_eq-Decides}
 use Rattle.cal_recurrence.specs.Days.{has_end}
 use Rattle.cal_recurrence.specs.DateWords.{date_or_time_of}
-use Rattle.cal_recurrence.specs.Drafts.{and_on, finished, is_given, nothing, put, put_part, put_value, read_on}
+use Rattle.cal_recurrence.specs.Drafts.{and_on, is_given, nothing, put, put_part, put_value, read_on}
 use Rattle.cal_recurrence.specs.FaultText.{part_name}
 use Rattle.cal_recurrence.specs.Text.{each, end_said, fault, first_error, has_few_words, is_part, is_value, list_of, part_error, place_of, recurrence_said, repeats, said, valid_parts_say, value_error, value_in}
 use Rattle.cal_recurrence.specs.Words.{front_at, is_alike, rest_at, part_of, frequency_of, weekday_of, count_of, month_of, month_day_of, week_of, by_day_of, by_hour_of, by_minute_of, by_second_of, position_of}
@@ -23,6 +23,7 @@ use Rattle.cal_recurrence.specs.declared.recurrence.Recurrence.{Recurrence}
 use Rattle.cal_recurrence.specs.declared.recurrence.RuleEnd.TheVariants.{Never, Until, Count}
 use Rattle.cal_recurrence.proofs.Avoided.{parts_at-some}
 use Rattle.cal_recurrence.proofs.GivenParts.{either}
+use Rattle.cal_recurrence.proofs.SaidLines.{or-none}
 
 -- ---- names
 lower : (word name : List ℕ) → is_alike word name ≡ true → str_to_ascii_lowercase word ≡ str_to_ascii_lowercase name
@@ -67,14 +68,14 @@ pub name-of : (at : RulePart) (word : List ℕ) → part_of word ≡ Some at →
 name-of at word h = subst (λ o. IfSome o (λ at. is_alike word (part_name at) ≡ true)) h (names word)
 
 -- two parts have the same name
-abbrev pub same : RulePart → RulePart → Bool
+abbrev same : RulePart → RulePart → Bool
 same at p = is_alike (part_name at) (part_name p)
 
-pub part-test : (at p : RulePart) (text : List ℕ) → part_of (front_at 61 text) ≡ Some at → is_part p text ≡ same at p
+part-test : (at p : RulePart) (text : List ℕ) → part_of (front_at 61 text) ≡ Some at → is_part p text ≡ same at p
 part-test at p text h =
     rw (lower (front_at 61 text) (part_name at) (name-of at (front_at 61 text) h)) refl
 
-pub same-part : (at p : RulePart) → same at p ≡ true → p ≡ at
+same-part : (at p : RulePart) → same at p ≡ true → p ≡ at
 same-part at p h =
     let one = of-name p (part_name at) h in
     let other = of-name at (part_name at) ((bytes_eq-Decides (str_to_ascii_lowercase (part_name at)) (str_to_ascii_lowercase (part_name at))).1 refl) in
@@ -102,10 +103,6 @@ value_in-append (first ∷ texts) text p = either-first (is_part p first) (Some 
     either-first : {X : Type 0} (b : Bool) (x whole front last : Option X) → option_or x last ≡ x → whole ≡ option_or front last → cond b x whole ≡ option_or (cond b x front) last
     either-first true x whole front last same e = sym same
     either-first false x whole front last same e = e
-
-or-none : {X : Type 0} (o : Option X) → option_or o None ≡ o
-or-none None = refl
-or-none (Some x) = refl
 
 value_in-more : (before : List (List ℕ)) (text : List ℕ) (at p : RulePart) → part_of (front_at 61 text) ≡ Some at → value_in before at ≡ None
     → value_in (before ++ text ∷ []) p ≡ with_value (value_in before) at (rest_at 61 text) p
@@ -150,7 +147,7 @@ any-end texts =
     any-either (is_part part.Until) (is_part part.Count) texts
     ∙ ap (λ b. b || list_any (is_part part.Count) texts) (any-part part.Until texts) ∙ ap (λ b. is_some (value_in texts part.Until) || b) (any-part part.Count texts)
 
-pub any-given : (at : RulePart) (texts : List (List ℕ)) → list_any (repeats at) texts ≡ has_value (value_in texts) at
+any-given : (at : RulePart) (texts : List (List ℕ)) → list_any (repeats at) texts ≡ has_value (value_in texts) at
 any-given part.Frequency texts = any-part part.Frequency texts
 any-given part.Interval texts = any-part part.Interval texts
 any-given part.WeekStart texts = any-part part.WeekStart texts
@@ -341,7 +338,7 @@ has-frequency (first ∷ before) texts text h = either-first (is_part part.Frequ
 abbrev all_say : List (List ℕ) → ℕ → Result Recurrence ParseRuleError
 all_say texts at = cond (is_some (value_in texts part.Frequency)) (Ok (recurrence_said (value_in texts))) (Err (fault at Missing))
 
-pub read-after : (at : ℕ) (before texts : List (List ℕ)) → AreValues (value_in before)
+read-after : (at : ℕ) (before texts : List (List ℕ)) → AreValues (value_in before)
     → read_on at (draft_of (value_in before)) texts ≡ option_map_or Err (first_error at before texts) (all_say (before ++ texts) (place_of (codes "FREQ") at texts))
 read-after at before [] h = ap (λ texts. all_say texts (at - 1)) (sym (append-nil before))
 read-after at before (text ∷ texts) h =

@@ -56,7 +56,7 @@ end_said until count =
     unwrap_or (option_or last number) Never
 
 -- The recurrence that the values of parts say. The defaults are an interval of 1, weeks from Monday,
--- empty lists and no end. FREQ has none, since each rule has it.
+-- empty lists and no end. The default of FREQ is never used, since each rule has a FREQ.
 abbrev pub recurrence_said : (RulePart → Option (List ℕ)) → Recurrence
 recurrence_said values =
     let frequency = said frequency_of (Daily, None) (values part.Frequency) in
@@ -105,16 +105,15 @@ repeats part.Until text = is_part part.Until text || is_part part.Count text
 repeats part.Count text = is_part part.Until text || is_part part.Count text
 repeats at text = is_part at text
 
--- A text is a valid part: a name of a part, and at most 62 words that are a value of it.
+-- A text is a valid part: it has the name of a part, and a value of that part with at most 62 words.
 pub record IsValidPart (text : List ℕ) : Type 0 where
   pub part : RulePart
   pub named : is_part part text ≡ true
   pub few : has_few_words (rest_at 61 text) ≡ true
   pub valid : is_value part (rest_at 61 text) ≡ true
 
--- Texts, in any order, are the parts of a rule that says r: each is valid, none repeats another, one
--- is FREQ, and r is what they say. No two of its parts exclude each other, and a BYSETPOS has another
--- list.
+-- Texts, in any order, are the parts of a rule, and say r: each is valid, none repeats another, and
+-- one is FREQ. No two exclude each other, and a BYSETPOS has another list.
 pub record SaysRule (texts : List (List ℕ)) (r : Recurrence) : Type 0 where
   pub parts : All IsValidPart texts
   pub once : (at : RulePart) → count_by (repeats at) texts ≤ 1

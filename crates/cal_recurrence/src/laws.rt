@@ -1,4 +1,4 @@
-//! Laws of the text of a rule: it says a relation, and its parts come in any order.
+//! Laws of the text of a rule: what its parts say, in any order.
 ghost use Rattle.std.specs.Prelude.{◌≡◌, ◌↔◌, Ok, IsPermutation};
 ghost use Rattle.cal_recurrence.specs.Text.{parts_in, SaysRule};
 ghost use Rattle.cal_recurrence.specs.declared.recurrence.Recurrence.{Recurrence};
