@@ -15,6 +15,8 @@ pub mod SaidLines
 pub mod SetSteps
 pub mod SetLines
 pub mod GivenParts
+pub mod SaidParts
+pub mod PartOrder
 pub mod GivenNames
 pub mod GivenSets
 pub mod FirstNumbers
