@@ -1,4 +1,4 @@
--- How many readings of some days can pass.
+-- How many readings a rule can have, and its last reading after others.
 use Rattle.std.proofs.Common.{◌≡◌, refl, ℕ, zero, suc, ◌+◌, ◌-◌, ◌*◌, ◌/◌, ◌%◌, ◌<◌, ◌≤◌, ap, ◌∙◌, sym, arith, Bool, true, false, inl, inr, List, [], ◌∷◌, filter, length, map, slice_get, take, Option, Some, None, ℤ, pos, ◌≤ℤ◌}
 use Rattle.std.specs.Prelude.{◌&&◌, int_le, is_some, unsigned_abs}
 use Rattle.std.specs.List.{last_or}
@@ -85,7 +85,7 @@ one-last o p x [] some = absurd (cc)
 one-last o p x (z ∷ zs) some = refl
 
 -- The last of the numbers that pass is among the later ones, if there is one.
-pub later-last : (on : ℕ → Bool) (skipped n count : ℕ) (o p : Option ℤ) (x : ℤ) → Some x ≡ slice_get (map pos (filter on (days_from (n + skipped) count))) 0
+later-last : (on : ℕ → Bool) (skipped n count : ℕ) (o p : Option ℤ) (x : ℤ) → Some x ≡ slice_get (map pos (filter on (days_from (n + skipped) count))) 0
     → last_or o (map pos (filter on (days_from n (skipped + count)))) ≡ last_or p (map pos (filter on (days_from (n + skipped) count)))
 unfolding days_from
 later-last on zero n count o p x some =
@@ -107,12 +107,11 @@ later-last on (suc skipped) n count o p x some =
     by-test true e rest = rw e (rest (Some (pos n)))
     by-test false e rest = rw e (rest o)
 
--- The readings of a rule after a later reading have the last reading, if they are all listed and there
--- are any. They aren't more.
+-- A number that a rule's readings don't exceed.
 abbrev pub Bounds : DateTimeParts → ℕ → Type 0
 Bounds rule most = (n : ℕ) → length (occurrences_from rule n) ≤ most
 
-pub last_stays : (rule : DateTimeParts) (most left : ℕ) (o p : Option ℤ) (y z x : ℤ) → Bounds rule most → most ≤ left → pos 0 ≤ℤ y → y ≤ℤ z → z ≤ℤ pos last_date_time
+last_stays : (rule : DateTimeParts) (most left : ℕ) (o p : Option ℤ) (y z x : ℤ) → Bounds rule most → most ≤ left → pos 0 ≤ℤ y → y ≤ℤ z → z ≤ℤ pos last_date_time
     → Some x ≡ slice_get (occurrences_after rule z) 0
     → last_or p (take left (occurrences_after rule z)) ≡ last_or o (take left (occurrences_after rule y))
 last_stays rule most left o p y z x bounds enough low order high some =
@@ -128,35 +127,16 @@ last_stays rule most left o p y z x bounds enough low order high some =
     ap (last_or p) (all n) ∙ ap (λ k. last_or p (listed k)) (sym there) ∙ sym (later-last (test rule) skipped m count o p x later)
     ∙ ap (λ k. last_or o (map pos (filter (test rule) (days_from m k)))) (sym whole) ∙ ap (last_or o) (sym (all m))
 
-pub not_more : (rule : DateTimeParts) (most left : ℕ) (y z : ℤ) → Bounds rule most → most ≤ left → pos 0 ≤ℤ y → y ≤ℤ z
-    → length (take left (occurrences_after rule z)) ≤ length (take left (occurrences_after rule y))
-not_more rule most left y z bounds enough low order =
-    let m = unsigned_abs y + 1 in
-    let n = unsigned_abs z + 1 in
-    let end = last_date_time + 1 in
-    let all = λ (k : ℕ). take_all left (occurrences_from rule k) (omega (arith, bounds k, enough)) in
-    let listed = λ (k : ℕ). length-map (filter (test rule) (days_from k (end - k))) pos in
-    let sums = λ (k : ℕ). length-from (test rule) k (end - k) in
-    let before : m ≤ n = omega (arith, ints, low, order) in
-    let rises = counted-rises (test rule) m n before in
-    elim (cases_lt n end) as (λ _. length (take left (occurrences_after rule z)) ≤ length (take left (occurrences_after rule y))) [
-      | inl inside ↦
-          let first : m + (end - m) ≡ end = omega (arith, inside, before) in
-          let second : n + (end - n) ≡ end = omega (arith, inside) in
-          omega (arith, ap length (all m), ap length (all n), listed m, listed n, sums m, sums n, ap (count_before (test rule)) first, ap (count_before (test rule)) second, rises)
-      | inr past ↦
-          let none : end - n ≡ 0 = omega (arith, past) in
-          let same : n + (end - n) ≡ n = omega (arith, none) in
-          omega (arith, ap length (all n), listed n, sums n, ap (count_before (test rule)) same)
-    ]
-
--- The same by a list that isn't empty.
-pub last_of_some : (rule : DateTimeParts) (most left : ℕ) (o p r : Option ℤ) (y z : ℤ) → Bounds rule most → most ≤ left → IsDateTime y → IsDateTime z → y ≤ℤ z
-    → r ≡ slice_get (occurrences_after rule z) 0 → is_some r ≡ true
+-- If a rule has a reading after z, its last reading after z is its last one after an earlier reading.
+pub last_of_some : (rule : DateTimeParts) (most left : ℕ) (o p : Option ℤ) (y z : ℤ) → Bounds rule most → most ≤ left → IsDateTime y → IsDateTime z → y ≤ℤ z
+    → is_some (slice_get (occurrences_after rule z) 0) ≡ true
     → last_or p (take left (occurrences_after rule z)) ≡ last_or o (take left (occurrences_after rule y))
-last_of_some rule most left o p None y z bounds enough first second order is some = absurd (false≢true some)
-last_of_some rule most left o p (Some x) y z bounds enough first second order is some =
-    last_stays rule most left o p y z x bounds enough first.not_before order second.not_after is
+last_of_some rule most left o p y z bounds enough first second order some = by-first (slice_get (occurrences_after rule z) 0) refl some
+  where
+    by-first : (r : Option ℤ) → r ≡ slice_get (occurrences_after rule z) 0 → is_some r ≡ true
+        → last_or p (take left (occurrences_after rule z)) ≡ last_or o (take left (occurrences_after rule y))
+    by-first None is on = absurd (false≢true on)
+    by-first (Some x) is on = last_stays rule most left o p y z x bounds enough first.not_before order second.not_after is
 
 pub not_before : (y z : ℤ) → int_le z y ≡ false → y ≤ℤ z
 not_before y z e = let no : ¬ (z ≤ℤ y) = λ h. false≢true (sym e ∙ true-le z y h) in omega (arith, ints, no)

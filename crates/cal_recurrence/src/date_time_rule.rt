@@ -159,10 +159,11 @@ impl DateTimeRule {
         rule
     }
 
-    /// Returns how many times pass in all days of the range. The rule has no more readings.
+    /// Returns how many times pass in all days of the range. Without its end, the rule has no more
+    /// readings.
     #[tactic(auto, using(crate::proofs::DayBounds::few_readings))]
     pub(crate) fn max_readings(&self) -> u64
-        ensures { (n : ℕ) → length (occurrences_from self.now n) ≤ result }
+        ensures { (n : ℕ) → length (occurrences_from (record self.now { until = None }) n) ≤ result }
     {
         DAYS_OF_RANGE * u64::from(self.per_day)
     }
