@@ -19,7 +19,10 @@ pub(crate) fn rule_said(text: &[u8]) -> Result<Recurrence, ParseRuleError>
 pub(crate) fn any_order(
     text: &[u8],
     other: &[u8],
-) -> (Result<Recurrence, ParseRuleError>, Result<Recurrence, ParseRuleError>)
+) -> (
+    Result<Recurrence, ParseRuleError>,
+    Result<Recurrence, ParseRuleError>,
+)
     ensures { IsPermutation (parts_in text.now) (parts_in other.now) → (r : Recurrence) → (result.0 ≡ Ok r) ↔ (result.1 ≡ Ok r) }
 {
     (parse(text), parse(other))
