@@ -6,13 +6,13 @@ use Rattle.caldate_args.proofs.events.find_zone.Goals as goal
 
 pub loop-rest-preserved : goal.loop-rest-preserved
 loop-rest-preserved c = λ rest.
-    let (begin, (size, event)) = rw c.in-Ok-Some.field-0-is at c.in-Ok-Some.ensures in
+    let (begin, size, event) = rw c.in-Ok-Some.field-0-is at c.in-Ok-Some.ensures in
     c.loop-rest.invariant (subst (λ left. AreValid (parts_left 10 left)) (sym c.in-Some.is)
     (one_more_valid c.in-Some.left.now begin size c.in-Ok-Some.event event c.in-Ok.ensures rest))
 
 pub loop-rest-smaller : goal.loop-rest-smaller
 loop-rest-smaller c =
-    let (begin, (size, event)) = rw c.in-Ok-Some.field-0-is at c.in-Ok-Some.ensures in
+    let (begin, size, event) = rw c.in-Ok-Some.field-0-is at c.in-Ok-Some.ensures in
     subst (λ left. length (parts_left 10 c.in-Ok-Some.event.rest) < length (parts_left 10 left)) (sym c.in-Some.is)
     (fewer_lines c.in-Some.left.now begin size c.in-Ok-Some.event event)
 
