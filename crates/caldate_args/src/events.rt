@@ -94,11 +94,7 @@ fn parse_calendar<'a>(
 }
 
 /// Returns the zone with the number of its line.
-fn numbered<'a>(
-    found: Option<FoundZone<'a>>,
-    bytes: &[u8],
-    text: &[u8],
-) -> Option<NamedZone<'a>> {
+fn numbered<'a>(found: Option<FoundZone<'a>>, bytes: &[u8], text: &[u8]) -> Option<NamedZone<'a>> {
     let zone = found?;
     Some(NamedZone {
         name: zone.name,
@@ -117,7 +113,12 @@ fn find_zone<'a>(text: &'a [u8], only_dates: bool) -> Result<Option<FoundZone<'a
         let start = text.len().saturating_sub(left.len());
         match first_event(left) {
             Ok(Some(event)) => {
-                match zone_after(zone, event, start.saturating_add(event.position), only_dates) {
+                match zone_after(
+                    zone,
+                    event,
+                    start.saturating_add(event.position),
+                    only_dates,
+                ) {
                     Ok(found) => zone = found,
                     Err(error) => return Err(error),
                 }
