@@ -22,7 +22,7 @@ use Rattle.cal_recurrence.specs.declared.set_fault.SetLine.{SetLine}
 use Rattle.cal_recurrence.specs.declared.set_meaning.SetInstants.{SetInstants}
 use Rattle.cal_recurrence.specs.declared.set_parts.SetParts.{SetParts}
 use Rattle.cal_recurrence.specs.declared.zoned_set.ZonedSet.{ZonedSet}
-use Rattle.cal_recurrence.proofs.ZonedSearch.{compared, not-late}
+use Rattle.cal_recurrence.proofs.ZonedSearch.{compared, near}
 use Rattle.caldate_args.specs.Events.{event_instants, event_lines, lines_after, zone_of, AnyHasTime, HasTime, IsEventAt, IsListable, IsSetOf}
 use Rattle.caldate_args.specs.Events.AnyHasTime.{first as at_first, later as at_later}
 use Rattle.caldate_args.proofs.ValidEvents.{event_at}
@@ -132,7 +132,7 @@ earliest_of_none events x = record { found = tt; first = λ y has later. inr has
 
 pub earliest_of_all : (events : EventList) (x : ℤ) (left : List (List ℕ)) (next : Option LocalAndOffset) → IsEarliest events x left next
     → ((y : ℤ) → ¬ AnyHasTime events.zones y left) → IsNextTime (HasTimeAt events) x next
-earliest_of_all events x left None h none y has =
+earliest_of_all events x left None h none = λ y has.
     elim (compared x y) as (λ _. y ≤ℤ x) [ inl late ↦ elim (h.first y has late) as (λ _. y ≤ℤ x) [ inl it ↦ absurd it | inr it ↦ absurd (none y it) ] | inr most ↦ most ]
 earliest_of_all events x left (Some m) h none = record {
   is = h.found.0;
@@ -215,10 +215,15 @@ pub none_left : (zones : EventZones) (y : ℤ) → ¬ AnyHasTime zones y []
 none_left zones y = none_at zones y [] (λ b s at. let first = at.first in absurd (cc))
 
 -- ---- the list
+-- an occurrence is not late
+occurs_early : (set : ZonedSet) (z : ℤ) (m : LocalAndOffset) → Occurs set z m → instant m ≤ℤ pos (last_date_time + 93_599 * second)
+occurs_early set z m (inl h) = let far = (near set.zone.now z m h.meant).0 in omega (arith, ints, far, h.range.not_after)
+occurs_early set z m (inr h) = omega (arith, ints, h.range.not_after)
+
 -- a time is not late
 not_late : (zones : EventZones) (y : ℤ) (lines : List (List ℕ)) → AnyHasTime zones y lines → y ≤ℤ pos (last_date_time + 93_599 * second)
 not_late zones y lines (at_first _ b s at has) =
-    let most = not-late has.set has.has.place has.has.moment has.has.occurs in omega (arith, ints, most, has.has.same)
+    let most = occurs_early has.set has.has.place has.has.moment has.has.occurs in omega (arith, ints, most, has.has.same)
 not_late zones y lines (at_later _ b s at rest) = not_late zones y _ rest
 
 pub fewer_left : (events : EventList) (m : LocalAndOffset) (r : Option LocalAndOffset) → IsNextTime (HasTimeAt events) (instant m) r → nanoseconds_left r < nanoseconds_left (Some m)

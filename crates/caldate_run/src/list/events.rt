@@ -53,11 +53,7 @@ fn time_text(events: &EventList<'_>, moment: OffsetDateTime) -> ShortText
 
 /// Returns the first time of all events that isn't before a moment, or with `after` that is after
 /// it.
-fn next_time(
-    events: &EventList<'_>,
-    moment: OffsetDateTime,
-    after: bool,
-) -> Option<OffsetDateTime>
+fn next_time(events: &EventList<'_>, moment: OffsetDateTime, after: bool) -> Option<OffsetDateTime>
     ensures { IsNextTime (HasTimeAt events.now) (bound after moment) result }
 {
     let mut next = None;

@@ -30,14 +30,14 @@ loop-moment-preserved g c =
       given ++ bytes,
       instant moment,
       c.push_line.ensures.given given _ outputs,
-      c.next_time-next.ensures,
+      c.next_time-next-in-Some.ensures,
       one_more (time_line events) (AreTimes events) (instant events.first -ℤ pos 1) x (instant moment) given bytes (instant moment) line (λ all items are. (next, are)) follows,
     )
 
 pub loop-moment-smaller : goal.loop-moment-smaller
 loop-moment-smaller g c =
-    subst (λ f. nanoseconds_left c.next_time-next.result < nanoseconds_left f) (sym c.in-Some.ensures.0)
-    (fewer_left c.args.events.now c.in-Some.moment c.next_time-next.result c.next_time-next.ensures)
+    subst (λ f. nanoseconds_left c.next_time-next-in-Some.result < nanoseconds_left f) (sym c.in-Some.ensures.0)
+    (fewer_left c.args.events.now c.in-Some.moment c.next_time-next-in-Some.result c.next_time-next-in-Some.ensures)
 
 pub returns-in-Err-clause-lists : goal.returns-in-Err-clause-lists
 returns-in-Err-clause-lists g c =
