@@ -59,11 +59,14 @@ fn next_time(events: &EventList<'_>, moment: OffsetDateTime, after: bool) -> Opt
     let mut next = None;
     let mut rest = Some(events.text);
     while let Some(text) = rest {
-        let Ok(Some(event)) = first_event(text) else {
-            return next;
-        };
-        next = earlier(next, next_of(&events.zones, event.lines, moment, after));
-        rest = event.rest;
+        match first_event(text) {
+            Ok(Some(event)) => {
+                next = earlier(next, next_of(&events.zones, event.lines, moment, after));
+                rest = event.rest;
+            }
+            Ok(None) => return next,
+            Err(_) => return next,
+        }
     }
     next
 }

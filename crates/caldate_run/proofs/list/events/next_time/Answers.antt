@@ -1,23 +1,21 @@
-use Rattle.std.proofs.Common.{◌≡◌, ◌<◌, Err, None, Ok, length, subst, sym}
-use Rattle.cal_ics.specs.Events.{IsFirstEvent}
+use Rattle.std.proofs.Common.{◌<◌, length, subst, sym}
 use Rattle.cal_recurrence.specs.Words.{parts_left}
 use Rattle.caldate_args.proofs.ValidEvents.{fewer_lines}
 use Rattle.caldate_run.specs.Events.{bound}
 use Rattle.caldate_run.proofs.EventTimes.{earliest_of_all, earliest_of_none, none_after_error, none_in_text, none_left, one_more_event, IsEarliest}
 use Rattle.caldate_run.proofs.list.events.next_time.Goals as goal
 
-pub returns-in_default-first_event : goal.returns-in_default-first_event
-returns-in_default-first_event c =
+pub returns-in-Ok-None : goal.returns-in-Ok-None
+returns-in-Ok-None c =
     let events = c.args.events.now in
-    let none = subst (IsFirstEvent c.in-Some.text.now) c.in_default-first_event.is c.first_event.ensures in
+    let none = rw c.in-Ok-None.field-0-is at c.in-Ok-None.ensures in
     earliest_of_all events _ _ _ (subst (λ left. IsEarliest events (bound c.args.after c.args.moment) (parts_left 10 left) c.loop-rest.next) c.in-Some.is c.loop-rest.invariant) (λ y. none_in_text events.zones y c.in-Some.text.now none)
 
-pub returns-in_default-first_event-2 : goal.returns-in_default-first_event-2
-returns-in_default-first_event-2 c =
+pub returns-in-Err : goal.returns-in-Err
+returns-in-Err c =
     let events = c.args.events.now in
-    let error = subst (IsFirstEvent c.in-Some.text.now) c.in_default-first_event.is c.first_event.ensures in
     earliest_of_all events _ _ _ (subst (λ left. IsEarliest events (bound c.args.after c.args.moment) (parts_left 10 left) c.loop-rest.next) c.in-Some.is c.loop-rest.invariant)
-    (λ y. none_after_error events.zones y c.in-Some.text.now c.in_default-first_event.field-0 error)
+    (λ y. none_after_error events.zones y c.in-Some.text.now _ c.in-Err.ensures)
 
 pub loop-rest-preserved : goal.loop-rest-preserved
 loop-rest-preserved c =
