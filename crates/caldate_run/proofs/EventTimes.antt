@@ -39,13 +39,13 @@ ok_is : {X E : Type 0} (a b : X) (r : Result X E) → r ≡ Ok a → r ≡ Ok b 
 ok_is a b r h g = cc
 
 -- ---- one event
--- lines say one set
+-- Lines say one set.
 one_set : (lines : List (List ℕ)) (p q : SetParts) → SaysSet lines p → SaysSet lines q → p ≡ q
 one_set lines p q h g =
     let start = some_is p.start q.start (sym h.start ∙ g.start) in
     h.is ∙ ap (parts_from (parts_of lines)) start ∙ sym g.is
 
--- the lines of an event with an error say no set
+-- The lines of an event with an error say no set.
 pub no_set : (text : List ℕ) (e : ParseSetError) (p : SetParts) → IsEventSet text (Err e) → ¬ SaysSet (set_lines 1 (map without_return (parts_at 10 text))) p
 no_set text e p (inl h) says = let valid = says.valid h.line in let reason = h.reason in absurd (cc)
 no_set text e p (inr h) says = let start = says.start in let none = h.start in absurd (cc)
@@ -53,14 +53,14 @@ no_set text e p (inr h) says = let start = says.start in let none = h.start in a
 pub no_time : (zones : EventZones) (text : List ℕ) (e : ParseSetError) (x : ℤ) → IsEventSet text (Err e) → NoTime (HasTime zones (parts_at 10 text)) x
 no_time zones text e x h y has = absurd (no_set text e has.listable.parts h has.listable.say)
 
--- its values have other kinds than its start
+-- Its values have other kinds than its start.
 pub no_kind : (zones : EventZones) (lines : List (List ℕ)) (p : SetParts) (line : SetLine) (x : ℤ) → SaysSet (set_lines 1 (map without_return lines)) p
     → event_instants p ≡ Err line → NoTime (HasTime zones lines) x
 no_kind zones lines p line x says wrong y has =
     let same = one_set _ p has.listable.parts says has.listable.say in
     let other = sym wrong ∙ ap event_instants same ∙ has.listable.mean in absurd (cc)
 
--- a set of the event has all its times
+-- A set of the event has all its times.
 has_instant : (zones : EventZones) (lines : List (List ℕ)) (p : SetParts) (its : SetInstants) (s : ZonedSet) (y : ℤ)
     → SaysSet (set_lines 1 (map without_return lines)) p → event_instants p ≡ Ok its → IsSetOf (zone_of zones p) its s → HasTime zones lines y → HasInstant s y
 has_instant zones lines p its s y says mean a has =
@@ -77,7 +77,7 @@ has_instant zones lines p its s y says mean a has =
       left_out = b.left_out ∙ ap (λ (t : SetInstants). t.exceptions) times ∙ sym a.left_out;
     }) y has.has
 
--- the next occurrence of the set is the next time of the event
+-- The next occurrence of the set is the next time of the event.
 pub next_of_set : (zones : EventZones) (lines : List (List ℕ)) (p : SetParts) (its : SetInstants) (s : ZonedSet) (x : ℤ) (r : Option LocalAndOffset)
     → SaysSet (set_lines 1 (map without_return lines)) p → event_instants p ≡ Ok its → IsSetOf (zone_of zones p) its s
     → IsNextAfter (Occurs s) x r → IsNextTime (HasTime zones lines) x r
@@ -105,7 +105,7 @@ one_place lines b s c t h g =
     let begin = some_is b c (sym h.first ∙ g.first) in
     (begin, some_is s t (sym h.closed ∙ ap (λ k. lines_within 1 (drop (k + 1) (map without_return lines))) begin ∙ g.closed))
 
--- a time is one of the first event, or of a later one
+-- A time is one of the first event, or of a later one.
 pub first_or_later : (zones : EventZones) (y : ℤ) (lines : List (List ℕ)) (b s : ℕ) → IsEventAt lines b s → AnyHasTime zones y lines
     → HasTime zones (event_lines lines b s) y ⊎ AnyHasTime zones y (lines_after lines b s)
 first_or_later zones y lines b s h (at_first _ c t g has) =
@@ -115,7 +115,7 @@ first_or_later zones y lines b s h (at_later _ c t g rest) =
     let (begin, size) = one_place lines c t b s g h in
     inr (subst (λ n. AnyHasTime zones y (lines_after lines b n)) size (subst (λ n. AnyHasTime zones y (lines_after lines n t)) begin rest))
 
--- lines without an event have no time
+-- Lines without an event have no time.
 pub none_at : (zones : EventZones) (y : ℤ) (lines : List (List ℕ)) → ((b s : ℕ) → ¬ IsEventAt lines b s) → ¬ AnyHasTime zones y lines
 none_at zones y lines none (at_first _ b s h has) = none b s h
 none_at zones y lines none (at_later _ b s h rest) = none b s h
@@ -146,7 +146,7 @@ less_of k m e = grind (arith, ints)
 most_of : (k m : LocalAndOffset) → is_earlier k m ≡ false → instant m ≤ℤ instant k
 most_of k m e = grind (arith, ints)
 
--- the earlier one of two times is not after each of them
+-- The earlier one of two times is not after each of them.
 earlier_most : (a b : Option LocalAndOffset) (y : ℤ) → MatchOption a ⊥ (λ m. instant m ≤ℤ y) ⊎ MatchOption b ⊥ (λ m. instant m ≤ℤ y)
     → MatchOption (earlier a b) ⊥ (λ m. instant m ≤ℤ y)
 earlier_most None b y (inl h) = absurd h
@@ -158,7 +158,7 @@ earlier_most (Some m) (Some k) y h = elim (cases_Bool (is_earlier k m)) as (λ _
   | inr e ↦ rw e (elim h as (λ _. instant m ≤ℤ y) [ inl it ↦ it | inr it ↦ (let most = most_of k m e in omega (arith, ints, it, most)) ])
 ]
 
--- the earlier one of two times is one of them
+-- The earlier one of two times is one of them.
 earlier_one : (P : LocalAndOffset → Type 0) (a b : Option LocalAndOffset) → MatchOption a ⊤ P → MatchOption b ⊤ P → MatchOption (earlier a b) ⊤ P
 earlier_one P None b h g = g
 earlier_one P (Some m) None h g = h
@@ -167,7 +167,7 @@ earlier_one P (Some m) (Some k) h g = elim (cases_Bool (is_earlier k m)) as (λ 
   | inr e ↦ rw e h
 ]
 
--- one more event
+-- One more event.
 found_in : (events : EventList) (x : ℤ) (text : List ℕ) (b s : ℕ) (lines : List (List ℕ)) (r : Option LocalAndOffset) → IsEventAt (parts_at 10 text) b s
     → lines ≡ event_lines (parts_at 10 text) b s → ((y : ℤ) → AnyHasTime events.zones y (parts_at 10 text) → HasTimeAt events y)
     → IsNextTime (HasTime events.zones lines) x r → MatchOption r ⊤ (λ m. HasTimeAt events (instant m) × (x <ℤ instant m))
@@ -196,7 +196,7 @@ one_more_event events x text b s e next r is its h =
       within = λ y any. h.within y (at_later _ b s at (subst (AnyHasTime events.zones y) is.rest any));
     }
 
--- no event is left
+-- No event is left.
 pub none_in_text : (zones : EventZones) (y : ℤ) (text : List ℕ) → IsFirstEvent text (Ok None) → ¬ AnyHasTime zones y (parts_at 10 text)
 none_in_text zones y text none = none_at zones y _ (λ b s at. let first = at.first in absurd (cc))
 
@@ -215,12 +215,12 @@ pub none_left : (zones : EventZones) (y : ℤ) → ¬ AnyHasTime zones y []
 none_left zones y = none_at zones y [] (λ b s at. let first = at.first in absurd (cc))
 
 -- ---- the list
--- an occurrence is not late
+-- An occurrence is not late.
 occurs_early : (set : ZonedSet) (z : ℤ) (m : LocalAndOffset) → Occurs set z m → instant m ≤ℤ pos (last_date_time + 93_599 * second)
 occurs_early set z m (inl h) = let far = (near set.zone.now z m h.meant).0 in omega (arith, ints, far, h.range.not_after)
 occurs_early set z m (inr h) = omega (arith, ints, h.range.not_after)
 
--- a time is not late
+-- A time is not late.
 not_late : (zones : EventZones) (y : ℤ) (lines : List (List ℕ)) → AnyHasTime zones y lines → y ≤ℤ pos (last_date_time + 93_599 * second)
 not_late zones y lines (at_first _ b s at has) =
     let most = occurs_early has.set has.has.place has.has.moment has.has.occurs in omega (arith, ints, most, has.has.same)

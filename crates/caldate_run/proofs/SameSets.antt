@@ -9,7 +9,7 @@ use Rattle.cal_recurrence.specs.DateTimeSet.{is_in_set, is_listed}
 use Rattle.cal_recurrence.specs.ZonedSet.{HasInstant, IsMeant, Means, Occurs, is_in_time, is_kept}
 use Rattle.cal_recurrence.specs.declared.zoned_set.ZonedSet.{ZonedSet}
 
--- the parts of two sets are the same
+-- The parts of two sets are the same.
 pub record IsSame (s t : ZonedSet) : Type 0 where
   pub rule : s.readings.rule ≡ t.readings.rule
   pub dates : s.readings.dates.now ≡ t.readings.dates.now

@@ -7,7 +7,7 @@ use Rattle.caldate_run.specs.Events.{time_line, AreTimes, HasTimeAt, IsNextTime}
 use Rattle.caldate_run.proofs.Listed.{Follows}
 use Rattle.caldate_run.proofs.list.events.list_events.Given as goal
 
--- the lines of the first times were given, and the next one comes after them
+-- The lines of the first times were given, and the next one comes after them.
 abbrev pub invariant-loop-moment : goal.invariant-loop-moment
 invariant-loop-moment g l =
     (given : List ℕ) × (x : ℤ) × Outputs g.W.Sink.contents g.W.Sink.write_gives given l.initial.writer l.output l.writer × IsNextTime (HasTimeAt l.events) x l.next
