@@ -141,7 +141,7 @@ static uint32_t drawn(void)
 /* Each kind with each number, and numbers that are drawn: a call takes them, or rejects them all. */
 static void filled_by_hand(void)
 {
-    static const int values[] = {256, 34, 34, 34, 6, 1, 1, 1, 1, 1, 34, 34, 34, 1, 1};
+    static const int values[] = {256, 34, 34, 34, 7, 1, 1, 1, 1, 1, 34, 34, 34, 1, 1};
     fots_format format;
     for (int kind = 0; kind < 256; kind++) {
         for (int value = 0; value < 256; value++) {
