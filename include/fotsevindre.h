@@ -177,7 +177,7 @@ typedef struct fots_name {
 /* The names of a language: months from January on, weekdays from Monday on, and AM before PM. */
 typedef struct fots_language_names {
     fots_name months[12]; /* beside a day: "stycznia" in Polish */
-    fots_name months_alone[12]; /* without a day: "styczeń" */
+    fots_name months_alone[12]; /* without a day: "styczeń", for "%OB" */
     fots_name short_months[12];
     fots_name weekdays[7];
     fots_name short_weekdays[7];
@@ -1818,17 +1818,6 @@ fots_parse_moment_result fots_moment_parse_format(const char *text, size_t text_
 /* Writes the names of a language by its code of ISO 639-1, such as "fr", from a locale of glibc. The
  * names stay valid. For another code writes empty names and returns FOTS_UNKNOWN_LANGUAGE. */
 int32_t fots_names_of_language(const char *code, size_t code_length, fots_language_names *names);
-
-/* Returns the names with the months without a day in place of those beside a day, for a format such
- * as "%B %Y". */
-static inline fots_language_names fots_names_alone(const fots_language_names *names)
-{
-    fots_language_names alone = *names;
-    for (int month = 0; month < 12; month++) {
-        alone.months[month] = names->months_alone[month];
-    }
-    return alone;
-}
 
 /* Checks that each text of a format with names has one value. Errors: FOTS_INVALID_FORMAT;
  * FOTS_INVALID_NAMES; FOTS_AMBIGUOUS_NAMES if two names of an item are the same, or a name goes on to

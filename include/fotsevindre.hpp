@@ -293,7 +293,7 @@ inline std::ostream &operator<<(std::ostream &out, Weekday weekday) { return out
 // The names of a language: months from January on, weekdays from Monday on, and AM before PM.
 struct Names {
     std::array<std::string, 12> months; // beside a day: "stycznia" in Polish
-    std::array<std::string, 12> months_alone; // without a day: "styczeń"
+    std::array<std::string, 12> months_alone; // without a day: "styczeń", for "%OB"
     std::array<std::string, 12> short_months;
     std::array<std::string, 7> weekdays;
     std::array<std::string, 7> short_weekdays;
@@ -305,15 +305,6 @@ struct Names {
     [[nodiscard]] static Names of_language(std::string_view code);
     // Returns copies of names of C, such as those of a locale from fotsevindre_locale.h.
     [[nodiscard]] static Names from(const fots_language_names &values);
-
-    // Returns the names with the months without a day in place of those beside a day, for a format such as
-    // "%B %Y".
-    [[nodiscard]] Names alone() const
-    {
-        Names names = *this;
-        names.months = months_alone;
-        return names;
-    }
 };
 
 class NamedFormat;

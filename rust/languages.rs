@@ -89,8 +89,8 @@ macro_rules! named_formats {
     ($($format:ident: $value:ident, $moment_of:ident, $parse:ident;)*) => {
         $(
             impl $format {
-                /// Returns the format with these names in place of the English names. Months are the
-                /// months beside a day; use [`Names::alone`] for a format without a day.
+                /// Returns the format with these names in place of the English names. `%B` shows a
+                /// month beside a day, and `%OB` a month without one.
                 ///
                 /// # Errors
                 ///

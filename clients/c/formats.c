@@ -14,7 +14,7 @@ typedef struct Row {
 } Row;
 
 static const Row ROWS[] = {
-    {"%Y", "2024"}, {"%C", "20"}, {"%y", "24"}, {"%m", "02"}, {"%-m", "2"}, {"%B", "February"}, {"%b", "Feb"}, {"%h", "Feb"},
+    {"%Y", "2024"}, {"%C", "20"}, {"%y", "24"}, {"%m", "02"}, {"%-m", "2"}, {"%B", "February"}, {"%OB", "February"}, {"%b", "Feb"}, {"%h", "Feb"},
     {"%d", "29"}, {"%-d", "29"}, {"%e", "29"}, {"%j", "060"}, {"%G", "2024"}, {"%V", "09"}, {"%U", "08"}, {"%W", "09"},
     {"%A", "Thursday"}, {"%a", "Thu"}, {"%u", "4"}, {"%w", "4"}, {"%H", "09"}, {"%-H", "9"}, {"%I", "09"}, {"%-I", "9"}, {"%p", "AM"},
     {"%M", "05"}, {"%S", "07"}, {"%f", "250000"}, {"%3N", "250"}, {"%6N", "250000"}, {"%N", "250000000"}, {"%9N", "250000000"},
@@ -141,7 +141,7 @@ static uint32_t drawn(void)
 /* Each kind with each number, and numbers that are drawn: a call takes them, or rejects them all. */
 static void filled_by_hand(void)
 {
-    static const int values[] = {256, 34, 34, 34, 6, 1, 1, 1, 1, 1, 34, 34, 34, 1, 1};
+    static const int values[] = {256, 34, 34, 34, 7, 1, 1, 1, 1, 1, 34, 34, 34, 1, 1};
     fots_format format;
     for (int kind = 0; kind < 256; kind++) {
         for (int value = 0; value < 256; value++) {

@@ -70,13 +70,13 @@ static void languages(void)
 {
     for (size_t row = 0; row < COUNT(ROWS); row++) {
         const Row *const its = &ROWS[row];
-        const fots_language_names names = names_of(its->code), alone = fots_names_alone(&names);
-        const fots_format weekday = format_of("%A"), short_weekday = format_of("%a"), month = format_of("%B"), short_month = format_of("%b"), period = format_of("%p");
+        const fots_language_names names = names_of(its->code);
+        const fots_format weekday = format_of("%A"), short_weekday = format_of("%a"), month = format_of("%B"), month_alone = format_of("%OB"), short_month = format_of("%b"), period = format_of("%p");
         is_text(fots_date_format_names(a_date(), &weekday, &names, buffer, ROOM), its->weekday);
         is_text(fots_date_format_names(a_date(), &short_weekday, &names, buffer, ROOM), its->short_weekday);
         is_text(fots_date_format_names(a_date(), &month, &names, buffer, ROOM), its->month);
         is_text(fots_date_format_names(a_date(), &short_month, &names, buffer, ROOM), its->short_month);
-        is_text(fots_date_format_names(a_date(), &month, &alone, buffer, ROOM), its->month_alone);
+        is_text(fots_date_format_names(a_date(), &month_alone, &names, buffer, ROOM), its->month_alone);
         is_text(fots_time_format_names(a_time(), &period, &names, buffer, ROOM), its->period);
     }
     fots_language_names none;

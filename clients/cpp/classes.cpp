@@ -634,7 +634,7 @@ void names_of_languages()
     check(evening.local().format(local) == "29 février 2024, 19:30" && PlainDateTime::parse("29 février 2024, 19:30", local) == evening.local(), "a local date-time");
     const NamedFormat half = Format("%p%-I:%M").with_names(Names::of_language("ja"));
     check(evening.time().format(half) == "午後7:30" && Time::parse("午後7:30", half) == evening.time(), "a time in Japanese");
-    check(day.format(Format("%-d %B").with_names(polish)) == "29 lutego" && day.format(Format("%B %Y").with_names(polish.alone())) == "luty 2024", "two forms");
+    check(day.format(Format("%-d %B").with_names(polish)) == "29 lutego" && day.format(Format("%OB %Y").with_names(polish)) == "luty 2024", "two forms");
     const locale_t locale = newlocale(LC_TIME_MASK, "C", nullptr);
     fots_language_names values;
     fots_names_of_locale(locale, &values);

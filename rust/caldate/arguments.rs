@@ -392,7 +392,7 @@ fn request_text(request: &Request<'_>) -> String {
         Request::To(form) => format!("to {}", form_name(*form)),
         Request::ToIso => "to iso".into(),
         Request::Print(format) => format!("print {}", printed(format)),
-        Request::PrintNamed(format, names) => format!("print {} {}", named_text(names), printed(format)),
+        Request::PrintInLanguage(format, names) => format!("print {} {}", named_text(names), printed(format)),
         Request::Move(by) => move_text(*by),
         Request::MoveAt(clock, by) => {
             format!("at {} {}", clock_text(clock), move_text(*by))
@@ -401,7 +401,7 @@ fn request_text(request: &Request<'_>) -> String {
         Request::Since(own, target, measure) => format!("{}since {}", own_text(own), target_text(target, *measure)),
         Request::At(place, form) => format!("at {} to {}", place_text(place), form_name(*form)),
         Request::PrintAt(place, format) => format!("at {} print {}", place_text(place), printed(format)),
-        Request::PrintNamedAt(place, format, names) => {
+        Request::PrintInLanguageAt(place, format, names) => {
             format!("at {} print {} {}", place_text(place), named_text(names), printed(format))
         }
         Request::Keep(Bounds::FromTo(first, last)) => {

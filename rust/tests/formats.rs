@@ -12,11 +12,12 @@ fn moment() -> OffsetDateTime {
 }
 
 /// The text of the moment by each item.
-const ITEMS: [(&str, &str); 27] = [
+const ITEMS: [(&str, &str); 28] = [
     ("%Y-%m-%d", "2024-02-29"),
     ("%C%y", "2024"),
     ("%-m/%-d", "2/29"),
     ("%B", "February"),
+    ("%OB", "February"),
     ("%b", "Feb"),
     ("%e", "29"),
     ("%j", "060"),

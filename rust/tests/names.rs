@@ -34,7 +34,6 @@ fn each_language_has_its_names() {
         let names = Names::of_language(code).unwrap();
         assert_eq!(names.month(Month::February), month);
         assert_eq!(names.month_alone(Month::February), alone);
-        assert_eq!(names.alone().month(Month::February), alone);
         assert_eq!(names.short_month(Month::February), short_month);
         assert_eq!(names.weekday(Weekday::Thursday), weekday);
         assert_eq!(names.short_weekday(Weekday::Thursday), short_weekday);
@@ -78,9 +77,10 @@ fn only_turkish_names_begin_others() {
 }
 
 /// The formats in which each name is printed and parsed.
-const FORMATS: [&str; 20] = [
+const FORMATS: [&str; 21] = [
     "%A, %-d %B %Y",
     "%-d %B %Y",
+    "%d. %OB %Y",
     "%d. %b %Y",
     "%a %d %b %Y",
     "%Y %B %d",

@@ -17,8 +17,8 @@ TABLES = {"months": 12, "months_alone": 12, "short_months": 12, "weekdays": 7, "
 class Names:
     """The names of a language: months from January on, weekdays from Monday on, and AM before PM.
 
-    Some languages have two forms of months: `months` has the form beside a day, and `months_alone` the
-    form without a day. By default both are the same, there are no names of halves of the day, and
+    Some languages have two forms of months: `months` has the form beside a day, for %B, and `months_alone`
+    the form without a day, for %OB. By default both are the same, there are no names of halves of the day, and
     `lower_periods` are `periods` in lower case. A name has at most 127 bytes of UTF-8.
 
     >>> Names.of("fr").months[1]
@@ -62,11 +62,6 @@ class Names:
         periods = tuple(locale.nl_langinfo(item).strip() for item in (locale.AM_STR, locale.PM_STR))
         return cls(of("MON", months), of("ABMON", months), of("DAY", from_monday), of("ABDAY", from_monday), periods,
             () if "OB" in alone[0] else alone)
-
-    def alone(self) -> Names:
-        """Returns the names with the months without a day in place of those beside a day, for a format
-        such as %B %Y."""
-        return dataclasses.replace(self, months=self.months_alone)
 
     def _bytes(self) -> bytes:
         """Returns the names with a zero byte after each."""

@@ -15,7 +15,7 @@ from fotsevindre import (
 LEAP_DAY = Date(2024, 2, 29)
 NIGHT = OffsetDateTime(LEAP_DAY, Time(23, 59, 59, nanosecond=250_000_000), UtcOffset(5, 30))
 # Of these, `datetime` prints the same text for the years from 1000 to 9999.
-DATE_ITEMS = ("%Y", "%C", "%y", "%m", "%-m", "%B", "%b", "%h", "%d", "%-d", "%e", "%j", "%G", "%V", "%U", "%W", "%A", "%a", "%u", "%w", "%F", "%D", "%%")
+DATE_ITEMS = ("%Y", "%C", "%y", "%m", "%-m", "%B", "%OB", "%b", "%h", "%d", "%-d", "%e", "%j", "%G", "%V", "%U", "%W", "%A", "%a", "%u", "%w", "%F", "%D", "%%")
 TIME_ITEMS = ("%H", "%-H", "%I", "%-I", "%p", "%M", "%S", "%f", "%T", "%R")
 
 

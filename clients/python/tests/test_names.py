@@ -58,7 +58,7 @@ class Languages(unittest.TestCase):
     def test_each_language(self):
         for code, weekday, short_weekday, month, short_month, alone, period in ROWS:
             names = Names.of(code)
-            found = [date_by("%F %A", names), date_by("%F %a", names), date_by("%F %B", names), date_by("%F %b", names), date_by("%F %B", names.alone())]
+            found = [date_by("%F %A", names), date_by("%F %a", names), date_by("%F %B", names), date_by("%F %b", names), date_by("%F %OB", names)]
             self.assertEqual(found, [f"2024-02-29 {name}" for name in (weekday, short_weekday, month, short_month, alone)], code)
             if period:
                 self.assertEqual(EVENING.strftime(Format("%I %p").with_names(names)), f"07 {period}")

@@ -55,6 +55,7 @@ name_number-one name.Weekday name.Weekday e = refl
 name_number-one name.ShortWeekday name.ShortWeekday e = refl
 name_number-one name.Period name.Period e = refl
 name_number-one name.LowerPeriod name.LowerPeriod e = refl
+name_number-one name.MonthAlone name.MonthAlone e = refl
 name_number-one _ _ e = absurd (omega (arith, e))
 
 pub name-one : (k : Name) (i : Item) → parts 4 (name_number k) ≡ item_parts i → i ≡ item.Name k

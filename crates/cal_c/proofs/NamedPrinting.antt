@@ -29,6 +29,7 @@ name-short xs ys n all same =
 
 table-short : (p : NamesParts) (t : Names) (k : Name) (n : ℕ) → AreNames p → HasNames p t → length (get_or (table_of t k) n []) ≤ 127
 table-short p t name.Month n are has = name-short (texts p.months) (texts t.months) n are.months has.months
+table-short p t name.MonthAlone n are has = name-short (texts p.months_alone) (texts t.months_alone) n are.months_alone has.months_alone
 table-short p t name.ShortMonth n are has = name-short (texts p.short_months) (texts t.short_months) n are.short_months has.short_months
 table-short p t name.Weekday n are has = name-short (texts p.weekdays) (texts t.weekdays) n are.weekdays has.weekdays
 table-short p t name.ShortWeekday n are has = name-short (texts p.short_weekdays) (texts t.short_weekdays) n are.short_weekdays has.short_weekdays

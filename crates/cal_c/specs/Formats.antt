@@ -33,6 +33,7 @@ name_number name.Weekday = 2
 name_number name.ShortWeekday = 3
 name_number name.Period = 4
 name_number name.LowerPeriod = 5
+name_number name.MonthAlone = 6
 
 -- The kind of an item, and the number of what it shows.
 abbrev pub parts : ℕ → ℕ → FormatItem

@@ -47,6 +47,7 @@ period am pm h n e = elim (cases_lt h 12) as (λ _. (if n == 0 then am else pm) 
 
 pub name-same : (k : Name) (n : ℕ) (v : Moment) → number (name_component k) v ≡ n → numbered_name k n ≡ name_text k v
 name-same name.Month n v e = ap (λ j. month.name (month_of_index (j - 1))) (sym e)
+name-same name.MonthAlone n v e = ap (λ j. month.name (month_of_index (j - 1))) (sym e)
 name-same name.ShortMonth n v e = ap (λ j. short_month (month_of_index (j - 1))) (sym e)
 name-same name.Weekday n v e = (let less : n - 1 ≡ weekday_at v.date = omega (arith, e) in ap (λ j. weekday.name (weekday_of_index j)) less)
 name-same name.ShortWeekday n v e = (let less : n - 1 ≡ weekday_at v.date = omega (arith, e) in ap (λ j. short_weekday (weekday_of_index j)) less)

@@ -69,6 +69,7 @@ length-lower_period v = period-length (nat_lt (hour_of v.time) 12) (codes "am") 
 
 pub name-short : (k : Name) (v : Moment) → length (name_text k v) ≤ 9
 name-short name.Month v = month-short (month_of v)
+name-short name.MonthAlone v = month-short (month_of v)
 name-short name.ShortMonth v = omega (arith, length-short_month (month_of v))
 name-short name.Weekday v = weekday-short (weekday_of v)
 name-short name.ShortWeekday v = omega (arith, length-short_weekday (weekday_of v))
@@ -109,6 +110,7 @@ lower_period-letter false rest = letter _ _ (lit< tt)
 
 name-letter : (k : Name) (n : ℕ) (rest : List ℕ) → BeginsWithLetter (numbered_name k n ++ rest)
 name-letter name.Month n rest = month-letter (month.month_of_index (n - 1)) rest
+name-letter name.MonthAlone n rest = month-letter (month.month_of_index (n - 1)) rest
 name-letter name.ShortMonth n rest = short_month-letter (month.month_of_index (n - 1)) rest
 name-letter name.Weekday n rest = weekday-letter (weekday.weekday_of_index (n - 1)) rest
 name-letter name.ShortWeekday n rest = short_weekday-letter (weekday.weekday_of_index (n - 1)) rest

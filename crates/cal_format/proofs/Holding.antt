@@ -20,6 +20,7 @@ use Rattle.cal_format.proofs.Digits.{fits-width}
 -- ---- a component that an item shows has no sign
 pub name-plain : (k : Name) (v : Moment) → sign (name_component k) v ≡ []
 name-plain name.Month v = refl
+name-plain name.MonthAlone v = refl
 name-plain _ v = refl
 
 same-plain : (d c : Component) (v : Moment) → IsTrue (index d == index c) → sign d v ≡ [] → sign c v ≡ []

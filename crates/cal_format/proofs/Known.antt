@@ -121,6 +121,7 @@ item-pair : (i : Item) (n : ℕ) → IsTrue (shows YearOfCentury i) → IsNumber
 item-pair (item.Number c p) n h fit = pair-of-number c p n (shown-pair c h) fit
 item-pair (item.Signed c p) n h fit = pair-of-number c p n (shown-pair c h) fit
 item-pair (item.Name name.Month) n h fit = cc
+item-pair (item.Name name.MonthAlone) n h fit = cc
 item-pair (item.Name name.ShortMonth) n h fit = cc
 item-pair (item.Name name.Weekday) n h fit = cc
 item-pair (item.Name name.ShortWeekday) n h fit = cc

@@ -13,6 +13,7 @@ use Rattle.cal_format.proofs.Digits.{fits-most, small-digits}
 
 name-below : (k : Name) (n : ℕ) → IsNameNumber k n → n < 100_000_000_000_000
 name-below name.Month n h = omega (arith, h.1)
+name-below name.MonthAlone n h = omega (arith, h.1)
 name-below name.ShortMonth n h = omega (arith, h.1)
 name-below name.Weekday n h = omega (arith, h.1)
 name-below name.ShortWeekday n h = omega (arith, h.1)

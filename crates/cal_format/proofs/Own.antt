@@ -37,6 +37,7 @@ bit-low false = omega arith
 
 name-fits : (k : Name) (v : Moment) → IsMoment v → IsNameNumber k (number (name_component k) v)
 name-fits name.Month v h = let range = month_at-range v.date in (range.0, range.1)
+name-fits name.MonthAlone v h = let range = month_at-range v.date in (range.0, range.1)
 name-fits name.ShortMonth v h = let range = month_at-range v.date in (range.0, range.1)
 name-fits name.Weekday v h = let is = weekday_at-is v.date in (omega arith, omega arith)
 name-fits name.ShortWeekday v h = let is = weekday_at-is v.date in (omega arith, omega arith)

@@ -56,6 +56,7 @@ rejected-at items text rest p e scans at byte end = elim (cases_lt p (length tex
 -- ---- numbers in range
 named-most : (k : Name) (n : ℕ) → IsNameNumber k n → n ≤ maximum (name_component k)
 named-most name.Month n h = h.1
+named-most name.MonthAlone n h = h.1
 named-most name.ShortMonth n h = h.1
 named-most name.Weekday n h = h.1
 named-most name.ShortWeekday n h = h.1

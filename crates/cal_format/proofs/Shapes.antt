@@ -213,6 +213,7 @@ minus-each false f (x ∷ xs) past = unmatched_bytes-branch_out 45 0 f f x xs (�
 
 name-each : (k : Name) (n : ℕ) (f : Shape) (rest : List ℕ) → unmatched_bytes (NameShape k f) (numbered_name k n ++ rest) ≡ unmatched_bytes f rest
 name-each name.Month n f rest = month-each (month_of_index (n - 1)) f rest
+name-each name.MonthAlone n f rest = month-each (month_of_index (n - 1)) f rest
 name-each name.ShortMonth n f rest = short_month-each (month_of_index (n - 1)) f rest
 name-each name.Weekday n f rest = weekday-each (weekday_of_index (n - 1)) f rest
 name-each name.ShortWeekday n f rest = short_weekday-each (weekday_of_index (n - 1)) f rest

@@ -105,6 +105,7 @@ one-of-two f (suc (suc n)) m h k less e = absurd (omega (arith, h))
 -- ---- items
 name-number : (k : Name) (n m : ℕ) → IsNameNumber k n → IsNameNumber k m → numbered_name k n ≡ numbered_name k m → n ≡ m
 name-number name.Month n m h k e = month-of month.name n m month-by h k e
+name-number name.MonthAlone n m h k e = month-of month.name n m month-by h k e
 name-number name.ShortMonth n m h k e = month-of short_month n m short_month-by h k e
 name-number name.Weekday n m h k e = weekday-of weekday.name n m weekday-by h k e
 name-number name.ShortWeekday n m h k e = weekday-of short_weekday n m short_weekday-by h k e

@@ -104,6 +104,7 @@ either-word false x y h k = k
 
 name-word : (k : Name) (n : ℕ) → IsWord (numbered_name k n)
 name-word name.Month n = month-word (month.month_of_index (n - 1))
+name-word name.MonthAlone n = month-word (month.month_of_index (n - 1))
 name-word name.ShortMonth n = short_month-word (month.month_of_index (n - 1))
 name-word name.Weekday n = weekday-word (weekday.weekday_of_index (n - 1))
 name-word name.ShortWeekday n = short_weekday-word (weekday.weekday_of_index (n - 1))

@@ -252,6 +252,7 @@ period-one f n m text by h k a b = sym (keyed period_by n (f n) text (by n h) a)
 
 pub one-name : (k : Name) (n m : ℕ) (text : List ℕ) → IsNameNumber k n → IsNameNumber k m → IsTrue (is_name (numbered_name k n) text) → IsTrue (is_name (numbered_name k m) text) → n ≡ m
 one-name name.Month n m text h k a b = month-one month.name n m text month-key h k a b
+one-name name.MonthAlone n m text h k a b = month-one month.name n m text month-key h k a b
 one-name name.ShortMonth n m text h k a b = month-one (λ o. take 3 (month.name o)) n m text short_month-key h k a b
 one-name name.Weekday n m text h k a b = weekday-one weekday.name n m text weekday-key h k a b
 one-name name.ShortWeekday n m text h k a b = weekday-one (λ w. take 3 (weekday.name w)) n m text short_weekday-key h k a b
@@ -260,6 +261,7 @@ one-name name.LowerPeriod n m text h k a b = period-one (numbered_name name.Lowe
 
 pub name-range : (k : Name) (n : ℕ) → IsNameNumber k n → (least_name k ≤ n) × (n ≤ most_name k)
 name-range name.Month n h = h
+name-range name.MonthAlone n h = h
 name-range name.ShortMonth n h = h
 name-range name.Weekday n h = h
 name-range name.ShortWeekday n h = h
@@ -268,6 +270,7 @@ name-range name.LowerPeriod n h = (omega arith, omega (arith, h))
 
 pub name-number : (k : Name) (n : ℕ) → least_name k ≤ n → n ≤ most_name k → IsNameNumber k n
 name-number name.Month n h l = (h, l)
+name-number name.MonthAlone n h l = (h, l)
 name-number name.ShortMonth n h l = (h, l)
 name-number name.Weekday n h l = (h, l)
 name-number name.ShortWeekday n h l = (h, l)

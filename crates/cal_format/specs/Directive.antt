@@ -93,6 +93,7 @@ directives =
     (codes "f", zeros Microsecond ∷ []) ∷
     (codes "N", zeros Nanosecond ∷ []) ∷
     (codes "B", item.Name name.Month ∷ []) ∷
+    (codes "OB", item.Name name.MonthAlone ∷ []) ∷
     (codes "b", item.Name name.ShortMonth ∷ []) ∷
     (codes "h", item.Name name.ShortMonth ∷ []) ∷
     (codes "A", item.Name name.Weekday ∷ []) ∷

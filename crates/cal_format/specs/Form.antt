@@ -98,6 +98,7 @@ PeriodName false f = TwoLetters 97 112 109 f
 -- A name of this kind.
 abbrev pub NameShape : Name → Shape → Shape
 NameShape name.Month f = MonthName true f
+NameShape name.MonthAlone f = MonthName true f
 NameShape name.ShortMonth f = MonthName false f
 NameShape name.Weekday f = WeekdayName true f
 NameShape name.ShortWeekday f = WeekdayName false f
@@ -142,6 +143,7 @@ period_text false n = if n == 0 then codes "am" else codes "pm"
 
 abbrev pub numbered_name : Name → ℕ → List ℕ
 numbered_name name.Month n = month_text true n
+numbered_name name.MonthAlone n = month_text true n
 numbered_name name.ShortMonth n = month_text false n
 numbered_name name.Weekday n = weekday_text true n
 numbered_name name.ShortWeekday n = weekday_text false n
@@ -171,6 +173,7 @@ numbered_text (i ∷ items) (n ∷ numbers) = numbered_item i n ++ numbered_text
 -- A number that a name can have.
 abbrev pub IsNameNumber : Name → ℕ → Type 0
 IsNameNumber name.Month n = (1 ≤ n) × (n ≤ 12)
+IsNameNumber name.MonthAlone n = (1 ≤ n) × (n ≤ 12)
 IsNameNumber name.ShortMonth n = (1 ≤ n) × (n ≤ 12)
 IsNameNumber name.Weekday n = (1 ≤ n) × (n ≤ 7)
 IsNameNumber name.ShortWeekday n = (1 ≤ n) × (n ≤ 7)

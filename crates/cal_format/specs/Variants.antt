@@ -41,6 +41,7 @@ least_name _ = 1
 
 abbrev pub most_name : Name → ℕ
 most_name name.Month = 12
+most_name name.MonthAlone = 12
 most_name name.ShortMonth = 12
 most_name name.Weekday = 7
 most_name name.ShortWeekday = 7

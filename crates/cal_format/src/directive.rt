@@ -26,7 +26,7 @@ macro_rules! spellings {
 }
 
 /// The directives of `strftime`, after the percent sign.
-pub(crate) const DIRECTIVES: [(&str, &[Item]); 45] = spellings! {
+pub(crate) const DIRECTIVES: [(&str, &[Item]); 46] = spellings! {
     "-m" => Number(Month, Padding::None);
     "-d" => Number(Day, Padding::None);
     "-H" => Number(Hour, Padding::None);
@@ -49,6 +49,7 @@ pub(crate) const DIRECTIVES: [(&str, &[Item]); 45] = spellings! {
     "f" => Number(Microsecond, Zero);
     "N" => Number(Nanosecond, Zero);
     "B" => Item::Name(Name::Month);
+    "OB" => Item::Name(Name::MonthAlone);
     "b" => Item::Name(ShortMonth);
     "h" => Item::Name(ShortMonth);
     "A" => Item::Name(Name::Weekday);

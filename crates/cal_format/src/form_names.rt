@@ -26,7 +26,7 @@ pub(crate) fn scan_name(scanner: &mut Scanner, name: Name) -> Option<u64>
     ensures range { IfSome result (IsNameNumber name) }
 {
     match name {
-        Name::Month => scan_month(scanner, true),
+        Name::Month | Name::MonthAlone => scan_month(scanner, true),
         Name::ShortMonth => scan_short_month(scanner),
         Name::Weekday => scan_weekday(scanner, true),
         Name::ShortWeekday => scan_weekday(scanner, false),

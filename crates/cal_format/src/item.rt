@@ -92,8 +92,11 @@ pub enum Padding {
 /// A name that a format shows of a value, in English.
 #[derive(Clone, Copy, Debug, PartialEq, Eq)]
 pub enum Name {
-    /// The name of the month, such as `February`.
+    /// The name of the month, such as `February`. In some languages this is the form beside a day.
     Month,
+    /// The name of the month without a day, such as `February`. Some languages have another form for
+    /// it: Polish has `stycznia` beside a day, and `styczeń` without one.
+    MonthAlone,
     /// The first three letters of the name of the month, such as `Feb`.
     ShortMonth,
     /// The name of the weekday, such as `Thursday`.
@@ -210,6 +213,7 @@ impl Name {
     {
         match self {
             Name::Month => Component::Month,
+            Name::MonthAlone => Component::Month,
             Name::ShortMonth => Component::Month,
             Name::Weekday => Component::Weekday,
             Name::ShortWeekday => Component::Weekday,

@@ -65,7 +65,7 @@ impl Name {
         ensures { result ≡ most_name self }
     {
         match self {
-            Name::Month | Name::ShortMonth => 12,
+            Name::Month | Name::MonthAlone | Name::ShortMonth => 12,
             Name::Weekday | Name::ShortWeekday => 7,
             Name::Period | Name::LowerPeriod => 1,
         }
@@ -79,7 +79,7 @@ impl Name {
         ensures { result.now ≡ numbered_name self number }
     {
         match self {
-            Name::Month => month(number).name().as_bytes(),
+            Name::Month | Name::MonthAlone => month(number).name().as_bytes(),
             Name::ShortMonth => &month(number).name().as_bytes()[..3],
             Name::Weekday => weekday(number).name().as_bytes(),
             Name::ShortWeekday => &weekday(number).name().as_bytes()[..3],

@@ -41,7 +41,7 @@ impl Name {
         ensures range { IsNameNumber self result }
     {
         match self {
-            Name::Month | Name::ShortMonth => u8::from(moment.date.month()),
+            Name::Month | Name::MonthAlone | Name::ShortMonth => { u8::from(moment.date.month()) }
             Name::Weekday | Name::ShortWeekday => moment.date.weekday().number_days_from_monday()
                 + 1,
             Name::Period | Name::LowerPeriod => moment.time.hour() / 12,

@@ -245,7 +245,7 @@ fn print_name(name: Name, moment: &Moment, buffer: &mut [u8], at: usize) -> Opti
     ensures { Writes (name_text name moment.now) at buffer.old buffer.new result }
 {
     match name {
-        Name::Month => put(buffer, at, moment.month().name().as_bytes()),
+        Name::Month | Name::MonthAlone => put(buffer, at, moment.month().name().as_bytes()),
         Name::ShortMonth => put(buffer, at, &moment.month().name().as_bytes()[..3]),
         Name::Weekday => put(buffer, at, moment.weekday().name().as_bytes()),
         Name::ShortWeekday => put(buffer, at, &moment.weekday().name().as_bytes()[..3]),

@@ -200,6 +200,7 @@ err-mapped P Q (Err e) f h = f e h
 
 pub some-names : (k : Name) → 1 ≤ count_of k
 some-names name.Month = omega arith
+some-names name.MonthAlone = omega arith
 some-names _ = omega arith
 
 pub number-fits : (k : Name) (i : ℕ) → i < count_of k → IsNameNumber k (i + first_number k)

@@ -18,6 +18,7 @@ use Rattle.cal_names.specs.NameShape.{TableShape}
 -- The table of a kind of name, and the number of its names.
 abbrev pub table_of : Names → Name → List (List ℕ)
 table_of t name.Month = texts t.months
+table_of t name.MonthAlone = texts t.months_alone
 table_of t name.ShortMonth = texts t.short_months
 table_of t name.Weekday = texts t.weekdays
 table_of t name.ShortWeekday = texts t.short_weekdays
@@ -26,6 +27,7 @@ table_of t name.LowerPeriod = texts t.lower_periods
 
 abbrev pub count_of : Name → ℕ
 count_of name.Month = 12
+count_of name.MonthAlone = 12
 count_of name.ShortMonth = 12
 count_of name.Weekday = 7
 count_of name.ShortWeekday = 7

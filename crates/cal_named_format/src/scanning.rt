@@ -18,6 +18,7 @@ pub fn table_of<'t, 'n>(names: &'t Names<'n>, name: Name) -> &'t [&'n str]
 {
     match name {
         Name::Month => &names.months,
+        Name::MonthAlone => &names.months_alone,
         Name::ShortMonth => &names.short_months,
         Name::Weekday => &names.weekdays,
         Name::ShortWeekday => &names.short_weekdays,
@@ -31,6 +32,7 @@ pub fn table_counts(names: &Names)
     ensures { (k : Kind) → length (table_of names.now k) ≡ count_of k }
 {
     table_of(names, Name::Month);
+    table_of(names, Name::MonthAlone);
     table_of(names, Name::ShortMonth);
     table_of(names, Name::Weekday);
     table_of(names, Name::ShortWeekday);

@@ -10,7 +10,8 @@ use cal_units::{Month, Weekday};
 /// weekdays from Monday on, and the name before noon first.
 ///
 /// Some languages have two forms of months. `months` has the form beside a day, such as `stycznia`
-/// in `1 stycznia`, and `months_alone` has the form without a day, such as `styczeń`.
+/// in `1 stycznia`, and `months_alone` has the form without a day, such as `styczeń`. Formats show
+/// them by `%B` and `%OB`.
 #[derive(Clone, Copy, Debug)]
 pub struct Names<'n> {
     /// The months beside a day, such as `stycznia`.
@@ -63,23 +64,6 @@ impl<'n> Names<'n> {
         ensures { result.now ≡ text_at self.now.short_weekdays (weekday_index weekday) }
     {
         self.short_weekdays[weekday.number_days_from_monday() as usize]
-    }
-
-    /// Returns the names with the months without a day in place of the months beside a day. They
-    /// suit a format that shows no day, such as `%B %Y`.
-    pub fn alone(&self) -> Names<'n>
-        ensures months { result.months ≡ self.now.months_alone }
-        ensures months_alone { result.months_alone ≡ self.now.months_alone }
-        ensures short_months { result.short_months ≡ self.now.short_months }
-        ensures weekdays { result.weekdays ≡ self.now.weekdays }
-        ensures short_weekdays { result.short_weekdays ≡ self.now.short_weekdays }
-        ensures periods { result.periods ≡ self.now.periods }
-        ensures lower_periods { result.lower_periods ≡ self.now.lower_periods }
-    {
-        Names {
-            months: self.months_alone,
-            ..*self
-        }
     }
 }
 

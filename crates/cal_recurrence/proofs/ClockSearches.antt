@@ -105,7 +105,7 @@ counted u test q (suc j) h =
     ]
 
 -- The count rises.
-counted-rises : (test : ℕ → Bool) (m n : ℕ) → m ≤ n → count_before test m ≤ count_before test n
+pub counted-rises : (test : ℕ → Bool) (m n : ℕ) → m ≤ n → count_before test m ≤ count_before test n
 counted-rises test m zero h = let e : m ≡ zero = omega arith in omega (arith, ap (count_before test) e)
 counted-rises test m (suc n) h = elim (cases_lt n m) as (λ _. count_before test m ≤ count_before test (suc n)) [
   | inl past ↦ let e : m ≡ suc n = omega arith in omega (arith, ap (count_before test) e)

@@ -1,8 +1,8 @@
 -- A parsed recurrence is spelled: each value is a value of its part.
-use Rattle.std.proofs.Common.{◌≡◌, ℕ, zero, suc, ◌+◌, ◌-◌, ◌/◌, ◌%◌, ◌<◌, ◌≤◌, Bool, true, false, cond, eqb, List, [], ◌∷◌, length, take, drop, Option, Some, None, Result, Ok, Err, ℤ, pos, refl, sym, ap, ◌∙◌, subst, arith}
-use Rattle.std.specs.Prelude.{⊤, codes, min, nat_le, nat_lt, neg_ℤ, slice_index, option_map, option_and_then, not, ◌&&◌, IfSome, IfOk, ◌≤ℤ◌}
+use Rattle.std.proofs.Common.{◌≡◌, ℕ, zero, suc, ◌+◌, ◌-◌, ◌/◌, ◌%◌, ◌<◌, ◌≤◌, Bool, true, false, cond, eqb, List, [], ◌∷◌, length, take, drop, Option, Some, None, Ok, Err, ℤ, pos, refl, sym, ap, ◌∙◌, subst, arith}
+use Rattle.std.specs.Prelude.{⊤, codes, min, nat_le, nat_lt, neg_ℤ, slice_index, option_map, option_and_then, ◌&&◌, is_some, unwrap_or, IfSome, ◌≤ℤ◌}
 use Rattle.std.specs.List.{All}
-use Rattle.std.specs.Option.{option_map_or, option_zip}
+use Rattle.std.specs.Option.{option_map_or, option_or, option_zip}
 use Rattle.std.specs.Str.Parse.{digits_value}
 use Rattle.std.proofs.lemmas.Bool.{and_parts}
 use Rattle.std.proofs.lemmas.Bool.Decides.{nat_tests}
@@ -20,20 +20,21 @@ use Rattle.cal_datetime.specs.DateTime.{date_time}
 use Rattle.cal_datetime.specs.DateTimeLaws.{IsDateTime-date_time, date_at-date_time, time_at-date_time}
 use Rattle.cal_schedule.specs.declared.rule.rule.ByDay.TheVariants.{Every, Nth}
 use Rattle.cal_schedule.specs.declared.rule.rule.Frequency.{Frequency}
+use Rattle.cal_schedule.specs.declared.rule.rule.Frequency.TheVariants.{Daily}
 use Rattle.cal_recurrence.specs.DateWords.{date_or_time_of, day_with, has_digits, time_with, with_time, with_zone}
 use Rattle.cal_recurrence.specs.Days.{excluded, ranks_alone}
 use Rattle.cal_recurrence.specs.Spelled.{HasFourDigits, IsCount, IsDateOrTime, IsIndex, IsMonthDay, IsByDay, IsHour, IsMinute, IsPosition, IsSecond, IsWeek, IsEnd, IsPeriod, IsSpelled, IsWhole}
-use Rattle.cal_recurrence.specs.Text.{fault, each, list_of, has_few_words, is_given, put, put_value, put_part, and_on, read_on, nothing}
-use Rattle.cal_recurrence.specs.Words.{bytes_after, by_hour_of, by_minute_of, by_second_of, clock_value_of, first_bytes, is_alike, parts_at, up_to, front_at, rest_at, part_of, frequency_of, is_number, number_of, from_one_to, count_of, short_count_of, index_of, weekday_of, month_of, month_day_of, week_of, by_day_of, position_of}
+use Rattle.cal_recurrence.specs.Text.{each, end_said, fault, first_error, list_of, place_of, recurrence_said, said, valid_parts_say, value_in}
+use Rattle.cal_recurrence.specs.Words.{bytes_after, by_hour_of, by_minute_of, by_second_of, clock_value_of, first_bytes, is_alike, parts_at, up_to, frequency_of, is_number, number_of, from_one_to, count_of, short_count_of, index_of, weekday_of, month_day_of, week_of, by_day_of, position_of}
 use Rattle.cal_recurrence.specs.declared.clock_unit.ClockUnit.{ClockUnit}
+use Rattle.cal_recurrence.specs.declared.date_or_time.DateOrTime.{DateOrTime}
 use Rattle.cal_recurrence.specs.declared.date_or_time.DateOrTime.TheVariants.{Date, Local, Utc}
-use Rattle.cal_recurrence.specs.declared.draft.Draft.{Draft}
 use Rattle.cal_recurrence.specs.declared.fault.ParseRuleError.{ParseRuleError}
-use Rattle.cal_recurrence.specs.declared.fault.ParseRuleErrorKind.{ParseRuleErrorKind}
-use Rattle.cal_recurrence.specs.declared.fault.ParseRuleErrorKind.TheVariants.{Unknown, Twice, TooMany, Value, Missing}
+use Rattle.cal_recurrence.specs.declared.fault.ParseRuleErrorKind.TheVariants.{Missing}
 use Rattle.cal_recurrence.specs.declared.fault.RulePart.{RulePart}
 use Rattle.cal_recurrence.specs.declared.fault.RulePart.TheVariants as part
 use Rattle.cal_recurrence.specs.declared.recurrence.Recurrence.{Recurrence}
+use Rattle.cal_recurrence.specs.declared.recurrence.RuleEnd.TheVariants.{Never, Until, Count}
 use Rattle.cal_recurrence.proofs.Dates.{has_them}
 use Rattle.cal_recurrence.proofs.Numbers.{digits, is_numeral}
 
@@ -42,7 +43,7 @@ pub guarded : {X : Type 0} (P : X → Type 0) (b : Bool) (x : X) → (b ≡ true
 guarded P true x h = h refl
 guarded P false x h = tt
 
-either : {X : Type 0} (P : X → Type 0) (b : Bool) (o p : Option X) → (b ≡ true → IfSome o P) → IfSome p P → IfSome (cond b o p) P
+pub either : {X : Type 0} (P : X → Type 0) (b : Bool) (o p : Option X) → (b ≡ true → IfSome o P) → IfSome p P → IfSome (cond b o p) P
 either P true o p h k = h refl
 either P false o p h k = k
 
@@ -220,77 +221,58 @@ periods word =
     period-if (is_alike word (codes "MINUTELY")) _ _ refl (
     period-if (is_alike word (codes "SECONDLY")) _ None refl tt))))))
 
-record IsRead (r : Recurrence) : Type 0 where
-  period : IsPeriod r.pattern.frequency r.times.clock
-  interval : IsCount r.pattern.interval
-  weeks : All IsWeek r.pattern.weeks
-  year_days : All IsPosition r.pattern.year_days
-  month_days : All IsMonthDay r.pattern.month_days
-  weekdays : All IsByDay r.pattern.weekdays
-  hours : All IsHour r.times.hours
-  minutes : All IsMinute r.times.minutes
-  seconds : All IsSecond r.times.seconds
-  set_positions : All IsPosition r.pattern.set_positions
-  end : IsEnd r.end
-
-abbrev IsDraft : Draft → Type 0
-IsDraft d = IsRead d.recurrence
-
-put-is : (d : Draft) (at : RulePart) (value : List ℕ) → IsDraft d → IfSome (put d at value) IsDraft
-put-is d part.Frequency value h = mapped (λ x. IsPeriod x.0 x.1) IsDraft _ (frequency_of value) (λ x p. record { period = p; interval = h.interval; weeks = h.weeks; year_days = h.year_days; month_days = h.month_days; weekdays = h.weekdays; hours = h.hours; minutes = h.minutes; seconds = h.seconds; set_positions = h.set_positions; end = h.end }) (periods value)
-put-is d part.Interval value h = mapped IsCount IsDraft _ (count_of 4294967295 value) (λ x p. record { period = h.period; interval = p; weeks = h.weeks; year_days = h.year_days; month_days = h.month_days; weekdays = h.weekdays; hours = h.hours; minutes = h.minutes; seconds = h.seconds; set_positions = h.set_positions; end = h.end }) (counts value)
-put-is d part.WeekStart value h = mapped (λ x. ⊤) IsDraft _ (weekday_of value) (λ x p. record { period = h.period; interval = h.interval; weeks = h.weeks; year_days = h.year_days; month_days = h.month_days; weekdays = h.weekdays; hours = h.hours; minutes = h.minutes; seconds = h.seconds; set_positions = h.set_positions; end = h.end }) (any (weekday_of value))
-put-is d part.Months value h = mapped (λ x. ⊤) IsDraft _ (list_of month_of value) (λ x p. record { period = h.period; interval = h.interval; weeks = h.weeks; year_days = h.year_days; month_days = h.month_days; weekdays = h.weekdays; hours = h.hours; minutes = h.minutes; seconds = h.seconds; set_positions = h.set_positions; end = h.end }) (any (list_of month_of value))
-put-is d part.Weeks value h = mapped (All IsWeek) IsDraft _ (list_of week_of value) (λ x p. record { period = h.period; interval = h.interval; weeks = p; year_days = h.year_days; month_days = h.month_days; weekdays = h.weekdays; hours = h.hours; minutes = h.minutes; seconds = h.seconds; set_positions = h.set_positions; end = h.end }) (list-is IsWeek week_of (indexed 2 53) value)
-put-is d part.YearDays value h = mapped (All IsPosition) IsDraft _ (list_of position_of value) (λ x p. record { period = h.period; interval = h.interval; weeks = h.weeks; year_days = p; month_days = h.month_days; weekdays = h.weekdays; hours = h.hours; minutes = h.minutes; seconds = h.seconds; set_positions = h.set_positions; end = h.end }) (list-is IsPosition position_of (indexed 3 366) value)
-put-is d part.MonthDays value h = mapped (All IsMonthDay) IsDraft _ (list_of month_day_of value) (λ x p. record { period = h.period; interval = h.interval; weeks = h.weeks; year_days = h.year_days; month_days = p; weekdays = h.weekdays; hours = h.hours; minutes = h.minutes; seconds = h.seconds; set_positions = h.set_positions; end = h.end }) (list-is IsMonthDay month_day_of (indexed 2 31) value)
-put-is d part.Weekdays value h = mapped (All IsByDay) IsDraft _ (list_of by_day_of value) (λ x p. record { period = h.period; interval = h.interval; weeks = h.weeks; year_days = h.year_days; month_days = h.month_days; weekdays = p; hours = h.hours; minutes = h.minutes; seconds = h.seconds; set_positions = h.set_positions; end = h.end }) (list-is IsByDay by_day_of by_days value)
-put-is d part.Hours value h = mapped (All IsHour) IsDraft _ (list_of by_hour_of value) (λ x p. record { period = h.period; interval = h.interval; weeks = h.weeks; year_days = h.year_days; month_days = h.month_days; weekdays = h.weekdays; hours = p; minutes = h.minutes; seconds = h.seconds; set_positions = h.set_positions; end = h.end }) (list-is IsHour by_hour_of (clock-valued 23) value)
-put-is d part.Minutes value h = mapped (All IsMinute) IsDraft _ (list_of by_minute_of value) (λ x p. record { period = h.period; interval = h.interval; weeks = h.weeks; year_days = h.year_days; month_days = h.month_days; weekdays = h.weekdays; hours = h.hours; minutes = p; seconds = h.seconds; set_positions = h.set_positions; end = h.end }) (list-is IsMinute by_minute_of (clock-valued 59) value)
-put-is d part.Seconds value h = mapped (All IsSecond) IsDraft _ (list_of by_second_of value) (λ x p. record { period = h.period; interval = h.interval; weeks = h.weeks; year_days = h.year_days; month_days = h.month_days; weekdays = h.weekdays; hours = h.hours; minutes = h.minutes; seconds = p; set_positions = h.set_positions; end = h.end }) (list-is IsSecond by_second_of (clock-valued 60) value)
-put-is d part.Positions value h = mapped (All IsPosition) IsDraft _ (list_of position_of value) (λ x p. record { period = h.period; interval = h.interval; weeks = h.weeks; year_days = h.year_days; month_days = h.month_days; weekdays = h.weekdays; hours = h.hours; minutes = h.minutes; seconds = h.seconds; set_positions = p; end = h.end }) (list-is IsPosition position_of (indexed 3 366) value)
-put-is d part.Until value h = mapped IsDateOrTime IsDraft _ (date_or_time_of value) (λ x p. record { period = h.period; interval = h.interval; weeks = h.weeks; year_days = h.year_days; month_days = h.month_days; weekdays = h.weekdays; hours = h.hours; minutes = h.minutes; seconds = h.seconds; set_positions = h.set_positions; end = p }) (dates value)
-put-is d part.Count value h = mapped IsCount IsDraft _ (count_of 4294967295 value) (λ x p. record { period = h.period; interval = h.interval; weeks = h.weeks; year_days = h.year_days; month_days = h.month_days; weekdays = h.weekdays; hours = h.hours; minutes = h.minutes; seconds = h.seconds; set_positions = h.set_positions; end = p }) (counts value)
-
-or-err : {E : Type 0} (o : Option Draft) (why : E) → IfSome o IsDraft → IfOk (option_map_or Ok o (Err why)) IsDraft
-or-err None why h = tt
-or-err (Some d) why h = h
-
-err-if : {E : Type 0} (b : Bool) (why : E) (r : Result Draft E) → IfOk r IsDraft → IfOk (cond b (Err why) r) IsDraft
-err-if true why r h = tt
-err-if false why r h = h
-
-known : {E : Type 0} (f : RulePart → Result Draft E) (at : Option RulePart) (why : E) → ((p : RulePart) → IfOk (f p) IsDraft)
-    → IfOk (option_map_or f at (Err why)) IsDraft
-known f None why h = tt
-known f (Some at) why h = h at
-
-part-is : (d : Draft) (text : List ℕ) → IsDraft d → IfOk (put_part d text) IsDraft
-part-is d text h =
-    let value = rest_at 61 text in
-    known (put_value d value) (part_of (front_at 61 text)) Unknown
-    (λ at. err-if (not (has_few_words value)) (TooMany at) _ (err-if (is_given d at) (Twice at) _ (or-err (put d at value) (Value at) (put-is d at value h))))
-
 -- ---- the whole
-with-one : (d : Draft) (why : ParseRuleError) (b : Bool) → IsDraft d → IfOk (cond b (Ok d.recurrence) (Err why)) IsRead
-with-one d why true h = h
-with-one d why false h = tt
+-- a meaning, or the default
+or-default : {X : Type 0} (P : X → Type 0) (default : X) (o : Option X) → P default → IfSome o P → P (unwrap_or o default)
+or-default P default None d h = d
+or-default P default (Some x) d h = h
 
-next : (at : ℕ) (others : Draft → Result Recurrence ParseRuleError) (r : Result Draft ParseRuleErrorKind) → IfOk r IsDraft
-    → ((d : Draft) → IsDraft d → IfOk (others d) IsRead)
-    → IfOk (and_on at others r) IsRead
-next at others (Ok d) h k = k d h
-next at others (Err why) h k = tt
+said-is : {X : Type 0} (P : X → Type 0) (meaning : List ℕ → Option X) (default : X) → P default → ((word : List ℕ) → IfSome (meaning word) P)
+    → (value : Option (List ℕ)) → P (said meaning default value)
+said-is P meaning default d h None = d
+said-is P meaning default d h (Some word) = or-default P default (meaning word) d (h word)
 
-read-on : (at : ℕ) (d : Draft) (texts : List (List ℕ)) → IsDraft d → IfOk (read_on at d texts) IsRead
-read-on at d [] h = with-one d (fault (at - 1) Missing) d.has_frequency h
-read-on at d (text ∷ texts) h =
-    next at (λ more. read_on (at + length text + 1) more texts) (put_part d text) (part-is d text h) (λ e k. read-on (at + length text + 1) e texts k)
+list-said : {X : Type 0} (P : X → Type 0) (meaning : List ℕ → Option X) → ((word : List ℕ) → IfSome (meaning word) P)
+    → (value : Option (List ℕ)) → All P (said (list_of meaning) [] value)
+list-said P meaning h value = said-is (All P) (list_of meaning) [] (All-nil P) (list-is P meaning h) value
 
-pub read_is_spelled : (at : ℕ) (draft : Draft) (texts : List (List ℕ)) (r : Recurrence)
-    → draft ≡ nothing → Ok r ≡ read_on at draft texts → excluded r ≡ None → ranks_alone r ≡ false → IsSpelled r
-read_is_spelled at draft texts r e f allowed ranked =
-    let is : IfOk {E = ParseRuleError} (Ok r) IsRead =
-    subst (λ s. IfOk s IsRead) (sym (f ∙ ap (λ d. read_on at d texts) e))
-    (read-on at nothing texts (record { period = tt; interval = (omega arith, omega arith); weeks = All-nil IsWeek; year_days = All-nil IsPosition; month_days = All-nil IsMonthDay; weekdays = All-nil IsByDay; hours = All-nil IsHour; minutes = All-nil IsMinute; seconds = All-nil IsSecond; set_positions = All-nil IsPosition; end = tt })) in
-    record { period = is.period; interval = is.interval; each_week = is.weeks; each_year_day = is.year_days; each_month_day = is.month_days; each_weekday = is.weekdays; each_hour = is.hours; each_minute = is.minutes; each_second = is.seconds; each_position = is.set_positions; allowed = allowed; ranked = ranked; end = is.end }
+end-is : (until count : Option (List ℕ)) → IsEnd (end_said until count)
+end-is until count =
+    either-end (option_and_then date_or_time_of until) (option_and_then (count_of 4294967295) count)
+    (if_there (λ word. ⊤) IsDateOrTime date_or_time_of until (λ word h. dates word) (any until))
+    (if_there (λ word. ⊤) IsCount (count_of 4294967295) count (λ word h. counts word) (any count))
+  where
+    either-end : (u : Option DateOrTime) (c : Option ℕ) → IfSome u IsDateOrTime → IfSome c IsCount → IsEnd (unwrap_or (option_or (option_map Until u) (option_map Count c)) Never)
+    either-end (Some last) c h k = h
+    either-end None (Some n) h k = k
+    either-end None None h k = tt
+
+said_is_spelled : (values : RulePart → Option (List ℕ)) → excluded (recurrence_said values) ≡ None → ranks_alone (recurrence_said values) ≡ false
+    → IsSpelled (recurrence_said values)
+said_is_spelled values allowed ranked = record {
+  period = said-is (λ x. IsPeriod x.0 x.1) frequency_of (Daily, None) tt periods (values part.Frequency);
+  interval = said-is IsCount (count_of 4294967295) 1 (omega arith, omega arith) counts (values part.Interval);
+  each_week = list-said IsWeek week_of (indexed 2 53) (values part.Weeks);
+  each_year_day = list-said IsPosition position_of (indexed 3 366) (values part.YearDays);
+  each_month_day = list-said IsMonthDay month_day_of (indexed 2 31) (values part.MonthDays);
+  each_weekday = list-said IsByDay by_day_of by_days (values part.Weekdays);
+  each_hour = list-said IsHour by_hour_of (clock-valued 23) (values part.Hours);
+  each_minute = list-said IsMinute by_minute_of (clock-valued 59) (values part.Minutes);
+  each_second = list-said IsSecond by_second_of (clock-valued 60) (values part.Seconds);
+  each_position = list-said IsPosition position_of (indexed 3 366) (values part.Positions);
+  allowed = allowed;
+  ranked = ranked;
+  end = end-is (values part.Until) (values part.Count);
+}
+
+pub valid_is_spelled : (at : ℕ) (texts : List (List ℕ)) (r : Recurrence)
+    → Ok r ≡ valid_parts_say at texts → excluded r ≡ None → ranks_alone r ≡ false → IsSpelled r
+valid_is_spelled at texts r e =
+    let values = value_in texts in
+    by (first_error at [] texts) (is_some (values part.Frequency)) (fault (place_of (codes "FREQ") at texts) Missing) (recurrence_said values) e (said_is_spelled values)
+  where
+    by : (o : Option ParseRuleError) (b : Bool) (missing : ParseRuleError) (said : Recurrence) → Ok r ≡ option_map_or Err o (cond b (Ok said) (Err missing))
+        → (excluded said ≡ None → ranks_alone said ≡ false → IsSpelled said) → excluded r ≡ None → ranks_alone r ≡ false → IsSpelled r
+    by (Some why) b missing said e h = absurd (cc)
+    by None false missing said e h = absurd (cc)
+    by None true missing said e h = let is : said ≡ r = cc in subst (λ x. excluded x ≡ None → ranks_alone x ≡ false → IsSpelled x) is h

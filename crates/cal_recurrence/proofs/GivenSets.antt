@@ -13,7 +13,7 @@ use Rattle.cal_recurrence.specs.Days.{excluded, ranks_alone}
 use Rattle.cal_recurrence.specs.SetText.{all_allow, all_ignored, error_after, first_zone, has_value, if_allowed, is_local, is_zone_name, kind_of, lines_of, once, parameters_on, parts_from, parts_of, read_part, recurrence_on, value_error, value_of, value_on, values_on, with_line, with_value, with_zone, zone_error, AreValid, SaysSet}
 use Rattle.cal_recurrence.specs.SetWritten.{IsSpelledSet, IsZoneOf}
 use Rattle.cal_recurrence.specs.Spelled.{IsByDay, IsDateOrTime, IsHour, IsMinute, IsMonthDay, IsPosition, IsSecond, IsSpelled, IsWeek}
-use Rattle.cal_recurrence.specs.Text.{checked, each, fault, later_of, list_of, nothing, parts_say, place_of, read_on}
+use Rattle.cal_recurrence.specs.Text.{checked, each, fault, later_of, list_of, parts_say, place_of, valid_parts_say}
 use Rattle.cal_recurrence.specs.Words.{front_outside, parts_at, rest_outside}
 use Rattle.cal_recurrence.specs.declared.date_or_time.DateOrTime.{DateOrTime}
 use Rattle.cal_recurrence.specs.declared.fault.ParseRuleError.{ParseRuleError}
@@ -30,24 +30,24 @@ use Rattle.cal_recurrence.proofs.Avoided.{parts_at-some}
 use Rattle.std.proofs.lemmas.Bool.{or_left, or_right}
 use Rattle.cal_recurrence.proofs.GivenNames.{no-zone, zone-if}
 use Rattle.cal_recurrence.specs.declared.set_parts.SetParts.{SetParts}
-use Rattle.cal_recurrence.proofs.GivenParts.{dates, each-is, guarded, if_there, read_is_spelled}
+use Rattle.cal_recurrence.proofs.GivenParts.{dates, each-is, guarded, if_there, valid_is_spelled}
 use Rattle.cal_recurrence.proofs.SaidLines.{error-here, first-none, local_start, no-value, parts-more, passes, second-none, some_local}
 
 -- ---- recurrences
 recurrence-at : (at : ℕ) (texts : List (List ℕ)) → IfOk (parts_say at texts) IsSpelled
-recurrence-at at texts = by-result (read_on at nothing texts) refl
+recurrence-at at texts = by-result (valid_parts_say at texts) refl
   where
-    by-rank : (r : Recurrence) (b : Bool) → Ok r ≡ read_on at nothing texts → excluded r ≡ None → ranks_alone r ≡ b
+    by-rank : (r : Recurrence) (b : Bool) → Ok r ≡ valid_parts_say at texts → excluded r ≡ None → ranks_alone r ≡ b
         → IfOk (cond b (Err (fault (place_of (codes "BYSETPOS") at texts) (Alone part.Positions))) (Ok r)) IsSpelled
     by-rank r true e free rank = tt
-    by-rank r false e free rank = read_is_spelled at nothing texts r refl e free rank
+    by-rank r false e free rank = valid_is_spelled at texts r e free rank
 
-    by-pair : (r : Recurrence) (o : Option (RulePart × RulePart)) → Ok r ≡ read_on at nothing texts → excluded r ≡ o
+    by-pair : (r : Recurrence) (o : Option (RulePart × RulePart)) → Ok r ≡ valid_parts_say at texts → excluded r ≡ o
         → IfOk (option_map_or (λ both. Err (later_of at texts both)) o (cond (ranks_alone r) (Err (fault (place_of (codes "BYSETPOS") at texts) (Alone part.Positions))) (Ok r))) IsSpelled
     by-pair r (Some both) e pair = tt
     by-pair r None e pair = by-rank r (ranks_alone r) e pair refl
 
-    by-result : (o : Result Recurrence ParseRuleError) → o ≡ read_on at nothing texts → IfOk (checked at texts o) IsSpelled
+    by-result : (o : Result Recurrence ParseRuleError) → o ≡ valid_parts_say at texts → IfOk (checked at texts o) IsSpelled
     by-result (Err why) e = tt
     by-result (Ok r) e = by-pair r (excluded r) e refl
 

@@ -1,6 +1,7 @@
 pub mod Cuts
 pub mod Numbers
 pub mod Dates
+pub mod DayBounds
 pub mod Digits
 pub mod Listed
 pub mod Marked
@@ -14,6 +15,8 @@ pub mod SaidLines
 pub mod SetSteps
 pub mod SetLines
 pub mod GivenParts
+pub mod SaidParts
+pub mod PartOrder
 pub mod GivenNames
 pub mod GivenSets
 pub mod FirstNumbers

@@ -14,7 +14,8 @@ use Rattle.cal_schedule.specs.Pattern.{every}
 use Rattle.cal_schedule.specs.declared.rule.pattern.Pattern.{Pattern}
 use Rattle.cal_recurrence.specs.DateWords.{date_or_time_of}
 use Rattle.cal_recurrence.specs.Spelled.{IsCount, IsMonthDay, IsByDay, IsHour, IsMinute, IsPosition, IsSecond, IsWeek, IsEnd, IsPeriod, IsSpelled}
-use Rattle.cal_recurrence.specs.Text.{list_of, is_given, parts_say, put, put_value, put_part, read_on, nothing, recurrence_of, ReadsBack}
+use Rattle.cal_recurrence.specs.Drafts.{is_given, nothing, put, put_part, put_value, read_on}
+use Rattle.cal_recurrence.specs.Text.{checked, list_of, parts_say, recurrence_of, ReadsBack}
 use Rattle.cal_recurrence.specs.Words.{bytes_after, first_bytes, has_name, parts_at, frequency_of, weekday_of, count_of, month_of, month_day_of, week_of, by_day_of, by_hour_of, by_minute_of, by_second_of, position_of}
 use Rattle.cal_recurrence.specs.Written.{period_text, weekday_text, month_text, by_day_text, position_text, date_or_time_text, interval_text, end_text, list_text, week_start_text, text_of}
 use Rattle.cal_recurrence.specs.declared.clock_unit.ClockUnit.{ClockUnit}
@@ -28,6 +29,7 @@ use Rattle.cal_recurrence.specs.declared.times_of_day.TimesOfDay.{TimesOfDay}
 use Rattle.cal_recurrence.proofs.Avoided.{all-from, avoids, avoids-append, avoids-cons, cut-here, cut-nowhere}
 use Rattle.cal_recurrence.proofs.ReadDates.{date-word}
 use Rattle.cal_recurrence.proofs.ReadValues.{IsWord, IsValue, AreWords, one-word, list-value}
+use Rattle.cal_recurrence.proofs.SaidParts.{read_said}
 use Rattle.cal_recurrence.proofs.ReadWords.{clock-word, count-word, month-word, month_day-word, week-word, by_day-word, position-word, frequency-word, weekday-word}
 
 -- ---- parts, each after a mark
@@ -254,8 +256,8 @@ said r few h =
 -- the parts of the text, the first of which begins at byte `at`
 says-it : (at : ℕ) (r : Recurrence) → AreFew r → IsSpelled r → parts_say at (parts_at 59 (text_of r)) ≡ Ok r
 says-it at r few h =
-    let texts = parts_at 59 (text_of r) in
-    rw ((said r few h).reads at, h.allowed, h.ranked) refl
+    let no-error : checked at (parts_at 59 (text_of r)) (Ok r) ≡ Ok r = rw (h.allowed, h.ranked) refl in
+    ap (checked at (parts_at 59 (text_of r))) (sym (read_said at (parts_at 59 (text_of r))) ∙ (said r few h).reads at) ∙ no-error
 
 unnamed : (r : Recurrence) → AreFew r → IsSpelled r → recurrence_of (text_of r) ≡ Ok r
 unnamed r few h = rw (no-name r) (says-it 0 r few h)

@@ -28,7 +28,7 @@ later-no (Some last) x k off h = false_from_ne_true _ (λ on.
 
 -- A reading is an occurrence if it isn't before the start or after the end, and the rule selects_reading
 -- it.
-occurrence-is : (rule : DateTimeParts) (k : ℕ) → is_occurrence rule (pos k) ≡ (int_le rule.start (pos k) && (is_not_after rule.until (pos k) && selects_reading rule k))
+pub occurrence-is : (rule : DateTimeParts) (k : ℕ) → is_occurrence rule (pos k) ≡ (int_le rule.start (pos k) && (is_not_after rule.until (pos k) && selects_reading rule k))
 unfolding is_occurrence date_at time_at
 occurrence-is rule k = refl
 

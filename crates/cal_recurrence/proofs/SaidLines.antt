@@ -66,7 +66,7 @@ first-more [] None = refl
 first-more [] (Some x) = refl
 first-more (x ∷ xs) o = refl
 
-or-none : {X : Type 0} (o : Option X) → option_or o None ≡ o
+pub or-none : {X : Type 0} (o : Option X) → option_or o None ≡ o
 or-none None = refl
 or-none (Some x) = refl
 

@@ -2,6 +2,7 @@ pub mod Words
 pub mod DateOrTime
 pub mod DateWords
 pub mod Text
+pub mod Drafts
 pub mod Days
 pub mod RecurrenceText
 pub mod Written

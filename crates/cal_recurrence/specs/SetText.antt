@@ -77,7 +77,8 @@ are_periods (parameter ∷ parameters) = is_alike parameter (codes "VALUE=PERIOD
 abbrev pub period_start : List ℕ → Option (List ℕ)
 period_start word = if list_any (λ b. b == 47) word then Some (front_at 47 word) else None
 
--- The part of a word that is read: the start of a period, or else the whole word.
+-- The part of a word that is read: the start of a period, if `/` follows it, or a word that is no
+-- period.
 abbrev pub read_part : List (List ℕ) → List ℕ → Option (List ℕ)
 read_part parameters word = if are_periods parameters then period_start word else Some word
 
@@ -232,7 +233,7 @@ error_unless passes why = if passes then None else Some why
 abbrev pub list_error : ℕ → List ℕ → SetLine → Option ParseSetErrorKind
 list_error filled text its = option_or (error_unless (has_room filled (rest_outside 58 text)) (TooMany its)) (error_unless (is_some (values_on text)) (Value its))
 
--- The values of a line are periods. Only dates of `RDATE` may be.
+-- The values of a line are periods. Only a line `RDATE` has such values.
 abbrev pub has_periods : List ℕ → Bool
 has_periods text = are_periods (parameters_on text)
 

@@ -1,18 +1,15 @@
 -- The text of a recurrence, after the grammar of `recur` in RFC 5545. Its parts are separated by
 -- `;` (59). Each has a name, `=` (61) and a value, or a list of values separated by `,` (44).
-use Rattle.std.specs.Prelude.{◌≡◌, ℕ, ◌+◌, ◌-◌, ◌==◌, nat_le, nat_lt, Bool, true, false, not, List, [], ◌∷◌, ◌++◌, codes, length, Option, Some, option_map, is_some, Result, Ok, Err, if◌then◌else◌}
-use Rattle.std.specs.List.{All}
-use Rattle.std.specs.Option.{option_map_or, option_zip}
-use Rattle.cal_schedule.specs.Pattern.{every}
+use Rattle.std.specs.Prelude.{◌≡◌, ◌≤◌, ℕ, ◌+◌, ◌-◌, ◌||◌, nat_le, nat_lt, Bool, true, false, not, List, [], ◌∷◌, ◌++◌, codes, count_by, length, Option, Some, None, option_and_then, option_map, is_some, unwrap_or, Result, Ok, Err, if◌then◌else◌}
+use Rattle.std.specs.List.{All, list_any}
+use Rattle.std.specs.Option.{option_map_or, option_or, option_zip}
+use Rattle.cal_time.specs.declared.Weekday.TheVariants.{Monday}
 use Rattle.cal_schedule.specs.Values.{most_values}
-use Rattle.cal_schedule.specs.declared.rule.pattern.Pattern.{Pattern}
 use Rattle.cal_schedule.specs.declared.rule.rule.Frequency.TheVariants.{Daily}
-use Rattle.cal_recurrence.specs.Days.{excluded, has_end, ranks_alone}
+use Rattle.cal_recurrence.specs.Days.{excluded, ranks_alone}
 use Rattle.cal_recurrence.specs.DateWords.{date_or_time_of}
 use Rattle.cal_recurrence.specs.FaultText.{part_name}
-use Rattle.cal_recurrence.specs.TimesOfDay.{no_times}
 use Rattle.cal_recurrence.specs.Words.{bytes_after, has_name, is_alike, parts_at, front_at, rest_at, part_of, frequency_of, weekday_of, count_of, month_of, month_day_of, week_of, by_day_of, by_hour_of, by_minute_of, by_second_of, position_of}
-use Rattle.cal_recurrence.specs.declared.draft.Draft.{Draft}
 use Rattle.cal_recurrence.specs.declared.fault.RulePart.{RulePart}
 use Rattle.cal_recurrence.specs.declared.fault.RulePart.TheVariants as part
 use Rattle.cal_recurrence.specs.declared.fault.ParseRuleErrorKind.{ParseRuleErrorKind}
@@ -20,7 +17,6 @@ use Rattle.cal_recurrence.specs.declared.fault.ParseRuleErrorKind.TheVariants.{U
 use Rattle.cal_recurrence.specs.declared.fault.ParseRuleError.{ParseRuleError}
 use Rattle.cal_recurrence.specs.declared.recurrence.Recurrence.{Recurrence}
 use Rattle.cal_recurrence.specs.declared.recurrence.RuleEnd.{RuleEnd}
-use Rattle.cal_recurrence.specs.declared.times_of_day.TimesOfDay.{TimesOfDay}
 use Rattle.cal_recurrence.specs.declared.recurrence.RuleEnd.TheVariants.{Never, Until, Count}
 
 -- ---- lists
@@ -38,94 +34,123 @@ abbrev pub has_few_words : List ℕ → Bool
 has_few_words value = nat_le (length (parts_at 44 value)) most_values
 
 -- ---- parts
--- A part was given before. A list has values if its part was given. UNTIL and COUNT both set the
--- end.
-abbrev pub is_given : Draft → RulePart → Bool
-is_given draft part.Frequency = draft.has_frequency
-is_given draft part.Interval = draft.has_interval
-is_given draft part.WeekStart = draft.has_week_start
-is_given draft part.Months = not (length draft.recurrence.pattern.months == 0)
-is_given draft part.Weeks = not (length draft.recurrence.pattern.weeks == 0)
-is_given draft part.YearDays = not (length draft.recurrence.pattern.year_days == 0)
-is_given draft part.MonthDays = not (length draft.recurrence.pattern.month_days == 0)
-is_given draft part.Weekdays = not (length draft.recurrence.pattern.weekdays == 0)
-is_given draft part.Hours = not (length draft.recurrence.times.hours == 0)
-is_given draft part.Minutes = not (length draft.recurrence.times.minutes == 0)
-is_given draft part.Seconds = not (length draft.recurrence.times.seconds == 0)
-is_given draft part.Positions = not (length draft.recurrence.pattern.set_positions == 0)
-is_given draft part.Until = has_end draft.recurrence.end
-is_given draft part.Count = has_end draft.recurrence.end
+-- A text is a part: what comes before its `=` is the name of the part.
+abbrev pub is_part : RulePart → List ℕ → Bool
+is_part at text = is_alike (front_at 61 text) (part_name at)
 
--- The draft with another pattern.
-abbrev pub with_pattern : Draft → Pattern → Draft
-with_pattern draft pattern = record draft { recurrence = record draft.recurrence { pattern = pattern } }
+-- The value of a part, after the `=` of the first text that is the part. Without one it is `None`.
+abbrev pub value_in : List (List ℕ) → RulePart → Option (List ℕ)
+value_in [] at = None
+value_in (text ∷ texts) at = if is_part at text then Some (rest_at 61 text) else value_in texts at
 
--- The draft with other times of day.
-abbrev pub with_times : Draft → TimesOfDay → Draft
-with_times draft times = record draft { recurrence = record draft.recurrence { times = times } }
+-- ---- what parts say
+-- The meaning of a value, or the default without a value.
+abbrev pub said : {X : Type 0} → (List ℕ → Option X) → X → Option (List ℕ) → X
+said meaning default value = unwrap_or (option_and_then meaning value) default
 
--- The draft with another end.
-abbrev pub with_end : Draft → RuleEnd → Draft
-with_end draft end = record draft { recurrence = record draft.recurrence { end = end } }
+-- The end that an UNTIL or a COUNT says. Without both there is none.
+abbrev pub end_said : Option (List ℕ) → Option (List ℕ) → RuleEnd
+end_said until count =
+    let last = option_map Until (option_and_then date_or_time_of until) in
+    let number = option_map Count (option_and_then (count_of 4294967295) count) in
+    unwrap_or (option_or last number) Never
 
--- The draft with one more part, if the value is valid.
-abbrev pub put : Draft → RulePart → List ℕ → Option Draft
-put draft part.Frequency value =
-    option_map (λ x. record (with_times (with_pattern draft (record draft.recurrence.pattern { frequency = x.0 })) (record draft.recurrence.times { clock = x.1 })) { has_frequency = true }) (frequency_of value)
-put draft part.Interval value =
-    option_map (λ x. record (with_pattern draft (record draft.recurrence.pattern { interval = x })) { has_interval = true }) (count_of 4294967295 value)
-put draft part.WeekStart value =
-    option_map (λ x. record (with_pattern draft (record draft.recurrence.pattern { week_start = x })) { has_week_start = true }) (weekday_of value)
-put draft part.Months value = option_map (λ x. with_pattern draft (record draft.recurrence.pattern { months = x })) (list_of month_of value)
-put draft part.Weeks value = option_map (λ x. with_pattern draft (record draft.recurrence.pattern { weeks = x })) (list_of week_of value)
-put draft part.YearDays value = option_map (λ x. with_pattern draft (record draft.recurrence.pattern { year_days = x })) (list_of position_of value)
-put draft part.MonthDays value = option_map (λ x. with_pattern draft (record draft.recurrence.pattern { month_days = x })) (list_of month_day_of value)
-put draft part.Weekdays value = option_map (λ x. with_pattern draft (record draft.recurrence.pattern { weekdays = x })) (list_of by_day_of value)
-put draft part.Hours value = option_map (λ x. with_times draft (record draft.recurrence.times { hours = x })) (list_of by_hour_of value)
-put draft part.Minutes value = option_map (λ x. with_times draft (record draft.recurrence.times { minutes = x })) (list_of by_minute_of value)
-put draft part.Seconds value = option_map (λ x. with_times draft (record draft.recurrence.times { seconds = x })) (list_of by_second_of value)
-put draft part.Positions value = option_map (λ x. with_pattern draft (record draft.recurrence.pattern { set_positions = x })) (list_of position_of value)
-put draft part.Until value = option_map (λ last. with_end draft (Until last)) (date_or_time_of value)
-put draft part.Count value = option_map (λ n. with_end draft (Count n)) (count_of 4294967295 value)
+-- The recurrence that the values of parts say. The defaults are an interval of 1, weeks from Monday,
+-- empty lists and no end. The default of FREQ is never used, since each rule has a FREQ.
+abbrev pub recurrence_said : (RulePart → Option (List ℕ)) → Recurrence
+recurrence_said values =
+    let frequency = said frequency_of (Daily, None) (values part.Frequency) in
+    record {
+      pattern = record {
+        frequency = frequency.0;
+        interval = said (count_of 4294967295) 1 (values part.Interval);
+        week_start = said weekday_of Monday (values part.WeekStart);
+        months = said (list_of month_of) [] (values part.Months);
+        weeks = said (list_of week_of) [] (values part.Weeks);
+        year_days = said (list_of position_of) [] (values part.YearDays);
+        month_days = said (list_of month_day_of) [] (values part.MonthDays);
+        weekdays = said (list_of by_day_of) [] (values part.Weekdays);
+        set_positions = said (list_of position_of) [] (values part.Positions);
+      };
+      times = record {
+        hours = said (list_of by_hour_of) [] (values part.Hours);
+        minutes = said (list_of by_minute_of) [] (values part.Minutes);
+        seconds = said (list_of by_second_of) [] (values part.Seconds);
+        clock = frequency.1;
+      };
+      end = end_said (values part.Until) (values part.Count);
+    }
 
--- The draft with the value of one more part. Its first error is that there are too many words, then
--- that the part was given before, and then that the value is invalid.
-abbrev pub put_value : Draft → List ℕ → RulePart → Result Draft ParseRuleErrorKind
-put_value draft value at =
-    if not (has_few_words value) then Err (TooMany at) else
-    if is_given draft at then Err (Twice at) else
-    option_map_or Ok (put draft at value) (Err (Value at))
+-- ---- what a text says
+-- A value is valid in a part.
+abbrev pub is_value : RulePart → List ℕ → Bool
+is_value part.Frequency value = is_some (frequency_of value)
+is_value part.Interval value = is_some (count_of 4294967295 value)
+is_value part.WeekStart value = is_some (weekday_of value)
+is_value part.Months value = is_some (list_of month_of value)
+is_value part.Weeks value = is_some (list_of week_of value)
+is_value part.YearDays value = is_some (list_of position_of value)
+is_value part.MonthDays value = is_some (list_of month_day_of value)
+is_value part.Weekdays value = is_some (list_of by_day_of value)
+is_value part.Hours value = is_some (list_of by_hour_of value)
+is_value part.Minutes value = is_some (list_of by_minute_of value)
+is_value part.Seconds value = is_some (list_of by_second_of value)
+is_value part.Positions value = is_some (list_of position_of value)
+is_value part.Until value = is_some (date_or_time_of value)
+is_value part.Count value = is_some (count_of 4294967295 value)
 
--- The draft with one more part: a name, and a value after `=`. An unknown name is an error.
-abbrev pub put_part : Draft → List ℕ → Result Draft ParseRuleErrorKind
-put_part draft text = option_map_or (put_value draft (rest_at 61 text)) (part_of (front_at 61 text)) (Err Unknown)
+-- A text repeats a part: it is the same part, or both set the end.
+abbrev pub repeats : RulePart → List ℕ → Bool
+repeats part.Until text = is_part part.Until text || is_part part.Count text
+repeats part.Count text = is_part part.Until text || is_part part.Count text
+repeats at text = is_part at text
 
--- ---- the whole
+-- A text is a valid part: it has the name of a part, and a value of that part with at most 62 words.
+pub record IsValidPart (text : List ℕ) : Type 0 where
+  pub part : RulePart
+  pub named : is_part part text ≡ true
+  pub few : has_few_words (rest_at 61 text) ≡ true
+  pub valid : is_value part (rest_at 61 text) ≡ true
+
+-- Texts, in any order, are the parts of a rule, and say r: each is valid, none repeats another, and
+-- one is FREQ. No two exclude each other, and a BYSETPOS has another list.
+pub record SaysRule (texts : List (List ℕ)) (r : Recurrence) : Type 0 where
+  pub parts : All IsValidPart texts
+  pub once : (at : RulePart) → count_by (repeats at) texts ≤ 1
+  pub frequency : is_some (value_in texts part.Frequency) ≡ true
+  pub is : r ≡ recurrence_said (value_in texts)
+  pub allowed : excluded r ≡ None
+  pub ranked : ranks_alone r ≡ false
+
+-- The parts of a text, with or without `RRULE:` in front.
+abbrev pub parts_in : List ℕ → List (List ℕ)
+parts_in text = parts_at 59 (if has_name text then bytes_after 6 text else text)
+
+-- ---- errors
+-- The error of a part with a value after other parts, if it has one: too many words, then a part
+-- that was given before, and then an invalid value.
+abbrev pub value_error : List (List ℕ) → List ℕ → RulePart → Option ParseRuleErrorKind
+value_error before value at =
+    if not (has_few_words value) then Some (TooMany at) else
+    if list_any (repeats at) before then Some (Twice at) else
+    if is_value at value then None else Some (Value at)
+
+-- The error of a text after other parts, if it has one. An unknown name is an error.
+abbrev pub part_error : List (List ℕ) → List ℕ → Option ParseRuleErrorKind
+part_error before text = option_map_or (value_error before (rest_at 61 text)) (part_of (front_at 61 text)) (Some Unknown)
+
 -- The error with this reason at a position.
 abbrev pub fault : ℕ → ParseRuleErrorKind → ParseRuleError
 fault at why = record { position = at; reason = why }
 
--- The recurrence of a draft, or the error `Missing` if the frequency wasn't given.
-abbrev pub finished : ℕ → Draft → Result Recurrence ParseRuleError
-finished at draft = if draft.has_frequency then Ok draft.recurrence else Err (fault at Missing)
+-- The error of the first text with one, if there is one. The first of the texts begins at byte `at`,
+-- after other parts.
+abbrev pub first_error : ℕ → List (List ℕ) → List (List ℕ) → Option ParseRuleError
+first_error at before [] = None
+first_error at before (text ∷ texts) =
+    option_or (option_map (fault at) (part_error before text)) (first_error (at + length text + 1) (before ++ text ∷ []) texts)
 
--- The result for a part that begins at byte `at`, and the parts after it: the error of this part,
--- or the result for the others.
-abbrev pub and_on : ℕ → (Draft → Result Recurrence ParseRuleError) → Result Draft ParseRuleErrorKind → Result Recurrence ParseRuleError
-and_on at others (Ok draft) = others draft
-and_on at others (Err why) = Err (fault at why)
-
--- The recurrence of a draft with more parts, the first of which begins at byte `at`, or the first
--- error.
-abbrev pub read_on : ℕ → Draft → List (List ℕ) → Result Recurrence ParseRuleError
-read_on at draft [] = finished (at - 1) draft
-read_on at draft (text ∷ texts) = and_on at (λ more. read_on (at + length text + 1) more texts) (put_part draft text)
-
--- The draft without parts. The defaults are an interval of 1, weeks from Monday, empty lists and no
--- end.
-abbrev pub nothing : Draft
-nothing = record { recurrence = record { pattern = every Daily; times = no_times; end = Never }; has_frequency = false; has_interval = false; has_week_start = false }
-
+-- ---- the whole
 -- The position of the first part with a name, or the end. The first of the parts begins at byte
 -- `at`.
 abbrev pub place_of : List ℕ → ℕ → List (List ℕ) → ℕ
@@ -147,9 +172,16 @@ checked at texts (Ok r) = option_map_or (λ both. Err (later_of at texts both)) 
     (if ranks_alone r then Err (fault (place_of (codes "BYSETPOS") at texts) (Alone part.Positions)) else Ok r)
 checked at texts (Err why) = Err why
 
+-- The recurrence that the parts say, or an error: that of the first part with one, or else `Missing`
+-- if no part is FREQ. The first of the parts begins at byte `at`.
+abbrev pub valid_parts_say : ℕ → List (List ℕ) → Result Recurrence ParseRuleError
+valid_parts_say at texts =
+    option_map_or Err (first_error at [] texts)
+    (if is_some (value_in texts part.Frequency) then Ok (recurrence_said (value_in texts)) else Err (fault (place_of (codes "FREQ") at texts) Missing))
+
 -- The recurrence of the parts, the first of which begins at byte `at`, or the first error.
 abbrev pub parts_say : ℕ → List (List ℕ) → Result Recurrence ParseRuleError
-parts_say at texts = checked at texts (read_on at nothing texts)
+parts_say at texts = checked at texts (valid_parts_say at texts)
 
 -- The recurrence of a text, with or without `RRULE:` in front, or its first error.
 abbrev pub recurrence_of : List ℕ → Result Recurrence ParseRuleError

@@ -115,6 +115,7 @@ impl<'a> CountedSet<'a> {
         ensures value { result ≡ slice_get (readings_from (is_in_set self.old) (first_number after reading)) 0 }
         ensures same { self.new ≡ self.old }
     {
+        self.left.pass_over(&mut self.set.rule, reading);
         loop {
             let found = if after {
                 self.set.next_after(reading)

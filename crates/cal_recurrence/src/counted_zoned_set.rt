@@ -201,6 +201,7 @@ impl<'a> CountedZonedSet<'a> {
         ensures value { IsNextAfter (Occurs self.old) (unix_epoch +ℤ after) result }
         ensures same { self.new ≡ self.old }
     {
+        self.left.pass_over(&mut self.set.readings.rule, start);
         loop {
             let next = self.set.first_after(start, after);
             if let Some(last) = self.set.readings.rule.until() {

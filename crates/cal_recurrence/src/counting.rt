@@ -1,13 +1,14 @@
 //! The readings of a `COUNT`, counted as far as a search needs them.
-ghost use Rattle.std.specs.Prelude.{◌≡◌, ◌<◌, ◌-◌, ◌∷◌, false, true, [], length, MatchOption};
+ghost use Rattle.std.specs.Prelude.{◌≡◌, ◌<◌, ◌-◌, ◌∷◌, false, true, [], length, is_some, slice_get, IfSome, MatchOption};
 ghost use Rattle.cal_recurrence.specs.CountedSet.{unread, whole_rule};
 ghost use Rattle.cal_recurrence.specs.Cursors.{resumed_rule, StandsFor};
+ghost use Rattle.cal_recurrence.specs.DateTimeRule.{occurrences_after};
 
 use crate::date_time_rule::DateTimeRule;
 use crate::reading_cursor::ReadingCursor;
 use crate::readings::RuleReadings;
 use crate::recurrence::{Recurrence, RuleEnd};
-use cal_date::day_number::to_date;
+use cal_date::day_number::{day_number, to_date};
 use cal_datetime::{PlainDateTime, midnight};
 
 /// How many readings are counted first. Most counts are smaller.
@@ -21,6 +22,25 @@ pub(crate) struct Uncounted {
     pub(crate) left: u32,
     /// The number of readings to count next.
     step: u32,
+}
+
+/// Returns a reading of the range after which the rule has a reading: the given one, or else one that
+/// is 1, 2, 4 or more days earlier. Few readings lie between it and the last one.
+fn place_before_next(rule: &DateTimeRule, reading: PlainDateTime) -> Option<PlainDateTime>
+    ensures { IfSome result (λ z. is_some (slice_get (occurrences_after rule.now z) 0) ≡ true) }
+{
+    if rule.next_after(reading).is_some() {
+        return Some(reading);
+    }
+    let last = day_number(reading.date());
+    // The range has fewer than 2^30 days.
+    for power in 0..30u32 {
+        let place = midnight(to_date(last.checked_sub(1 << power)?));
+        if rule.next_after(place).is_some() {
+            return Some(place);
+        }
+    }
+    None
 }
 
 impl Uncounted {
@@ -69,6 +89,35 @@ impl Uncounted {
         let reading = self.readings.next()?;
         self.left = self.left.saturating_sub(1);
         Some(reading)
+    }
+
+    /// Passes over readings up to this one, if the rule can't have more readings than are left. Then
+    /// the count never ends it.
+    pub(crate) fn pass_over(&mut self, rule: &mut DateTimeRule, reading: PlainDateTime)
+        requires { self.old.readings ≡ unread rule.old self.old.left }
+        ensures whole { whole_rule rule.new self.new.readings ≡ whole_rule rule.old self.old.readings }
+        ensures counted { self.new.readings ≡ unread rule.new self.new.left }
+    {
+        let Some(last) = rule.until() else {
+            return;
+        };
+        if rule.is_not_after(reading) || reading.date() == last.date() {
+            return;
+        }
+        if u64::from(self.left) < rule.max_readings() {
+            return;
+        }
+        let endless = rule.endless();
+        let Some(place) = place_before_next(&endless, reading) else {
+            return;
+        };
+        // This states that the reading is in range. It costs nothing.
+        let _ = place.date();
+        if rule.is_not_after(place) {
+            return;
+        }
+        self.readings = endless.first_after(place, self.left);
+        rule.end_at(place);
     }
 
     /// Counts some readings, twice as many each time, and moves the end of the rule to the last of

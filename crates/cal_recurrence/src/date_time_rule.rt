@@ -1,5 +1,5 @@
 //! Recurrence rules of date-times without a zone.
-ghost use Rattle.std.specs.Prelude.{◌≡◌, ◌+◌, ◌*◌, ◌<◌, ◌≤◌, ◌≤ℤ◌, pos, slice_get, true};
+ghost use Rattle.std.specs.Prelude.{◌≡◌, ℕ, ◌+◌, ◌*◌, ◌<◌, ◌≤◌, ◌≤ℤ◌, pos, None, slice_get, length, true};
 ghost use Rattle.cal_time.specs.Date.{IsDate};
 ghost use Rattle.cal_time.specs.SignedDuration.{day};
 ghost use Rattle.cal_datetime.specs.DateTime.{IsDateTime};
@@ -27,6 +27,9 @@ const LAST_DAY: u64 = 730_484_633;
 /// The number of readings in periods that aren't selected after which a search asks if it has an
 /// end before the end of the range. Most searches end earlier.
 const MANY_MISSES: u32 = 1_000;
+
+/// How many days the range has.
+const DAYS_OF_RANGE: u64 = 730_484_634;
 
 /// A recurrence rule of date-times without a zone, as in RFC 5545: the times of day of each day of
 /// a pattern, from a start to an end. An occurrence has the nanoseconds of the start.
@@ -143,6 +146,26 @@ impl DateTimeRule {
             step: self.step.copy(),
             has_no_day: self.has_no_day,
         }
+    }
+
+    /// Copies the rule without its end.
+    pub(crate) fn endless(&self) -> Self
+        ensures { result ≡ record self.now { until = None } }
+    {
+        let mut rule = self.copy();
+        rule.until = None;
+        rule.days.until = None;
+        rule.has_no_day = false;
+        rule
+    }
+
+    /// Returns how many times pass in all days of the range. Without its end, the rule has no more
+    /// readings.
+    #[tactic(auto, using(crate::proofs::DayBounds::few_readings))]
+    pub(crate) fn max_readings(&self) -> u64
+        ensures { (n : ℕ) → length (occurrences_from (record self.now { until = None }) n) ≤ result }
+    {
+        DAYS_OF_RANGE * u64::from(self.per_day)
     }
 
     /// Searches for a day of the rule, and remembers if there is none. Without a day, each search

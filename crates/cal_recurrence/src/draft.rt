@@ -1,7 +1,7 @@
 //! A recurrence while it is parsed.
 ghost use Rattle.std.specs.Prelude.{◌≡◌, ◌≤◌, length};
 ghost use Rattle.cal_schedule.specs.Values.{most_values};
-ghost use Rattle.cal_recurrence.specs.Text.{finished, is_given, nothing, put, put_part, put_value};
+ghost use Rattle.cal_recurrence.specs.Drafts.{finished, is_given, nothing, put, put_part, put_value};
 ghost use Rattle.cal_recurrence.specs.Words.{parts_at};
 
 use crate::date_words::date_or_time_of;

@@ -20,6 +20,7 @@ mod display;
 mod draft;
 mod fault;
 mod folding;
+mod laws;
 mod lists;
 mod nearest;
 mod occurrences;

@@ -1,7 +1,8 @@
 //! Parses the text of a recurrence.
 ghost use Rattle.std.specs.Prelude.{◌≡◌, ◌+◌, ◌<◌, ◌^◌, length, IfOk};
+ghost use Rattle.cal_recurrence.specs.Drafts.{read_on};
 ghost use Rattle.cal_recurrence.specs.Spelled.{IsSpelled};
-ghost use Rattle.cal_recurrence.specs.Text.{day_recurrence_of, days_say, later, parts_say, place_of, read_on, recurrence_of};
+ghost use Rattle.cal_recurrence.specs.Text.{day_recurrence_of, days_say, later, parts_say, place_of, recurrence_of, valid_parts_say};
 ghost use Rattle.cal_recurrence.specs.Words.{parts_at};
 
 use crate::draft::Draft;
@@ -74,7 +75,7 @@ pub(crate) fn parse_parts(position: usize, text: &[u8]) -> Result<Recurrence, Pa
     ensures value { result ≡ parts_say position (parts_at 59 text.now) }
     ensures spelled { IfOk result IsSpelled }
 {
-    match read_on(position, Draft::new(), text) {
+    match parse_valid_parts(position, text) {
         Ok(recurrence) => {
             if let Some((part, other)) = recurrence.excluded() {
                 let place = place_of(part.name().as_bytes(), position, text);
@@ -91,6 +92,14 @@ pub(crate) fn parse_parts(position: usize, text: &[u8]) -> Result<Recurrence, Pa
         }
         Err(fault) => Err(fault),
     }
+}
+
+/// Parses the parts from byte `position` on, whether or not some exclude each other.
+fn parse_valid_parts(position: usize, text: &[u8]) -> Result<Recurrence, ParseRuleError>
+    requires { position + length text.now < 2 ^ 64 }
+    ensures { result ≡ valid_parts_say position (parts_at 59 text.now) }
+{
+    read_on(position, Draft::new(), text)
 }
 
 /// Returns the error of two parts that exclude each other, at the later one.

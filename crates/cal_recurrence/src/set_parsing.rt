@@ -22,7 +22,7 @@ use crate::words::{cut, split};
 /// same name, byte by byte. The name can be in quotation marks, and has no `"`, `:` or `;`.
 ///
 /// With `VALUE=PERIOD`, each value of `RDATE` is the time before a `/`, and the end or the duration
-/// after it isn't read: `20240101T090000Z/PT1H` is `20240101T090000Z`.
+/// after it isn't read: `20240101T090000Z/PT1H` is `20240101T090000Z`. Other lines have no periods.
 ///
 /// Other parameters are ignored, such as `X-FOO=1` or `X-FOO="a:b;c"`. `RRULE` can have only such
 /// parameters.

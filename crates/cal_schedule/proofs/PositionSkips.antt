@@ -6,8 +6,9 @@ use Rattle.cal_time.specs.Date.{last_day}
 use Rattle.cal_time.specs.IsoWeekDate.{count_before}
 use Rattle.cal_schedule.specs.Ranks.{count-next, count-rises, count-weeks}
 use Rattle.cal_schedule.specs.Rule.{allows, is_nth, is_occurrence, passes}
-use Rattle.cal_schedule.specs.RuleSearch.{IsPeriodEnd, IsPeriodStart, NoDayBetween, RepeatsWeekly}
+use Rattle.cal_schedule.specs.RuleSearch.{IsPeriodEnd, IsPeriodStart, NoDayBetween, PassesByWeekday}
 use Rattle.cal_schedule.specs.declared.rule.rule.Rule.{Rule}
+use Rattle.cal_schedule.proofs.WeeklyRules.{repeats}
 use Rattle.cal_schedule.proofs.RulePositions.{end-moved, moved, none-one, off-fails, off-position, positions-are, start-moved}
 
 -- Day n passes and has no position, by its numbers from the start and from the end.
@@ -69,9 +70,10 @@ to_end rule n s e ahead back days first end on a b off none all =
 -- Whole weeks have no day of the rule.
 pub over_weeks : (rule : Rule) (n s e ahead back days week weeks : ℕ) → IsPeriodStart rule n s → IsPeriodEnd rule n e → passes rule n ≡ true
     → ahead + count_before (passes rule) s ≡ count_before (passes rule) (n + 1) → back + count_before (passes rule) n ≡ count_before (passes rule) e
-    → allows (λ k. is_nth k ahead back) rule.pattern.set_positions ≡ false → HaveNone rule ahead back days → days < back → RepeatsWeekly rule
+    → allows (λ k. is_nth k ahead back) rule.pattern.set_positions ≡ false → HaveNone rule ahead back days → days < back → PassesByWeekday rule
     → week + count_before (passes rule) n ≡ count_before (passes rule) (n + 7) → weeks ≡ days / max week 1 → (n + 7 * weeks ≤ e) × NoDayBetween rule n (n + 7 * weeks)
-over_weeks rule n s e ahead back days week weeks first end on a b off none fewer same is by =
+over_weeks rule n s e ahead back days week weeks first end on a b off none fewer h is by =
+    let same = repeats rule h in
     let here = count-next (passes rule) n true 1 (sym on) refl in
     let one : 1 * 7 + n ≡ n + 7 = omega arith in
     let each : week ≡ count_before (passes rule) 7 = omega (arith, is, ap (count_before (passes rule)) one, count-weeks (passes rule) same 1 n) in
@@ -89,12 +91,12 @@ over_weeks rule n s e ahead back days week weeks first end on a b off none fewer
 
 pub ruleset skips = (to_end, over_weeks)
 
--- ---- the count of days that repeat every week
-pub counted_weeks : (rule : Rule) (first weeks week rest end last : ℕ) → RepeatsWeekly rule → week + count_before (passes rule) first ≡ count_before (passes rule) (first + 7)
-    → last ≡ first + 7 * weeks → rest + count_before (passes rule) last ≡ count_before (passes rule) end
+-- ---- the count of days that pass by their weekday
+-- The days of some weeks and of `days` more, from day `first` on and before day `end`.
+pub counted_weeks : (rule : Rule) (first weeks days week rest end : ℕ) → PassesByWeekday rule → week + count_before (passes rule) first ≡ count_before (passes rule) (first + 7)
+    → rest + count_before (passes rule) first ≡ count_before (passes rule) (first + days) → end ≡ weeks * 7 + (first + days)
     → weeks * week + rest + count_before (passes rule) first ≡ count_before (passes rule) end
-counted_weeks rule first weeks week rest end last same is at more =
+counted_weeks rule first weeks days week rest end h is more at =
     let one : 1 * 7 + first ≡ first + 7 = omega arith in
-    let each : week ≡ count_before (passes rule) 7 = omega (arith, is, ap (count_before (passes rule)) one, count-weeks (passes rule) same 1 first) in
-    let all : weeks * 7 + first ≡ last = omega (arith, at) in
-    omega (arith, more, ap (count_before (passes rule)) all, count-weeks (passes rule) same weeks first, ap (λ k. weeks * k) each)
+    let each : week ≡ count_before (passes rule) 7 = omega (arith, is, ap (count_before (passes rule)) one, count-weeks (passes rule) (repeats rule h) 1 first) in
+    omega (arith, more, ap (count_before (passes rule)) at, count-weeks (passes rule) (repeats rule h) weeks (first + days), ap (λ k. weeks * k) each)

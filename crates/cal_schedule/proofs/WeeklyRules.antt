@@ -8,7 +8,7 @@ use Rattle.cal_time.specs.Laws.{weekday_at-is}
 use Rattle.cal_time.specs.Month.{number}
 use Rattle.cal_time.specs.Weekday.{index}
 use Rattle.cal_schedule.specs.Rule.{allows, is_empty, is_week, is_yearly, matches_by_day, matches_days, matches_months, matches_weeks, names_no_day, passes}
-use Rattle.cal_schedule.specs.RuleSearch.{has_number, RepeatsWeekly}
+use Rattle.cal_schedule.specs.RuleSearch.{by_day_weekday, has_number, may_fall_on, PassesByWeekday}
 use Rattle.cal_schedule.specs.declared.rule.rule.ByDay.{ByDay}
 use Rattle.cal_schedule.specs.declared.rule.rule.ByDay.TheVariants.{Every, Nth}
 use Rattle.cal_schedule.specs.declared.rule.rule.Rule.{Rule}
@@ -24,11 +24,11 @@ some (x ∷ xs) e = refl
 same-weekday : (n : ℕ) → weekday_at (n + 7) ≡ weekday_at n
 same-weekday n = omega (arith, weekday_at-is (n + 7), weekday_at-is n)
 
-same-list : (b : Bool) (n : ℕ) (days : List ByDay) → list_any has_number days ≡ false → list_any (matches_by_day b (n + 7)) days ≡ list_any (matches_by_day b n) days
+no-numbers : (b : Bool) (n : ℕ) (days : List ByDay) → list_any has_number days ≡ false → list_any (matches_by_day b n) days ≡ list_any (λ by. weekday_at n == index (by_day_weekday by)) days
 unfolding matches_by_day
-same-list b n [] none = refl
-same-list b n (Every w ∷ days) none = ap (λ d. (d == index w) || list_any (matches_by_day b (n + 7)) days) (same-weekday n) ∙ ap (λ x. (weekday_at n == index w) || x) (same-list b n days none)
-same-list b n (Nth k w ∷ days) none = absurd (false≢true (sym none))
+no-numbers b n [] none = refl
+no-numbers b n (Every w ∷ days) none = ap (λ x. (weekday_at n == index w) || x) (no-numbers b n days none)
+no-numbers b n (Nth k w ∷ days) none = absurd (false≢true (sym none))
 
 same-allowed : {X : Type 0} (p q : X → Bool) (xs : List X) → list_any p xs ≡ list_any q xs → allows p xs ≡ allows q xs
 same-allowed p q [] e = refl
@@ -60,14 +60,14 @@ all-weeks : (rule : Rule) (k : ℕ) → HasOnlyWeekdays rule → matches_weeks r
 unfolding matches_weeks
 all-weeks rule k h = ap (allows (is_week rule.pattern.week_start k)) h.weeks
 
-by-weekday : (rule : Rule) (k : ℕ) → HasOnlyWeekdays rule → matches_days rule k ≡ allows (matches_by_day (is_yearly rule.pattern.frequency && is_empty rule.pattern.months) k) rule.pattern.weekdays
+days-allowed : (rule : Rule) (k : ℕ) → HasOnlyWeekdays rule → matches_days rule k ≡ allows (matches_by_day (is_yearly rule.pattern.frequency && is_empty rule.pattern.months) k) rule.pattern.weekdays
 unfolding matches_days
-by-weekday rule k h = rw (h.year_days, h.month_days, h.weekdays) refl
+days-allowed rule k h = rw (h.year_days, h.month_days, h.weekdays) refl
 
-pub repeats : (rule : Rule) → (length rule.pattern.months == 0) ≡ true → (length rule.pattern.weeks == 0) ≡ true → (length rule.pattern.year_days == 0) ≡ true
-    → (length rule.pattern.month_days == 0) ≡ true → (length rule.pattern.weekdays == 0) ≡ false → list_any has_number rule.pattern.weekdays ≡ false → RepeatsWeekly rule
+pub by_weekday : (rule : Rule) → (length rule.pattern.months == 0) ≡ true → (length rule.pattern.weeks == 0) ≡ true → (length rule.pattern.year_days == 0) ≡ true
+    → (length rule.pattern.month_days == 0) ≡ true → (length rule.pattern.weekdays == 0) ≡ false → list_any has_number rule.pattern.weekdays ≡ false → PassesByWeekday rule
 unfolding passes
-repeats rule months weeks years monthly weekdays none n =
+by_weekday rule months weeks years monthly weekdays none n =
     let h : HasOnlyWeekdays rule = record {
       months = nil rule.pattern.months months;
       weeks = nil rule.pattern.weeks weeks;
@@ -76,8 +76,11 @@ repeats rule months weeks years monthly weekdays none n =
       weekdays = some rule.pattern.weekdays weekdays;
     } in
     let b = is_yearly rule.pattern.frequency && is_empty rule.pattern.months in
-    let days : matches_days rule (n + 7) ≡ matches_days rule n =
-    by-weekday rule (n + 7) h ∙ same-allowed (matches_by_day b (n + 7)) (matches_by_day b n) rule.pattern.weekdays (same-list b n rule.pattern.weekdays none) ∙ sym (by-weekday rule n h) in
-    ap (λ x. x && (matches_weeks rule (n + 7) && matches_days rule (n + 7))) (all-months rule (n + 7) h ∙ sym (all-months rule n h))
-    ∙ ap (λ x. matches_months rule n && (x && matches_days rule (n + 7))) (all-weeks rule (n + 7) h ∙ sym (all-weeks rule n h))
-    ∙ ap (λ x. matches_months rule n && (matches_weeks rule n && x)) days
+    ap (λ x. x && (matches_weeks rule n && matches_days rule n)) (all-months rule n h)
+    ∙ ap (λ x. x && matches_days rule n) (all-weeks rule n h)
+    ∙ days-allowed rule n h
+    ∙ same-allowed (matches_by_day b n) (λ by. weekday_at n == index (by_day_weekday by)) rule.pattern.weekdays (no-numbers b n rule.pattern.weekdays none)
+
+-- The days that pass repeat every week.
+pub repeats : (rule : Rule) → PassesByWeekday rule → (n : ℕ) → passes rule (n + 7) ≡ passes rule n
+repeats rule h n = h (n + 7) ∙ ap (may_fall_on rule) (same-weekday n) ∙ sym (h n)

@@ -1,6 +1,6 @@
 -- The steps of the search for the next day of a rule.
 use Rattle.std.specs.Prelude.{◌≡◌, ℕ, ◌+◌, ◌<◌, ◌≤◌, ◌==◌, Bool, true, false, [], ◌∷◌, ◌++◌, take, Option, Some, MatchOption, Result, MatchResult}
-use Rattle.cal_time.specs.Date.{last_day, IsDate}
+use Rattle.cal_time.specs.Date.{last_day, weekday_at, IsDate}
 use Rattle.cal_time.specs.Weekday.{index}
 use Rattle.cal_time.specs.declared.Weekday.{Weekday}
 use Rattle.cal_schedule.specs.declared.rule.rule.ByDay.{ByDay}
@@ -23,13 +23,13 @@ abbrev pub has_number : ByDay → Bool
 has_number (Every w) = false
 has_number (Nth k w) = true
 
--- The days that pass repeat every week.
-abbrev pub RepeatsWeekly : Rule → Type 0
-RepeatsWeekly rule = (n : ℕ) → passes rule (n + 7) ≡ passes rule n
-
 -- The rule allows days with the weekday at this index, with any number.
 abbrev pub may_fall_on : Rule → ℕ → Bool
 may_fall_on rule at = allows (λ by. at == index (by_day_weekday by)) rule.pattern.weekdays
+
+-- A day passes by its weekday alone.
+abbrev pub PassesByWeekday : Rule → Type 0
+PassesByWeekday rule = (n : ℕ) → passes rule n ≡ may_fall_on rule (weekday_at n)
 
 -- r is the first day of the range in period t or a later one. If r is `None`, all days of the range
 -- are in earlier periods.

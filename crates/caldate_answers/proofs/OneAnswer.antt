@@ -25,7 +25,7 @@ use Rattle.caldate_answers.specs.declared.request.Clock.{Clock}
 use Rattle.caldate_answers.specs.declared.request.Move.{Move as AnyMove}
 use Rattle.caldate_answers.specs.declared.request.Move.TheVariants as move
 use Rattle.caldate_answers.specs.declared.request.Request.{Request}
-use Rattle.caldate_answers.specs.declared.request.Request.TheVariants.{To, ToIso, Print, PrintNamed, Move, MoveAt, Until, Since, At, PrintAt, PrintNamedAt, Keep}
+use Rattle.caldate_answers.specs.declared.request.Request.TheVariants.{To, ToIso, Print, PrintInLanguage, Move, MoveAt, Until, Since, At, PrintAt, PrintInLanguageAt, Keep}
 use Rattle.caldate_answers.specs.declared.request.Target.TheVariants as target
 use Rattle.caldate_answers.specs.declared.request.Measure.{Measure}
 use Rattle.caldate_answers.specs.declared.request.Measure.TheVariants as measure
@@ -113,7 +113,7 @@ one_answer_to : (clock : Option Clock) (workdays : WorkWeek) (q : Request) (text
 one_answer_to clock workdays (To form) text found a b one own h k = in_form form (moment_of found) a b h k
 one_answer_to clock workdays ToIso text found a b one own h k = in_form (form_iso found) (moment_of found) a b h k
 one_answer_to clock workdays (Print items) text found a b one own h k = h ∙ sym k
-one_answer_to clock workdays (PrintNamed items names) text found a b one own h k = h.1 ∙ sym k.1
+one_answer_to clock workdays (PrintInLanguage items names) text found a b one own h k = h.1 ∙ sym k.1
 one_answer_to clock workdays (Move by) text found a b one own h k = one_moved_by clock workdays by found a b one h k
 one_answer_to clock workdays (MoveAt other by) text found a b one own h k = one_moved_at other workdays by (Moment Rfc3339) (moment_of found) a b (own other refl) h k
 one_answer_to clock workdays (Until before (target.Text to) m) text found a b one own h k = between_by (own_clock before clock) workdays m found to a b (own_one before clock one own) h k
@@ -124,7 +124,7 @@ one_answer_to clock workdays (Since before (target.Fields numbers) m) text found
 one_answer_to clock workdays (Since before (target.Name name) m) text found a b one own h k = absurd h
 one_answer_to clock workdays (At place form) text found a b one own h k = in_form_at form _ _ a b (h.1.value ∙ sym k.1.value) h.2 k.2
 one_answer_to clock workdays (PrintAt place items) text found a b one own h k = h.2 ∙ ap (format_text items) (h.1.value ∙ sym k.1.value) ∙ sym k.2
-one_answer_to clock workdays (PrintNamedAt place items names) text found a b one own h k = h.2.1 ∙ ap (λ m. text_in names.now items (moment_of_offset_date_time m)) (h.1.value ∙ sym k.1.value) ∙ sym k.2.1
+one_answer_to clock workdays (PrintInLanguageAt place items names) text found a b one own h k = h.2.1 ∙ ap (λ m. text_in names.now items (moment_of_offset_date_time m)) (h.1.value ∙ sym k.1.value) ∙ sym k.2.1
 one_answer_to clock workdays (Keep bounds) text found a b one own h k = h.1 ∙ sym k.1
 
 -- a line with an answer is not left out
@@ -133,14 +133,14 @@ stays clock workdays (Keep bounds) text found words h out = false≢true (sym (a
 stays clock workdays (To form) text found words h out = false≢true out
 stays clock workdays ToIso text found words h out = false≢true out
 stays clock workdays (Print items) text found words h out = false≢true out
-stays clock workdays (PrintNamed items names) text found words h out = false≢true out
+stays clock workdays (PrintInLanguage items names) text found words h out = false≢true out
 stays clock workdays (Move by) text found words h out = false≢true out
 stays clock workdays (MoveAt other by) text found words h out = false≢true out
 stays clock workdays (Until before target unit) text found words h out = false≢true out
 stays clock workdays (Since before target unit) text found words h out = false≢true out
 stays clock workdays (At place form) text found words h out = false≢true out
 stays clock workdays (PrintAt place items) text found words h out = false≢true out
-stays clock workdays (PrintNamedAt place items names) text found words h out = false≢true out
+stays clock workdays (PrintInLanguageAt place items names) text found words h out = false≢true out
 
 -- a line without an answer is left out if `keep` compares it
 by_bounds : (lies : Option Bool) → (lies ≡ Some true → ⊥) → option_map_or not lies false ≡ is_some lies
@@ -153,14 +153,14 @@ left_out clock workdays (Keep bounds) text found lacks = by_bounds (lies_in boun
 left_out clock workdays (To form) text found lacks = refl
 left_out clock workdays ToIso text found lacks = refl
 left_out clock workdays (Print items) text found lacks = refl
-left_out clock workdays (PrintNamed items names) text found lacks = refl
+left_out clock workdays (PrintInLanguage items names) text found lacks = refl
 left_out clock workdays (Move by) text found lacks = refl
 left_out clock workdays (MoveAt other by) text found lacks = refl
 left_out clock workdays (Until before target unit) text found lacks = refl
 left_out clock workdays (Since before target unit) text found lacks = refl
 left_out clock workdays (At place form) text found lacks = refl
 left_out clock workdays (PrintAt place items) text found lacks = refl
-left_out clock workdays (PrintNamedAt place items names) text found lacks = refl
+left_out clock workdays (PrintInLanguageAt place items names) text found lacks = refl
 
 -- ---- one reason
 one_unmoved : (clock : Clock) (workdays : WorkWeek) (by : AnyMove) (m : LocalAndOffset) (a b : NoAnswer) → OneLocal clock.zone → IsWhyUnmoved clock workdays by m a → IsWhyUnmoved clock workdays by m b → a ≡ b
@@ -178,12 +178,12 @@ one_why clock workdays (MoveAt other by) found a b one own h k = one_unmoved oth
 one_why clock workdays (To form) found a b one own h k = h ∙ sym k
 one_why clock workdays ToIso found a b one own h k = h ∙ sym k
 one_why clock workdays (Print items) found a b one own h k = h ∙ sym k
-one_why clock workdays (PrintNamed items names) found a b one own h k = h ∙ sym k
+one_why clock workdays (PrintInLanguage items names) found a b one own h k = h ∙ sym k
 one_why clock workdays (Until before target unit) found a b one own h k = h ∙ sym k
 one_why clock workdays (Since before target unit) found a b one own h k = h ∙ sym k
 one_why clock workdays (At place form) found a b one own h k = h ∙ sym k
 one_why clock workdays (PrintAt place items) found a b one own h k = h ∙ sym k
-one_why clock workdays (PrintNamedAt place items names) found a b one own h k = h ∙ sym k
+one_why clock workdays (PrintInLanguageAt place items names) found a b one own h k = h ∙ sym k
 one_why clock workdays (Keep bounds) found a b one own h k = h ∙ sym k
 
 -- ---- the answer for what a reader says of the text

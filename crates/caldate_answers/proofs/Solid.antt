@@ -89,6 +89,7 @@ either-short false x y h k = k
 
 name-short : (k : Name) (n : ℕ) → IsShort (numbered_name k n)
 name-short name.Month n = month-short (month.month_of_index (n - 1))
+name-short name.MonthAlone n = month-short (month.month_of_index (n - 1))
 name-short name.ShortMonth n = short_month-short (month.month_of_index (n - 1))
 name-short name.Weekday n = weekday-short (weekday.weekday_of_index (n - 1))
 name-short name.ShortWeekday n = short_weekday-short (weekday.weekday_of_index (n - 1))

@@ -24,7 +24,7 @@ use Rattle.caldate_answers.specs.Clocks.{IsPlaced}
 use Rattle.caldate_answers.specs.Counts.{IsCount}
 use Rattle.caldate_answers.specs.ClockCounts.{IsCountOn}
 use Rattle.caldate_answers.specs.Bounds.{lies_in}
-use Rattle.caldate_answers.specs.Forms.{IsInForm, IsNamed, format_text}
+use Rattle.caldate_answers.specs.Forms.{IsInForm, IsInLanguage, format_text}
 pub use Rattle.caldate_answers.specs.Found.{day_of, form_iso, form_read, is_date, moment_of}
 use Rattle.caldate_answers.specs.ClockMoves.{IsMovedOn}
 pub use Rattle.caldate_answers.specs.Moves.{floored, on_day}
@@ -43,7 +43,7 @@ use Rattle.caldate_answers.specs.declared.request.Move.TheVariants as move
 use Rattle.caldate_answers.specs.declared.request.Place.{Place}
 use Rattle.caldate_answers.specs.declared.request.Place.TheVariants as place
 use Rattle.caldate_answers.specs.declared.request.Request.{Request}
-use Rattle.caldate_answers.specs.declared.request.Request.TheVariants.{To, ToIso, Print, Move, MoveAt, Until, Since, At, PrintAt, PrintNamed, PrintNamedAt, Keep}
+use Rattle.caldate_answers.specs.declared.request.Request.TheVariants.{To, ToIso, Print, Move, MoveAt, Until, Since, At, PrintAt, PrintInLanguage, PrintInLanguageAt, Keep}
 use Rattle.caldate_answers.specs.declared.request.Target.TheVariants as target
 
 -- A date moves by only the whole days of a duration, a moment by all of it.
@@ -96,8 +96,9 @@ IsAt place form from words = (m : LocalAndOffset) × IsShownAt (offset_in place 
 abbrev pub IsPrintedAt : Place → List Item → LocalAndOffset → List ℕ → Type 0
 IsPrintedAt place items from words = (m : LocalAndOffset) × IsShownAt (offset_in place from) from m × (words ≡ format_text items m)
 
-abbrev pub IsNamedAt : Place → Names → List Item → LocalAndOffset → List ℕ → Type 0
-IsNamedAt place names items from words = (m : LocalAndOffset) × IsShownAt (offset_in place from) from m × IsNamed names items m words
+-- The same with these names.
+abbrev pub IsInLanguageAt : Place → Names → List Item → LocalAndOffset → List ℕ → Type 0
+IsInLanguageAt place names items from words = (m : LocalAndOffset) × IsShownAt (offset_in place from) from m × IsInLanguage names items m words
 
 -- The words are the moved day in the form that was read, at the same time of day.
 abbrev pub IsOnMovedDay : WorkWeek → DayMove → DateOrMoment → List ℕ → Type 0
@@ -165,14 +166,14 @@ abbrev pub IsAnswerTo : Option Clock → WorkWeek → Request → List ℕ → D
 IsAnswerTo clock workdays (To form) text found words = IsInForm form (moment_of found) words
 IsAnswerTo clock workdays ToIso text found words = IsInForm (form_iso found) (moment_of found) words
 IsAnswerTo clock workdays (Print items) text found words = words ≡ format_text items (moment_of found)
-IsAnswerTo clock workdays (PrintNamed items names) text found words = IsNamed names.now items (moment_of found) words
+IsAnswerTo clock workdays (PrintInLanguage items names) text found words = IsInLanguage names.now items (moment_of found) words
 IsAnswerTo clock workdays (Move by) text found words = IsMovedBy clock workdays by found words
 IsAnswerTo clock workdays (MoveAt other by) text found words = IsMovedAt other workdays by (Moment Rfc3339) (moment_of found) words
 IsAnswerTo clock workdays (Until own (target.Text to) unit) text found words = IsBetweenBy (own_clock own clock) workdays unit found to words
 IsAnswerTo clock workdays (Since own (target.Text from) unit) text found words = IsBetweenBy (own_clock own clock) workdays unit from found words
 IsAnswerTo clock workdays (At place form) text found words = IsAt place form (moment_of found) words
 IsAnswerTo clock workdays (PrintAt place items) text found words = IsPrintedAt place items (moment_of found) words
-IsAnswerTo clock workdays (PrintNamedAt place items names) text found words = IsNamedAt place names.now items (moment_of found) words
+IsAnswerTo clock workdays (PrintInLanguageAt place items names) text found words = IsInLanguageAt place names.now items (moment_of found) words
 IsAnswerTo clock workdays (Keep bounds) text found words = (lies_in bounds found ≡ Some true) × (words ≡ text)
 IsAnswerTo clock workdays other text found words = ⊥
 

@@ -56,10 +56,10 @@ units_in Nanoseconds v = v
 abbrev pub format_text : List Item → LocalAndOffset → List ℕ
 format_text items m = text_of items (moment_of_offset_date_time m)
 
--- The words are the string of a moment in a format with these names. Such a string has at most 1000
--- bytes.
-abbrev pub IsNamed : Names → List Item → LocalAndOffset → List ℕ → Type 0
-IsNamed names items m words = (length words ≤ longest_answer) × (words ≡ text_in names items (moment_of_offset_date_time m))
+-- The words are the string of a moment in a format with these names, and have at most 1000 bytes. A
+-- longer string is no answer.
+abbrev pub IsInLanguage : Names → List Item → LocalAndOffset → List ℕ → Type 0
+IsInLanguage names items m words = (length words ≤ longest_answer) × (words ≡ text_in names items (moment_of_offset_date_time m))
 
 -- The words are the string of a moment in the form.
 abbrev pub IsInForm : Form → LocalAndOffset → List ℕ → Type 0

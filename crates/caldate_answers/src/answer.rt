@@ -6,10 +6,10 @@ ghost use Rattle.cal_schedule.specs.Period.{Parts};
 ghost use Rattle.cal_text.specs.declared.any.DateOrMoment.{DateOrMoment};
 ghost use Rattle.caldate_lines.specs.Room.{HasRoom, longest_answer};
 ghost use Rattle.caldate_lines.specs.declared.no_answer.NoAnswer.{NoAnswer};
-ghost use Rattle.caldate_answers.specs.Answers.{IsAnswer, IsAnswerAfter, IsAnswerLater, IsAnswerNearest, IsAnswerTo, IsAt, IsBetween, IsBetweenBy, IsBetweenOn, IsMeasured, IsMeasuredOn, IsPrintedAt, form_iso, IsDayLater, IsLater, IsMomentLater, IsMoved, IsMovedAt, IsMovedBy, IsNamedAt, IsNotRead, IsOnMovedDay, IsReadAs, compares, floored, form_read, is_date, keeps, moment_of, offset_in, on_day, own_clock, until_text};
+ghost use Rattle.caldate_answers.specs.Answers.{IsAnswer, IsAnswerAfter, IsAnswerLater, IsAnswerNearest, IsAnswerTo, IsAt, IsBetween, IsBetweenBy, IsBetweenOn, IsMeasured, IsMeasuredOn, IsPrintedAt, form_iso, IsDayLater, IsLater, IsMomentLater, IsMoved, IsMovedAt, IsMovedBy, IsInLanguageAt, IsNotRead, IsOnMovedDay, IsReadAs, compares, floored, form_read, is_date, keeps, moment_of, offset_in, on_day, own_clock, until_text};
 ghost use Rattle.caldate_answers.specs.Bounds.{lies_in};
 ghost use Rattle.caldate_answers.specs.ClockCounts.{IsCountOn};
-ghost use Rattle.caldate_answers.specs.Forms.{IsInForm, IsNamed, format_text};
+ghost use Rattle.caldate_answers.specs.Forms.{IsInForm, IsInLanguage, format_text};
 ghost use Rattle.caldate_answers.specs.Periods.{IsPeriodBetween, IsPeriodOn, IsPeriodText};
 ghost use Rattle.caldate_answers.specs.Readers.{IsUnreadIn};
 ghost use Rattle.caldate_answers.specs.Readings.{IsTextIn};
@@ -63,7 +63,8 @@ use cal_zone::laws::one_local;
 use caldate_lines::no_answer::NoAnswer;
 use caldate_lines::output::buffer::Buffer;
 
-/// The maximum length of a string that a format prints: 15 bytes for each of 64 items.
+/// The maximum length of a string that a format prints with English names: 15 bytes for each of 64
+/// items.
 const LONGEST_PRINTED: usize = 960;
 
 /// The maximum length of an answer.
@@ -245,7 +246,7 @@ fn push_answer_to(
             push_printed(buffer, format, moment_of(found));
             true
         }
-        Request::PrintNamed(format, names) => {
+        Request::PrintInLanguage(format, names) => {
             push_named(buffer, format, names, moment_of(found))
         }
         Request::Move(by) => push_moved_by(buffer, clock, workdays, by, found),
@@ -267,7 +268,7 @@ fn push_answer_to(
         Request::PrintAt(place, format) => {
             push_printed_at(buffer, place, format, moment_of(found))
         }
-        Request::PrintNamedAt(place, format, names) => {
+        Request::PrintInLanguageAt(place, format, names) => {
             push_named_at(buffer, place, format, names, moment_of(found))
         }
         Request::Keep(bounds) => push_kept(buffer, bounds, text, found),
@@ -387,9 +388,9 @@ fn push_named(
 ) -> bool
     requires { HasRoom longest_answer buffer.old }
     ensures has { result ≡ true
-        → AppendsSome (IsNamed names.now format.now moment) buffer.old buffer.new }
+        → AppendsSome (IsInLanguage names.now format.now moment) buffer.old buffer.new }
     ensures none { result ≡ false → (buffer.new ≡ buffer.old)
-        × ((words : List ℕ) → ¬ IsNamed names.now format.now moment words) }
+        × ((words : List ℕ) → ¬ IsInLanguage names.now format.now moment words) }
     ensures short { length buffer.new ≤ length buffer.old + longest_answer }
 {
     let moment = Moment::of_offset_date_time(moment);
@@ -641,9 +642,9 @@ fn push_named_at(
 ) -> bool
     requires { HasRoom longest_answer buffer.old }
     ensures has { result ≡ true
-        → AppendsSome (IsNamedAt place.now names.now format.now moment) buffer.old buffer.new }
+        → AppendsSome (IsInLanguageAt place.now names.now format.now moment) buffer.old buffer.new }
     ensures none { result ≡ false → (buffer.new ≡ buffer.old)
-        × ((words : List ℕ) → ¬ IsNamedAt place.now names.now format.now moment words) }
+        × ((words : List ℕ) → ¬ IsInLanguageAt place.now names.now format.now moment words) }
     ensures short { length buffer.new ≤ length buffer.old + longest_answer }
 {
     match moment.checked_to_offset(offset_in(place, moment)) {

@@ -166,7 +166,7 @@ pub enum Request<'a> {
     /// `to FORMAT`: the same date or moment in this format.
     Print(Format),
     /// The same with the names of a language.
-    PrintNamed(Format, &'static Names<'static>),
+    PrintInLanguage(Format, &'static Names<'static>),
     /// The moved date or moment, such as `add N UNIT`.
     Move(Move),
     /// `at ZONE` or `at OFFSET`, and a move: the moment moved by these clocks, at their offset.
@@ -183,7 +183,7 @@ pub enum Request<'a> {
     /// `at OFFSET` or `at ZONE`, and `to FORMAT`: the same in this format.
     PrintAt(Place<'a>, Format),
     /// The same with the names of a language.
-    PrintNamedAt(Place<'a>, Format, &'static Names<'static>),
+    PrintInLanguageAt(Place<'a>, Format, &'static Names<'static>),
     /// `keep BOUNDS`: the line itself if it lies within the bounds, otherwise nothing.
     Keep(Bounds),
 }
@@ -236,9 +236,9 @@ impl<'a> Request<'a> {
     }
 
     /// Returns whether the request prints the names of a language.
-    pub fn is_named(&self) -> bool {
+    pub fn is_in_language(&self) -> bool {
         match self {
-            Request::PrintNamed(_, _) | Request::PrintNamedAt(_, _, _) => true,
+            Request::PrintInLanguage(_, _) | Request::PrintInLanguageAt(_, _, _) => true,
             _ => false,
         }
     }

@@ -232,7 +232,7 @@ fn unmet_by(options: &Options<'_>, request: &Request<'_>) -> Option<Requirement>
 
 /// Returns whether a format is read or printed with the names of the language.
 fn uses_language(options: &Options<'_>, request: &Request<'_>) -> bool {
-    request.is_named()
+    request.is_in_language()
         || options
             .readers
             .as_slice()

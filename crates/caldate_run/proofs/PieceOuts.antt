@@ -19,7 +19,7 @@ use Rattle.caldate_answers.specs.Targets.{other_field}
 use Rattle.caldate_answers.specs.declared.request.Filter.{Filter}
 use Rattle.caldate_answers.specs.declared.request.Clock.{Clock}
 use Rattle.caldate_answers.specs.declared.request.Request.{Request}
-use Rattle.caldate_answers.specs.declared.request.Request.TheVariants.{To, ToIso, Print, Move, MoveAt, Until, Since, At, PrintAt, PrintNamed, PrintNamedAt, Keep}
+use Rattle.caldate_answers.specs.declared.request.Request.TheVariants.{To, ToIso, Print, Move, MoveAt, Until, Since, At, PrintAt, PrintInLanguage, PrintInLanguageAt, Keep}
 use Rattle.caldate_run.specs.Pieces.{IsAnswered, IsOutOf, IsPieceOut, Piece, Pieces, closed_words, earlier, field_end, field_piece, fields_from, fields_in, is_quoted_in, joined, later_cut, new_field, own_field, pieces_in, pieces_of, placed, replaced, single, whole}
 use Rattle.caldate_run.specs.Runs.{AppendsOut}
 use Rattle.caldate_run.proofs.Others.{by_itself}
@@ -166,14 +166,14 @@ kept_words clock workdays (Keep bounds) text found words h e = h.1
 kept_words clock workdays (To form) text found words h e = absurd (false≢true e)
 kept_words clock workdays ToIso text found words h e = absurd (false≢true e)
 kept_words clock workdays (Print items) text found words h e = absurd (false≢true e)
-kept_words clock workdays (PrintNamed items names) text found words h e = absurd (false≢true e)
+kept_words clock workdays (PrintInLanguage items names) text found words h e = absurd (false≢true e)
 kept_words clock workdays (Move by) text found words h e = absurd (false≢true e)
 kept_words clock workdays (MoveAt other by) text found words h e = absurd (false≢true e)
 kept_words clock workdays (Until own target unit) text found words h e = absurd (false≢true e)
 kept_words clock workdays (Since own target unit) text found words h e = absurd (false≢true e)
 kept_words clock workdays (At place form) text found words h e = absurd (false≢true e)
 kept_words clock workdays (PrintAt place items) text found words h e = absurd (false≢true e)
-kept_words clock workdays (PrintNamedAt place items names) text found words h e = absurd (false≢true e)
+kept_words clock workdays (PrintInLanguageAt place items names) text found words h e = absurd (false≢true e)
 
 own_words : (filter : Filter) (text words : List ℕ) → IsAnswer filter text (Ok (Some words)) → placed filter.field text words ≡ words
     → replaced filter text true (Ok (Some words)) ≡ Some words

@@ -15,6 +15,7 @@ pub(super) fn name_number(name: Name) -> u8
         Name::ShortWeekday => 3,
         Name::Period => 4,
         Name::LowerPeriod => 5,
+        Name::MonthAlone => 6,
     }
 }
 
@@ -30,6 +31,7 @@ pub(super) fn name_with(number: u8) -> Option<Name>
         3 => Some(Name::ShortWeekday),
         4 => Some(Name::Period),
         5 => Some(Name::LowerPeriod),
+        6 => Some(Name::MonthAlone),
         _ => None,
     }
 }

@@ -92,7 +92,7 @@ fn days_to_month_day(numbers: &[i8], day: Date) -> u32
 
 impl Rule {
     /// Returns `true` if the rule can match a day with the weekday at this index.
-    fn may_fall_on(&self, at: u8) -> bool
+    pub(super) fn may_fall_on(&self, at: u8) -> bool
         ensures { result ≡ may_fall_on self.now at }
     {
         self.pattern.weekdays.is_empty()

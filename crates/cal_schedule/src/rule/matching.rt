@@ -5,7 +5,7 @@ ghost use Rattle.cal_time.specs.Date.{IsDate, month_at, ordinal_at, year_at};
 ghost use Rattle.cal_time.specs.Lengths.{days_in_year};
 ghost use Rattle.cal_time.specs.Month.{number as month_number};
 ghost use Rattle.cal_schedule.specs.Rule.{allows, matches_start, matches_until, is_empty, matches_months, is_month_day, is_year_day, is_nth, is_nth_weekday, matches_days, matches_by_day, is_yearly, names_no_day, interval_or_1, passes, periods_past, unit_of};
-ghost use Rattle.cal_schedule.specs.RuleSearch.{has_number, RepeatsWeekly};
+ghost use Rattle.cal_schedule.specs.RuleSearch.{has_number, PassesByWeekday};
 ghost use Rattle.cal_schedule.specs.declared.rule.rule.Frequency.TheVariants.{Weekly};
 
 use crate::rule::rule::{ByDay, Frequency, Rule};
@@ -133,11 +133,10 @@ fn any_has_number(weekdays: &[ByDay]) -> bool
 }
 
 impl Rule {
-    /// Returns `true` if only weekdays without numbers say which days pass, so that these repeat
-    /// every week.
-    #[tactic(auto, using(crate::proofs::WeeklyRules::repeats))]
+    /// Returns `true` if only weekdays without numbers say which days pass.
+    #[tactic(auto, using(crate::proofs::WeeklyRules::by_weekday))]
     pub(super) fn has_only_weekdays(&self) -> bool
-        ensures { result ≡ true → RepeatsWeekly self.now }
+        ensures { result ≡ true → PassesByWeekday self.now }
     {
         self.pattern.months.is_empty()
             && self.pattern.weeks.is_empty()

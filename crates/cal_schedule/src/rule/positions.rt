@@ -4,12 +4,12 @@ ghost use Rattle.std.specs.List.{list_any};
 ghost use Rattle.cal_time.specs.Date.{last_day};
 ghost use Rattle.cal_time.specs.IsoWeekDate.{count_before};
 ghost use Rattle.cal_schedule.specs.Rule.{allows, is_nth, matches_positions, matches_until, passes, periods_past};
-ghost use Rattle.cal_schedule.specs.RuleSearch.{IsPeriodEnd, IsPeriodStart, IsStep, NoDayBetween};
+ghost use Rattle.cal_schedule.specs.RuleSearch.{IsPeriodEnd, IsPeriodStart, IsStep, NoDayBetween, PassesByWeekday};
 
 use crate::rule::matching::is_nth;
 use crate::rule::rule::Rule;
 use cal_date::day_number::{date_from_number, day_number};
-use cal_time::{Date, limits};
+use cal_time::{Cycle, Date, limits};
 
 /// The number of days in the range.
 const DAYS: u32 = limits::LAST_DAY as u32 + 1;
@@ -45,8 +45,8 @@ impl Rule {
         }
     }
 
-    /// Counts the days that pass, from one day on and before the day with the number `end`. It counts
-    /// the days of one week only if they repeat every week.
+    /// Counts the days that pass, from one day on and before the day with the number `end`. Days that
+    /// pass by their weekday alone are counted for one week.
     pub(super) fn count_passing(&self, from: Date, end: u32) -> u32
         requires order { from ≤ end }
         requires range { end ≤ last_day + 1 }
@@ -54,14 +54,28 @@ impl Rule {
             ≡ count_before (passes self.now) end }
         ensures max { result ≤ end }
     {
-        let first = day_number(from);
-        let weeks = (end - first) / 7;
-        if weeks > 1 && self.has_only_weekdays() {
-            if let Some(rest) = date_from_number(u64::from(first + 7 * weeks)) {
-                return weeks * self.count_days(from, first + 7) + self.count_days(rest, end);
-            }
+        if self.has_only_weekdays() {
+            let days = end - day_number(from);
+            let week = self.count_weekdays(from, 7);
+            return days / 7 * week + self.count_weekdays(from, (days % 7) as u8);
         }
         self.count_days(from, end)
+    }
+
+    /// Counts the days that pass, from one day on and among at most 7 days.
+    fn count_weekdays(&self, from: Date, days: u8) -> u32
+        requires max { days ≤ 7 }
+        requires weekdays { PassesByWeekday self.now }
+        ensures value { result + count_before (passes self.now) from
+            ≡ count_before (passes self.now) (from + days) }
+        ensures max { result ≤ 7 }
+    {
+        let first = from.weekday().place();
+        let mut count = 0;
+        for index in 0..days {
+            count += u32::from(self.may_fall_on((first + index) % 7));
+        }
+        count
     }
 
     /// Counts the days that pass, from one day on and before the day with the number `end`, from

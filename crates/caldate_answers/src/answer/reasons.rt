@@ -28,12 +28,12 @@ pub fn why_unanswered(
         Request::To(_)
         | Request::ToIso
         | Request::Print(_)
-        | Request::PrintNamed(_, _)
+        | Request::PrintInLanguage(_, _)
         | Request::Until(_, _, _)
         | Request::Since(_, _, _)
         | Request::At(_, _)
         | Request::PrintAt(_, _)
-        | Request::PrintNamedAt(_, _, _)
+        | Request::PrintInLanguageAt(_, _, _)
         | Request::Keep(_) => NoAnswer::None,
     }
 }

@@ -68,6 +68,7 @@ impl LanguageFormat {
     pub fn read(&self, offset: UtcOffset, text: &[u8]) -> Result<DateOrMoment, NoAnswer>
         ensures { IsReadIn offset (ValueFormat.InLanguage self.now) text.now result }
     {
+        // They state that each table has names, and that strings of the items have one value.
         table_counts(self.names);
         let _items = items_of(&self.kind);
         match self.parse(offset, text) {
@@ -127,6 +128,7 @@ impl LanguageFormat {
             → IsFormatError (ValueFormat.InLanguage self.now) text any
             → HasFormIn self.now.0 (kind_items self.now.1) text }
     {
+        // It states that each table has names.
         table_counts(self.names);
         items_of(&self.kind)
     }

@@ -144,6 +144,7 @@ fn bound_in_language(format: &LanguageFormat, bytes: &[u8]) -> usize
         → IsFormatError (ValueFormat.InLanguage format.now) (take n bytes.now ++ more) any
         → n ≤ result }
 {
+    // It states which strings have the form of the items.
     let _items = format.as_format();
     match format.parse(UtcOffset::UTC, bytes) {
         Ok(_found) => bytes.len(),

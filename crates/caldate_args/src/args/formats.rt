@@ -141,7 +141,7 @@ pub fn to_of(word: &[u8], names: Option<&'static Names<'static>>) -> Option<Requ
     if is_format(word) {
         let format = format_of(word)?;
         Some(match names_for(word, names) {
-            Some(names) => Request::PrintNamed(format, names),
+            Some(names) => Request::PrintInLanguage(format, names),
             None => Request::Print(format),
         })
     } else if is_iso(word) {
@@ -160,7 +160,7 @@ pub fn to_at_place_of<'a>(
     if is_format(word) {
         let format = format_of(word)?;
         Some(match names_for(word, names) {
-            Some(names) => Request::PrintNamedAt(place, format, names),
+            Some(names) => Request::PrintInLanguageAt(place, format, names),
             None => Request::PrintAt(place, format),
         })
     } else if is_iso(word) {

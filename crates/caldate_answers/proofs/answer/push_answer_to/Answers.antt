@@ -1,7 +1,7 @@
 use Rattle.std.proofs.Common.{subst, sym}
 use Rattle.cal_text.specs.declared.any.MomentForm.TheVariants.{Rfc3339}
-use Rattle.caldate_answers.specs.Answers.{IsAnswerTo, IsAt, IsMovedAt, IsNamedAt, IsPrintedAt, form_iso}
-use Rattle.caldate_answers.specs.Forms.{IsInForm, IsNamed}
+use Rattle.caldate_answers.specs.Answers.{IsAnswerTo, IsAt, IsMovedAt, IsInLanguageAt, IsPrintedAt, form_iso}
+use Rattle.caldate_answers.specs.Forms.{IsInForm, IsInLanguage}
 use Rattle.caldate_answers.specs.declared.request.Form.TheVariants.{Moment}
 use Rattle.caldate_answers.proofs.answer.push_answer_to.Goals as goal
 
@@ -47,20 +47,20 @@ returns-in-PrintAt-clause-none c = λ no.
           none.1 words (subst (λ m. IsPrintedAt c.in-PrintAt.place c.in-PrintAt.format m words) (sym c.moment_of-in-PrintAt.ensures) h),
     )
 
-pub returns-in-PrintNamed-clause-none : goal.returns-in-PrintNamed-clause-none
-returns-in-PrintNamed-clause-none c = λ no.
+pub returns-in-PrintInLanguage-clause-none : goal.returns-in-PrintInLanguage-clause-none
+returns-in-PrintInLanguage-clause-none c = λ no.
     let none = c.push_named.ensures.none no in (
       none.0,
       λ words h.
-          let h = subst (λ q. IsAnswerTo c.args.clock.now c.args.workdays.now q c.args.text.now c.args.found.now words) c.in-PrintNamed.is h in
-          none.1 words (subst (λ m. IsNamed c.in-PrintNamed.names.now c.in-PrintNamed.format m words) (sym c.moment_of-in-PrintNamed.ensures) h),
+          let h = subst (λ q. IsAnswerTo c.args.clock.now c.args.workdays.now q c.args.text.now c.args.found.now words) c.in-PrintInLanguage.is h in
+          none.1 words (subst (λ m. IsInLanguage c.in-PrintInLanguage.names.now c.in-PrintInLanguage.format m words) (sym c.moment_of-in-PrintInLanguage.ensures) h),
     )
 
-pub returns-in-PrintNamedAt-clause-none : goal.returns-in-PrintNamedAt-clause-none
-returns-in-PrintNamedAt-clause-none c = λ no.
+pub returns-in-PrintInLanguageAt-clause-none : goal.returns-in-PrintInLanguageAt-clause-none
+returns-in-PrintInLanguageAt-clause-none c = λ no.
     let none = c.push_named_at.ensures.none no in (
       none.0,
       λ words h.
-          let h = subst (λ q. IsAnswerTo c.args.clock.now c.args.workdays.now q c.args.text.now c.args.found.now words) c.in-PrintNamedAt.is h in
-          none.1 words (subst (λ m. IsNamedAt c.in-PrintNamedAt.place c.in-PrintNamedAt.names.now c.in-PrintNamedAt.format m words) (sym c.moment_of-in-PrintNamedAt.ensures) h),
+          let h = subst (λ q. IsAnswerTo c.args.clock.now c.args.workdays.now q c.args.text.now c.args.found.now words) c.in-PrintInLanguageAt.is h in
+          none.1 words (subst (λ m. IsInLanguageAt c.in-PrintInLanguageAt.place c.in-PrintInLanguageAt.names.now c.in-PrintInLanguageAt.format m words) (sym c.moment_of-in-PrintInLanguageAt.ensures) h),
     )
