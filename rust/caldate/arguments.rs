@@ -27,6 +27,7 @@ use caldate_args::args::arguments::{BUFFER_BYTES, join};
 use caldate_args::args::asked_by;
 use caldate_args::command::*;
 use caldate_args::data_files::system_files::SystemFiles;
+use caldate_args::events::MAX_CALENDAR_BYTES;
 use caldate_args::files::named_files::{MAX_NAME_BYTES, next_file};
 use caldate_args::holidays::MAX_HOLIDAYS;
 use caldate_args::zones::zone_source::{MAX_FILE_BYTES, MAX_PATH_BYTES, find_folder};
@@ -131,7 +132,8 @@ fn answer(call: &Call<'_>) -> Vec<u8> {
     let mut first = [0; MAX_FILE_BYTES];
     let mut second = [0; MAX_FILE_BYTES];
     let mut days = [Date::MIN; MAX_HOLIDAYS];
-    let mut files = SystemFiles::new(call, folder, &mut first, &mut second, &mut days);
+    let mut calendar = [0; MAX_CALENDAR_BYTES];
+    let mut files = SystemFiles::new(call, folder, &mut first, &mut second, &mut days, &mut calendar);
     let asked = asked_by(words, Some(start()), &mut files);
     match asked {
         Ok(command) => {
@@ -183,6 +185,15 @@ fn command_text(command: &Command<'_>) -> String {
             moment_text(moments.first),
             moment_text(moments.last),
             step_text(moments.step)
+        ),
+        Command::Events(events) => format!(
+            "events {} {} {} {} {} {}",
+            events.text.len(),
+            zone_text(&events.zones.own),
+            events.zones.named.as_ref().map_or_else(|| "none".into(), zone_text),
+            moment_text(events.first),
+            moment_text(events.last),
+            if events.has_dates { "dates" } else { "moments" }
         ),
         Command::Recurring(dates) => format!("recur {} {}", span_text(&dates.span), dates.recurrence.text().as_str()),
     }

@@ -28,6 +28,7 @@ fn main() -> ExitCode {
             "cal_rounding",
             "cal_tzif",
             "cal_recurrence",
+            "cal_ics",
             "cal_holidays",
             "cal_holiday_text",
             "caldate_lines",

@@ -12,6 +12,7 @@ use caldate_args::args::asked_by;
 use caldate_args::args::usage_error::UsageError;
 use caldate_args::command::Command;
 use caldate_args::data_files::system_files::SystemFiles;
+use caldate_args::events::MAX_CALENDAR_BYTES;
 use caldate_args::files::Joined;
 use caldate_args::files::named_files::NamedFiles;
 use caldate_args::holidays::MAX_HOLIDAYS;
@@ -33,7 +34,15 @@ fn main(rt: HostRuntime) -> ExitCode {
     let mut first = [0u8; MAX_FILE_BYTES];
     let mut second = [0u8; MAX_FILE_BYTES];
     let mut days = [Date::MIN; MAX_HOLIDAYS];
-    let mut files = SystemFiles::new(&rt, folder, &mut first, &mut second, &mut days);
+    let mut calendar = [0u8; MAX_CALENDAR_BYTES];
+    let mut files = SystemFiles::new(
+        &rt,
+        folder,
+        &mut first,
+        &mut second,
+        &mut days,
+        &mut calendar,
+    );
     let asked = parse_words(words, now, &mut files);
     let words = words.unwrap_or(b"");
     match joined.and_then(|joined| joined.first_file) {

@@ -1,2 +1,3 @@
 pub mod HolidayLines
 pub mod Joins
+pub mod ValidEvents

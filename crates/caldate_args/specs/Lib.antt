@@ -1,4 +1,5 @@
 pub mod ClockWords
+pub mod Events
 pub mod Files
 pub mod Holidays
 pub mod Lists

@@ -67,6 +67,32 @@ pub struct Occurrences<'a> {
     pub recurrence: Recurrence,
 }
 
+/// The zones of a list of events.
+#[derive(Drop)]
+pub struct EventZones<'a> {
+    /// The zone of the list, and of events whose times name no zone.
+    pub own: Zone<'a>,
+    /// The zone that events name, or `None` if no event does.
+    pub named: Option<Zone<'a>>,
+    /// UTC.
+    pub utc: Zone<'a>,
+}
+
+/// A list of the times of the events of a calendar file.
+#[derive(Drop)]
+pub struct EventList<'a> {
+    /// The text of the file, whose lines are unfolded.
+    pub text: &'a [u8],
+    /// The zones of the times.
+    pub zones: EventZones<'a>,
+    /// The first time that the list may have.
+    pub first: OffsetDateTime,
+    /// The last time that the list may have.
+    pub last: OffsetDateTime,
+    /// `true` if the list has the dates of the times.
+    pub has_dates: bool,
+}
+
 /// A command of the program.
 #[derive(Drop)]
 pub enum Command<'a> {
@@ -89,4 +115,6 @@ pub enum Command<'a> {
     Moments(Moments<'a>),
     /// `list from A to B by RULE [at ZONE]`: the dates or moments of the recurrence.
     Recurring(Occurrences<'a>),
+    /// `list from A to B by FILE.ics [at ZONE]`: the dates or moments of the events of a file.
+    Events(EventList<'a>),
 }

@@ -4,6 +4,7 @@
 pub mod args;
 pub mod command;
 pub mod data_files;
+pub mod events;
 pub mod files;
 pub mod holidays;
 pub mod zones;

@@ -1,4 +1,5 @@
 pub mod Advances
+pub mod EventTimes
 pub mod FrontDays
 pub mod Listed
 pub mod MomentSteps
@@ -9,5 +10,6 @@ pub mod PieceOuts
 pub mod Replied
 pub mod Reported
 pub mod Rounds
+pub mod SameSets
 pub mod Steps
 pub mod Takes

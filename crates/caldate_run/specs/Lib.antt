@@ -1,3 +1,4 @@
+pub mod Events
 pub mod Named
 pub mod Pieces
 pub mod Recurring

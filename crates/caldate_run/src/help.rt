@@ -62,8 +62,9 @@ Commands:
                         keep after A and keep before B
   list from A to B      without input: all dates from A to B, or with by N UNIT
                         or by PERIOD in such steps, or with by RULE those of a
-                        recurrence, such as FREQ=MONTHLY;BYDAY=-1FR; with at
-                        ZONE moments by its clocks
+                        recurrence, such as FREQ=MONTHLY;BYDAY=-1FR, or with by
+                        FILE.ics those of a calendar's events; with at ZONE
+                        moments by its clocks
   --date DATE ..        answers for this date or moment, without input
   --help, -h, help      this page
   --version             the version

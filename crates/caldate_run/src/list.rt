@@ -4,6 +4,7 @@ ghost use Rattle.cal_time.specs.Date.{IsDate};
 ghost use Rattle.caldate_lines.specs.Calls.{Writes, write_failure};
 ghost use Rattle.caldate_args.specs.Lists.{IsEnd, IsUnitsAfter, IsStep, IsWithin, Lists};
 
+pub mod events;
 pub(crate) mod in_zone;
 pub mod moments;
 pub mod recurring;

@@ -7,17 +7,20 @@ ghost use Rattle.caldate_lines.specs.declared.ending.Ending.{Ending};
 ghost use Rattle.caldate_lines.specs.declared.run_error.RunError.{RunError};
 ghost use Rattle.caldate_lines.specs.declared.field.Field.{Field};
 ghost use Rattle.caldate_answers.specs.declared.request.Filter.{Filter};
+ghost use Rattle.caldate_args.specs.declared.command.EventList.{EventList};
 ghost use Rattle.caldate_args.specs.declared.command.Listing.{Listing};
 ghost use Rattle.caldate_args.specs.declared.command.Moments.{Moments};
 ghost use Rattle.caldate_args.specs.declared.command.Occurrences.{Occurrences};
 ghost use Rattle.caldate_args.specs.Files.{FailsOrKeeps};
 ghost use Rattle.caldate_args.specs.Lists.{HasValidStep, Lists};
+ghost use Rattle.caldate_run.specs.Events.{ListsEvents};
 ghost use Rattle.caldate_run.specs.Named.{EndsNamed};
 ghost use Rattle.caldate_run.specs.Recurring.{ListsOccurrences};
 ghost use Rattle.caldate_run.specs.Runs.{IsRunResult};
 ghost use Rattle.caldate_run.specs.Steps.{ListsSteps};
 
 use crate::help::{HELP, VERSION};
+use crate::list::events::list_events;
 use crate::list::list;
 use crate::list::moments::list_moments;
 use crate::list::recurring::list_occurrences;
@@ -104,6 +107,10 @@ pub fn perform<R: Source, W: Sink, E: Sink>(
         × ListsOccurrences dates outcome (W.contents writer.old) (W.contents writer.new)
         × Writes W.write_gives writer.old (write_failure outcome) writer.new
         × ReportsOutcome outcome result (E.contents errors.old) (E.contents errors.new)) }
+    ensures events { (events : EventList) → asked.entry ≡ Ok (Command.Events events) → (reader.new ≡ reader.old) × ((outcome : Result Unit RunError)
+        × ListsEvents events outcome (W.contents writer.old) (W.contents writer.new)
+        × Writes W.write_gives writer.old (write_failure outcome) writer.new
+        × ReportsOutcome outcome result (E.contents errors.old) (E.contents errors.new)) }
     ensures help { asked.entry ≡ Ok Command.Help → (reader.new ≡ reader.old) × ((outcome : Result Unit RunError)
         × WritesPage HELP.now outcome (W.contents writer.old) (W.contents writer.new)
         × Writes W.write_gives writer.old (write_failure outcome) writer.new
@@ -143,6 +150,10 @@ pub fn perform<R: Source, W: Sink, E: Sink>(
         }
         Ok(Command::Recurring(dates)) => {
             let outcome = list_occurrences(dates, writer);
+            end(outcome, errors)
+        }
+        Ok(Command::Events(events)) => {
+            let outcome = list_events(&events, writer);
             end(outcome, errors)
         }
         Ok(Command::Help) => end(write_all(writer, HELP), errors),

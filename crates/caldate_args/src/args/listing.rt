@@ -7,20 +7,26 @@ use crate::args::spelling::{iso_period_of, parse_u32, unit_of};
 use crate::args::usage_error::{Expected, UsageError, requirement_at, usage_error_at};
 use crate::args::words::{check_end, ends_at, found_at, keyword_at, word_as, word_at};
 use crate::args::{has_period, zone_at};
-use crate::command::{Command, Listing, Moments, Occurrences, Span, Step, StepUnit};
+use crate::command::{
+    Command, EventList, EventZones, Listing, Moments, Occurrences, Span, Step, StepUnit,
+};
+use crate::data_files::data_error::DataError;
 use crate::data_files::system_files::SystemFiles;
-use cal_datetime::OffsetDateTime;
+use crate::events::NamedZone;
+use crate::events::read_events_error::{EventErrorKind, ReadEventsError};
+use crate::zones::zone_with;
+use cal_datetime::{OffsetDateTime, midnight};
 use cal_recurrence::{Recurrence, parse, parse_days};
 use cal_schedule::Period;
 use cal_text::DateOrMoment;
-use cal_time::Date;
-use cal_zone::Policy;
+use cal_time::{Date, UtcOffset};
+use cal_zone::{Policy, Zone};
 use caldate_answers::request::{Clock, TimeUnit};
 use caldate_lines::lines::index_of;
 use std::fs::Files;
 
-/// Parses `list from A to B`, and perhaps `by N UNIT`, `by PERIOD` or `by RULE`, these perhaps with
-/// `at ZONE`.
+/// Parses `list from A to B`, and perhaps `by N UNIT`, `by PERIOD`, `by RULE` or `by FILE.ics`, these
+/// perhaps with `at ZONE`.
 pub fn list_of<'a, S: Files>(
     words: &'a [u8],
     now: &Option<OffsetDateTime>,
@@ -31,6 +37,9 @@ pub fn list_of<'a, S: Files>(
     keyword_at(words, 1, b"from", Expected::From)?;
     if is_rule_like(words) {
         return Ok(Command::Recurring(occurrences_of(words, now, files)?));
+    }
+    if let Some(name) = calendar_name(words) {
+        return Ok(Command::Events(events_of(words, name, now, files)?));
     }
     if is_in_zone(words) {
         return Ok(Command::Moments(moments_of(words, now, files)?));
@@ -99,7 +108,7 @@ fn occurrences_of<'a, S: Files>(
     Ok(Occurrences { span, recurrence })
 }
 
-/// Parses `at ZONE` after two moments and RULE, or the end of the words.
+/// Parses `at ZONE` after two moments and a RULE or a file, or the end of the words.
 fn span_at<'a, S: Files>(
     words: &'a [u8],
     span: Span<'a>,
@@ -114,6 +123,88 @@ fn span_at<'a, S: Files>(
     };
     let zone = zone_at(words, 8, files)?;
     Ok(Span::InZone(zone, first, last))
+}
+
+/// The index of the word after `by`.
+const BY: usize = 6;
+
+/// Returns the name of the calendar file after `by`, which ends with `.ics`, if there is one.
+fn calendar_name(words: &[u8]) -> Option<&[u8]> {
+    let name = word_at(words, BY)?;
+    if name.len() > 4 && name[name.len() - 4..].eq_ignore_ascii_case(b".ics") {
+        return Some(name);
+    }
+    None
+}
+
+/// Parses `A to B by FILE.ics`, where A and B are two dates or two moments, perhaps with `at ZONE`.
+fn events_of<'a, S: Files>(
+    words: &'a [u8],
+    name: &'a [u8],
+    now: &Option<OffsetDateTime>,
+    files: &mut SystemFiles<'_, 'a, S>,
+) -> Result<EventList<'a>, UsageError<'a>> {
+    let first = found_at(words, 2, Expected::Target, *now)?;
+    keyword_at(words, 3, b"to", Expected::UpTo)?;
+    let span = span_from(words, &first, now)?;
+    keyword_at(words, 5, b"by", Expected::By)?;
+    let has_dates = matches!(span, Span::Dates(_, _));
+    let calendar = match files.calendar(name, has_dates) {
+        Ok(calendar) => calendar,
+        Err(error) => return Err(usage_error_at(BY, Expected::Events).because(error)),
+    };
+    let (first, last) = moments_in(&span);
+    let own = own_zone(span_at(words, span, files)?, first)?;
+    let zones = EventZones {
+        own,
+        named: named_zone(calendar.zone, files)?,
+        utc: fixed_zone(UtcOffset::UTC)?,
+    };
+    Ok(EventList {
+        text: calendar.text,
+        zones,
+        first,
+        last,
+        has_dates,
+    })
+}
+
+/// Returns the first and the last moment. Dates are moments at 0:00 UTC.
+fn moments_in(span: &Span<'_>) -> (OffsetDateTime, OffsetDateTime) {
+    match span {
+        Span::Dates(first, last) => (midnight(*first).assume_utc(), midnight(*last).assume_utc()),
+        Span::Moments(first, last) | Span::InZone(_, first, last) => (*first, *last),
+    }
+}
+
+/// Returns the zone of a list: that of `at ZONE`, or else the offset of the first moment.
+fn own_zone<'a>(span: Span<'a>, first: OffsetDateTime) -> Result<Zone<'a>, UsageError<'a>> {
+    match span {
+        Span::InZone(zone, _, _) => Ok(zone),
+        Span::Dates(_, _) | Span::Moments(_, _) => fixed_zone(first.offset()),
+    }
+}
+
+/// Returns a zone with one offset.
+fn fixed_zone<'a>(offset: UtcOffset) -> Result<Zone<'a>, UsageError<'a>> {
+    zone_with(offset).ok_or(usage_error_at(2, Expected::Moment))
+}
+
+/// Reads the zone that events name, if any does.
+fn named_zone<'a, S: Files>(
+    named: Option<NamedZone<'a>>,
+    files: &mut SystemFiles<'_, 'a, S>,
+) -> Result<Option<Zone<'a>>, UsageError<'a>> {
+    let Some(named) = named else {
+        return Ok(None);
+    };
+    match files.zone(named.name) {
+        Ok(zone) => Ok(Some(zone)),
+        Err(_) => {
+            let error = ReadEventsError::Line(named.line, EventErrorKind::UnknownZone);
+            Err(usage_error_at(BY, Expected::Events).because(DataError::Events(error)))
+        }
+    }
 }
 
 /// Parses B, a date if A is one, else a moment.

@@ -30,6 +30,7 @@ pub fn message_for(expected: Expected) -> &'static str
         }
         Expected::Policy => "unknown policy; expected compatible, earlier, later or reject",
         Expected::Holidays => "cannot read holidays",
+        Expected::Events => "cannot read events",
         Expected::Form => {
             "unknown form; expected calendar, ordinal, week, julian, weekday, short-weekday, month, quarter, basic, iso, rfc3339, unix, unix-ms, unix-us, unix-ns, clf, rfc2822, syslog or a format such as %d.%m.%Y"
         }
@@ -89,7 +90,7 @@ pub fn message_for(expected: Expected) -> &'static str
         Expected::UpTo => "unexpected argument; expected 'to'",
         Expected::By => "unexpected argument; expected 'by'",
         Expected::Many => {
-            "invalid number or rule; expected an integer from 1 to 4294967295, a period such as P1M, or a rule such as FREQ=MONTHLY;BYDAY=-1FR"
+            "invalid number or rule; expected an integer from 1 to 4294967295, a period such as P1M, a rule such as FREQ=MONTHLY;BYDAY=-1FR, or a file such as work.ics"
         }
         Expected::Rule | Expected::DayRule => "invalid rule",
         Expected::UnitOfDays => "invalid unit; expected days, weeks, months or years",

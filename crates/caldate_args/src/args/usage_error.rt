@@ -28,6 +28,8 @@ pub enum Expected {
     Policy,
     /// The name of a file of `--holidays` that can be read, and has a date in each line.
     Holidays,
+    /// The name of a calendar file whose events can be listed.
+    Events,
     /// A form, such as `week`.
     Form,
     /// A number.
@@ -111,7 +113,8 @@ pub struct UsageError<'a> {
     pub index: usize,
     /// The argument that is expected there.
     pub expected: Expected,
-    /// The reason why a word names no zone or no holidays, or is a format with an ambiguous string.
+    /// The reason why a word names no zone, no holidays or no events, or is a format with an
+    /// ambiguous string.
     pub reason: Option<DataError<'a>>,
 }
 

@@ -1,6 +1,7 @@
-//! Why a word names no zone and no holidays, or is an ambiguous format.
+//! Why a word names no zone, no holidays and no events, or is an ambiguous format.
 ghost use Rattle.std.specs.Prelude.{◌+◌, ◌≤◌, length};
 
+use crate::events::read_events_error::{ReadEventsError, push_events_error};
 use crate::files::named_files::push_file_name;
 use crate::holidays::read_holidays_error::{ReadHolidaysError, push_holidays_error};
 use crate::zones::read_zone_error::{ReadZoneError, push_zone_error};
@@ -9,7 +10,8 @@ use caldate_lines::output::buffer::Buffer;
 /// The maximum length of the folder and of the name to show. An argument isn't longer.
 const MAX_SHOWN: usize = 4096;
 
-/// A reason why a word names no zone or no holidays, or is a format with an ambiguous string.
+/// A reason why a word names no zone, no holidays or no events, or is a format with an ambiguous
+/// string.
 #[derive(Clone, Copy, Debug, PartialEq, Eq)]
 pub enum DataError<'a> {
     /// The word isn't the name of a zone.
@@ -20,6 +22,8 @@ pub enum DataError<'a> {
     Zone(&'a [u8], &'a [u8], ReadZoneError),
     /// The file has no holidays.
     Holidays(ReadHolidaysError),
+    /// The file has no list of events.
+    Events(ReadEventsError),
     /// The first name can go on to the other one, or is the same.
     Names(&'a str, &'a str),
     /// A number can go on with this byte.
@@ -46,6 +50,10 @@ pub fn push_data_error(line: &mut Buffer, error: DataError<'_>)
         DataError::Holidays(error) => {
             line.push(b": ");
             push_holidays_error(line, error);
+        }
+        DataError::Events(error) => {
+            line.push(b": ");
+            push_events_error(line, error);
         }
         DataError::Names(name, other) => push_names(line, name.as_bytes(), other.as_bytes()),
         DataError::Number(byte) => {

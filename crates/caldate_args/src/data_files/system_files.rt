@@ -1,11 +1,15 @@
-//! The files of zones and holidays, as the system has them.
+//! The files of zones, holidays and events, as the system has them.
 ghost use Rattle.std.specs.Prelude.{◌≡◌, IfOk, true};
 ghost use Rattle.cal_time.specs.Counted.{IsRising};
 ghost use Rattle.cal_time.specs.Date.{julian_day_at};
+ghost use Rattle.cal_recurrence.specs.Words.{parts_at};
+ghost use Rattle.caldate_args.specs.Events.{AreValid};
 ghost use Rattle.caldate_args.specs.Zones.{is_zone_name};
 
 use crate::args::names::value_named;
 use crate::data_files::data_error::DataError;
+use crate::events::read_events_error::ReadEventsError;
+use crate::events::{Calendar, MAX_CALENDAR_BYTES, read_calendar};
 use crate::holidays::calendar_holidays::calendar_holidays;
 use crate::holidays::read_holidays_error::ReadHolidaysError;
 use crate::holidays::{MAX_HOLIDAYS, read_holidays};
@@ -17,8 +21,8 @@ use cal_time::Date;
 use cal_zone::Zone;
 use std::fs::Files;
 
-/// The files of the system, with room for two zones and the holidays of one file. No clause says
-/// what is read, since contracts know nothing about the files of the system.
+/// The files of the system, with room for two zones, the holidays of one file and the events of one.
+/// No clause says what is read, since contracts know nothing about the files of the system.
 #[derive(Drop)]
 pub struct SystemFiles<'s, 'a, S: Files> {
     system: &'s S,
@@ -26,6 +30,7 @@ pub struct SystemFiles<'s, 'a, S: Files> {
     first: Option<&'a mut [u8; MAX_FILE_BYTES]>,
     second: Option<&'a mut [u8; MAX_FILE_BYTES]>,
     days: Option<&'a mut [Date; MAX_HOLIDAYS]>,
+    calendar: Option<&'a mut [u8; MAX_CALENDAR_BYTES]>,
 }
 
 impl<'s, 'a, S: Files> SystemFiles<'s, 'a, S> {
@@ -36,6 +41,7 @@ impl<'s, 'a, S: Files> SystemFiles<'s, 'a, S> {
         first: &'a mut [u8; MAX_FILE_BYTES],
         second: &'a mut [u8; MAX_FILE_BYTES],
         days: &'a mut [Date; MAX_HOLIDAYS],
+        calendar: &'a mut [u8; MAX_CALENDAR_BYTES],
     ) -> Self {
         SystemFiles {
             system,
@@ -43,6 +49,7 @@ impl<'s, 'a, S: Files> SystemFiles<'s, 'a, S> {
             first: Some(first),
             second: Some(second),
             days: Some(days),
+            calendar: Some(calendar),
         }
     }
 
@@ -80,6 +87,38 @@ impl<'s, 'a, S: Files> SystemFiles<'s, 'a, S> {
         match open_file(self.system, name) {
             Ok(mut file) => read_holidays(&mut file, days),
             Err(error) => Err(ReadHolidaysError::File(error)),
+        }
+    }
+
+    /// Reads the calendar file with this name.
+    fn calendar_in(
+        &mut self,
+        name: &[u8],
+        only_dates: bool,
+    ) -> Result<Calendar<'a>, ReadEventsError>
+        ensures { IfOk result (λ calendar. AreValid (parts_at 10 calendar.text.now)) }
+    {
+        let Some(buffer) = self.calendar.take() else {
+            return Err(ReadEventsError::File(FileError::TooLong));
+        };
+        match open_file(self.system, name) {
+            Ok(mut file) => read_calendar(&mut file, only_dates, buffer),
+            Err(error) => Err(ReadEventsError::File(error)),
+        }
+    }
+
+    /// Returns the calendar file with this name, or why it has no list of events. With `only_dates`,
+    /// each event must start at a date.
+    pub(crate) fn calendar(
+        &mut self,
+        name: &[u8],
+        only_dates: bool,
+    ) -> Result<Calendar<'a>, DataError<'a>>
+        ensures { IfOk result (λ calendar. AreValid (parts_at 10 calendar.text.now)) }
+    {
+        match self.calendar_in(name, only_dates) {
+            Ok(calendar) => Ok(calendar),
+            Err(error) => Err(DataError::Events(error)),
         }
     }
 

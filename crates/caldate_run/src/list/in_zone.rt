@@ -67,7 +67,7 @@ fn write_moments<W: Sink>(
 }
 
 /// Returns the moment if it isn't past the last one.
-fn up_to(moment: Option<OffsetDateTime>, last: OffsetDateTime) -> Option<OffsetDateTime>
+pub(crate) fn up_to(moment: Option<OffsetDateTime>, last: OffsetDateTime) -> Option<OffsetDateTime>
     ensures { MatchOption result ((m : LocalAndOffset) → moment ≡ Some m → instant last <ℤ instant m)
         (λ m. (moment ≡ Some m) × (instant m ≤ℤ instant last)) }
 {
