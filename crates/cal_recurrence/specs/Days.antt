@@ -27,7 +27,7 @@ has_end Never = false
 has_end (Until last) = true
 has_end (Count count) = true
 
--- The COUNT, or a number if there is none.
+-- The COUNT, or a number without one.
 abbrev pub count_or : ℕ → RuleEnd → ℕ
 count_or none Never = none
 count_or none (Until last) = none

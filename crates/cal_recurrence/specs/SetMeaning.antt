@@ -45,7 +45,7 @@ all_mean meaning values = length (filter_map meaning values) == length values
 
 -- ---- ends
 -- The last possible day of a recurrence from a start: the day of an UNTIL, or the last of the days
--- that a COUNT allows. If there are none, it is the first day of the range.
+-- that a COUNT allows. Without any, it is the first day of the range.
 abbrev pub last_counted_day_at : Recurrence → ℕ → RuleEnd → Option ℕ
 last_counted_day_at r first Never = None
 last_counted_day_at r first (Until last) = Some (date_of last)
@@ -55,7 +55,7 @@ abbrev pub last_counted_day : Recurrence → ℕ → Option ℕ
 last_counted_day r first = last_counted_day_at r first r.end
 
 -- The last possible reading of a recurrence from a start: the reading of an UNTIL, or the last of
--- the readings that a COUNT allows. If there are none, it is the first reading of the range.
+-- the readings that a COUNT allows. Without any, it is the first reading of the range.
 abbrev pub last_counted_reading_at : Recurrence → ℤ → RuleEnd → Option ℤ
 last_counted_reading_at r start Never = None
 last_counted_reading_at r start (Until last) = Some (last_reading last)

@@ -77,8 +77,8 @@ are_periods (parameter ∷ parameters) = is_alike parameter (codes "VALUE=PERIOD
 abbrev pub period_start : List ℕ → Option (List ℕ)
 period_start word = if list_any (λ b. b == 47) word then Some (front_at 47 word) else None
 
--- The part of a word that is read: the start of a period, if `/` follows it, or a word that is no
--- period.
+-- The part of a word that is read: the start of a period, if `/` follows it, or a word that isn't
+-- a period.
 abbrev pub read_part : List (List ℕ) → List ℕ → Option (List ℕ)
 read_part parameters word = if are_periods parameters then period_start word else Some word
 

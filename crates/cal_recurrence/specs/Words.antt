@@ -18,16 +18,16 @@ use Rattle.cal_recurrence.specs.declared.clock_unit.ClockUnit.TheVariants as uni
 use Rattle.cal_recurrence.specs.declared.fault.RulePart.{RulePart}
 use Rattle.cal_recurrence.specs.declared.fault.RulePart.TheVariants as part
 
--- ---- splitting a text
--- The parts of a text between the bytes `byte`. Without such a byte the text is one part.
+-- ---- splitting a string
+-- The parts of a string between the bytes `byte`. Without such a byte the string is one part.
 abbrev pub parts_at : ℕ → List ℕ → List (List ℕ)
 parts_at byte text = slice_split (λ b. b == byte) text
 
--- The bytes of a text before the first `byte`, or the whole text without such a byte.
+-- The bytes of a string before the first `byte`, or the whole string without such a byte.
 abbrev pub front_at : ℕ → List ℕ → List ℕ
 front_at byte text = before_first (λ b. b == byte) text
 
--- The bytes of a text after the first `byte`, or nothing without such a byte.
+-- The bytes of a string after the first `byte`, or nothing without such a byte.
 abbrev pub rest_at : ℕ → List ℕ → List ℕ
 rest_at byte text = after_first (λ b. b == byte) text
 
@@ -51,15 +51,15 @@ abbrev pub place_outside : ℕ → Bool → List ℕ → ℕ
 place_outside byte quoted [] = 0
 place_outside byte quoted (x ∷ xs) = if not quoted && (x == byte) then 0 else 1 + place_outside byte (quoted_after quoted x) xs
 
--- The bytes of a text before the first `byte` outside quotation marks, or the whole text.
+-- The bytes of a string before the first `byte` outside quotation marks, or the whole string.
 abbrev pub front_outside : ℕ → List ℕ → List ℕ
 front_outside byte text = take (place_outside byte false text) text
 
--- The bytes of a text after the first `byte` outside quotation marks, or nothing.
+-- The bytes of a string after the first `byte` outside quotation marks, or nothing.
 abbrev pub rest_outside : ℕ → List ℕ → List ℕ
 rest_outside byte text = drop (place_outside byte false text + 1) text
 
--- The parts of a text between the bytes `byte` outside quotation marks.
+-- The parts of a string between the bytes `byte` outside quotation marks.
 abbrev pub parts_outside : ℕ → Bool → List ℕ → List (List ℕ)
 parts_outside byte quoted [] = [] ∷ []
 parts_outside byte quoted (x ∷ xs) = if not quoted && (x == byte) then [] ∷ parts_outside byte false xs else onto_first x (parts_outside byte (quoted_after quoted x) xs)
@@ -82,7 +82,7 @@ bytes_after size bytes = drop size bytes
 abbrev pub is_alike : List ℕ → List ℕ → Bool
 is_alike word name = str_eq_ignore_ascii_case word name
 
--- A text begins with `RRULE:`, the name of the property.
+-- A string begins with `RRULE:`, the name of the property.
 abbrev pub has_name : List ℕ → Bool
 has_name text = nat_le 6 (length text) && is_alike (first_bytes 6 text) (codes "RRULE:")
 

@@ -66,7 +66,7 @@ pub record IsFirstAfter (occurs : ℤ → LocalAndOffset → Type 0) (x : ℤ) (
   pub later : x <ℤ instant m
   pub first : (z : ℤ) (k : LocalAndOffset) → occurs z k → x <ℤ instant k → (instant m ≤ℤ instant k) × (instant k ≡ instant m → place ≤ℤ z)
 
--- There is no occurrence after the instant x.
+-- No occurrence comes after the instant x.
 abbrev pub NoneAfter : (ℤ → LocalAndOffset → Type 0) → ℤ → Type 0
 NoneAfter occurs x = (z : ℤ) (k : LocalAndOffset) → occurs z k → instant k ≤ℤ x
 
