@@ -49,9 +49,18 @@ pub fn keyword_at(
     name: &[u8],
     expected: Expected,
 ) -> Result<(), UsageError<'static>> {
+    if is_word_at(words, at, name) {
+        Ok(())
+    } else {
+        Err(usage_error_at(at, expected))
+    }
+}
+
+/// Returns whether the word at an index is `name`.
+fn is_word_at(words: &[u8], at: usize, name: &[u8]) -> bool {
     match word_at(words, at) {
-        Some(word) if word == name => Ok(()),
-        _ => Err(usage_error_at(at, expected)),
+        Some(word) => word == name,
+        None => false,
     }
 }
 

@@ -12,7 +12,7 @@ const MAX_SHOWN: usize = 4096;
 
 /// A reason why a word names no zone, no holidays or no events, or is a format with an ambiguous
 /// string.
-#[derive(Clone, Copy, Debug, PartialEq, Eq)]
+#[derive(Clone, Copy)]
 pub enum DataError<'a> {
     /// The word isn't the name of a zone.
     Name,

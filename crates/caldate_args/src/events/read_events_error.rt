@@ -7,7 +7,7 @@ use cal_recurrence::{ParseSetErrorKind, SetLine};
 use caldate_lines::output::buffer::Buffer;
 
 /// A reason why a calendar file has no list of events.
-#[derive(Clone, Copy, Debug, PartialEq, Eq)]
+#[derive(Clone, Copy)]
 pub enum ReadEventsError {
     /// The file can't be read.
     File(FileError),
@@ -16,7 +16,7 @@ pub enum ReadEventsError {
 }
 
 /// A reason why an event can't be listed.
-#[derive(Clone, Copy, Debug, PartialEq, Eq)]
+#[derive(Clone, Copy)]
 pub enum EventErrorKind {
     /// The event has no end, or another one.
     Event(ParseEventErrorKind),

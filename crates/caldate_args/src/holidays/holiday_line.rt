@@ -10,7 +10,7 @@ use cal_time::Date;
 use caldate_lines::lines::cut_return;
 
 /// The meaning of a line of a file of holidays.
-#[derive(Clone, Copy, Debug, PartialEq, Eq)]
+#[derive(Clone, Copy)]
 pub(crate) enum HolidayLine {
     /// The line has no words.
     Empty,

@@ -8,7 +8,7 @@ use caldate_lines::no_answer::push_reason;
 use caldate_lines::output::buffer::Buffer;
 
 /// A reason why a file has no holidays.
-#[derive(Clone, Copy, Debug, PartialEq, Eq)]
+#[derive(Clone, Copy)]
 pub enum ReadHolidaysError {
     /// The file can't be read.
     File(FileError),
@@ -17,7 +17,7 @@ pub enum ReadHolidaysError {
 }
 
 /// A reason why a line has no holidays.
-#[derive(Clone, Copy, Debug, PartialEq, Eq)]
+#[derive(Clone, Copy)]
 pub enum HolidayLineError {
     /// The line is not a date, and doesn't begin with the day of a rule.
     NoDate(ParseError),

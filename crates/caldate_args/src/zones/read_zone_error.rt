@@ -5,7 +5,7 @@ use cal_tzif::ZoneError;
 use caldate_lines::output::buffer::Buffer;
 
 /// A reason why a file has no contents.
-#[derive(Clone, Copy, Debug, PartialEq, Eq)]
+#[derive(Clone, Copy)]
 pub enum FileError {
     /// The file is missing.
     NotFound,
@@ -22,7 +22,7 @@ pub enum FileError {
 }
 
 /// A reason why a name has no zone.
-#[derive(Clone, Copy, Debug, PartialEq, Eq)]
+#[derive(Clone, Copy)]
 pub enum ReadZoneError {
     /// Its file can't be read.
     File(FileError),
