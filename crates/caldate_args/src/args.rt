@@ -18,6 +18,7 @@ pub(crate) mod spelling;
 pub(crate) mod target;
 pub mod usage_error;
 pub mod usage_message;
+pub mod word_error;
 pub mod words;
 
 use crate::args::bounds::bounds_at;
@@ -37,7 +38,8 @@ use crate::args::spelling::{
     period_of, rounded_unit_of, rounding_of, start_of, unit_of, verb_of, weekday_of,
 };
 use crate::args::target::target_at;
-use crate::args::usage_error::{Expected, UsageError, requirement_at, usage_error_at};
+use crate::args::usage_error::UsageError;
+use crate::args::word_error::{Expected, WordError, requirement_at, word_error_at};
 use crate::args::words::{check_end, cut, ends_at, only_at, word_as, word_at};
 use crate::command::Command;
 use crate::data_files::system_files::SystemFiles;
@@ -68,9 +70,16 @@ pub fn asked_by<'a, S: Files>(
 ) -> Result<Command<'a>, UsageError<'a>>
     ensures steps { IfOk result HasValidStep }
 {
-    match arguments {
+    let command = match arguments {
         Some(words) => parse_args(words, now, files),
         None => Err(requirement_at(0, Requirement::Short)),
+    };
+    match command {
+        Ok(command) => Ok(command),
+        Err(word) => Err(UsageError {
+            word,
+            reason: files.take_reason(),
+        }),
     }
 }
 
@@ -81,7 +90,7 @@ pub fn parse_args<'a, S: Files>(
     words: &'a [u8],
     now: Option<PlainDateTime>,
     files: &mut SystemFiles<'_, 'a, S>,
-) -> Result<Command<'a>, UsageError<'a>>
+) -> Result<Command<'a>, WordError>
     ensures steps { IfOk result HasValidStep }
 {
     let nothing = requirement_at(0, Requirement::Something);
@@ -111,19 +120,19 @@ fn once_of<'a, S: Files>(
     words: &'a [u8],
     now: Option<PlainDateTime>,
     files: &mut SystemFiles<'_, 'a, S>,
-) -> Result<Command<'a>, UsageError<'a>>
+) -> Result<Command<'a>, WordError>
     ensures steps { IfOk result HasValidStep }
 {
     let Some(rest) = cut(words).1 else {
-        return Err(usage_error_at(1, Expected::Target));
+        return Err(word_error_at(1, Expected::Target));
     };
     let (text, rest) = cut(rest);
     if text == b"".as_slice() {
-        return Err(usage_error_at(1, Expected::Target));
+        return Err(word_error_at(1, Expected::Target));
     }
     let filter = filter_at(words, rest, (2, is_day_word(text)), now, files)?;
     if has_more_lines(filter.field, text) {
-        return Err(usage_error_at(1, Expected::Target));
+        return Err(word_error_at(1, Expected::Target));
     }
     Ok(once_command(filter))
 }
@@ -173,7 +182,7 @@ fn filter_at<'a, S: Files>(
     start: (usize, bool),
     now: Option<PlainDateTime>,
     files: &mut SystemFiles<'_, 'a, S>,
-) -> Result<Filter<'a>, UsageError<'a>>
+) -> Result<Filter<'a>, WordError>
     requires few { start.0 ≤ 2 }
 {
     let (at, is_day) = start;
@@ -181,7 +190,7 @@ fn filter_at<'a, S: Files>(
     options.language = language_in(rest);
     let at = parse_options(&mut options, rest, at, files)?;
     if let (true, Some(index)) = (options.lenient, options.ambiguous) {
-        return Err(usage_error_at(index, Expected::LenientFormat));
+        return Err(word_error_at(index, Expected::LenientFormat));
     }
     if let Some(requirement) = unmet_in(&options, is_day) {
         return Err(requirement_at(at, requirement));
@@ -200,7 +209,7 @@ fn filter_with<'a>(
     at: usize,
     options: Options<'a>,
     request: Request<'a>,
-) -> Result<Filter<'a>, UsageError<'static>> {
+) -> Result<Filter<'a>, WordError> {
     if let Some(requirement) = unmet_by(&options, &request) {
         return Err(requirement_at(at, requirement));
     }
@@ -335,7 +344,7 @@ fn request_at<'a, S: Files>(
     choices: RequestChoices,
     now: Option<OffsetDateTime>,
     files: &mut SystemFiles<'_, 'a, S>,
-) -> Result<Request<'a>, UsageError<'a>>
+) -> Result<Request<'a>, WordError>
     requires { at + 7 < 2 ^ 64 }
 {
     let verb = word_as(words, at, verb_of, expected_verb(at))?;
@@ -351,7 +360,7 @@ fn request_at<'a, S: Files>(
 }
 
 /// Parses the arguments of a move.
-fn move_of(verb: MoveVerb, words: &[u8], at: usize) -> Result<Move, UsageError<'static>>
+fn move_of(verb: MoveVerb, words: &[u8], at: usize) -> Result<Move, WordError>
     requires { at + 2 < 2 ^ 64 }
 {
     match verb {
@@ -373,7 +382,7 @@ fn move_of(verb: MoveVerb, words: &[u8], at: usize) -> Result<Move, UsageError<'
 }
 
 /// Parses `WEEKDAY`.
-fn weekday_at(words: &[u8], at: usize) -> Result<Weekday, UsageError<'static>>
+fn weekday_at(words: &[u8], at: usize) -> Result<Weekday, WordError>
     requires { at + 1 < 2 ^ 64 }
 {
     only_at(words, at, weekday_of, Expected::Weekday)
@@ -384,22 +393,22 @@ fn to_at(
     words: &[u8],
     at: usize,
     names: Option<&'static Names<'static>>,
-) -> Result<Request<'static>, UsageError<'static>>
+) -> Result<Request<'static>, WordError>
     requires { at + 1 < 2 ^ 64 }
 {
-    let usage_error = usage_error_at(at, Expected::Form);
+    let error = word_error_at(at, Expected::Form);
     let Some(word) = word_at(words, at) else {
-        return Err(usage_error);
+        return Err(error);
     };
     let Some(request) = to_of(word, names) else {
-        return Err(usage_error);
+        return Err(error);
     };
     check_end(words, at + 1)?;
     Ok(request)
 }
 
 /// Parses `PERIOD`, `day`, `hour`, `minute` or `N minutes`.
-fn start_at(words: &[u8], at: usize) -> Result<Move, UsageError<'static>>
+fn start_at(words: &[u8], at: usize) -> Result<Move, WordError>
     requires { at + 2 < 2 ^ 64 }
 {
     match word_at(words, at).and_then(minutes_of) {
@@ -408,7 +417,7 @@ fn start_at(words: &[u8], at: usize) -> Result<Move, UsageError<'static>>
     }
 }
 
-fn floor_at(words: &[u8], at: usize, minutes: u16) -> Result<Move, UsageError<'static>>
+fn floor_at(words: &[u8], at: usize, minutes: u16) -> Result<Move, WordError>
     requires { at + 1 < 2 ^ 64 }
 {
     only_at(words, at, minutes_word, Expected::Minutes)?;
@@ -416,7 +425,7 @@ fn floor_at(words: &[u8], at: usize, minutes: u16) -> Result<Move, UsageError<'s
 }
 
 /// Parses `UNIT` or `N UNIT`, which divides a day.
-fn round_at(words: &[u8], at: usize) -> Result<Move, UsageError<'static>>
+fn round_at(words: &[u8], at: usize) -> Result<Move, WordError>
     requires { at + 2 < 2 ^ 64 }
 {
     match word_at(words, at).and_then(parse_i64) {
@@ -432,15 +441,15 @@ fn round_at(words: &[u8], at: usize) -> Result<Move, UsageError<'static>>
 }
 
 /// Returns the rounding to `number` units of `seconds` seconds. The number has this index.
-fn rounded_by(number: i64, seconds: u32, at: usize) -> Result<Move, UsageError<'static>> {
+fn rounded_by(number: i64, seconds: u32, at: usize) -> Result<Move, WordError> {
     match rounding_of(number, seconds) {
         Some(unit) => Ok(Move::Round(unit)),
-        None => Err(usage_error_at(at, Expected::RoundedNumber)),
+        None => Err(word_error_at(at, Expected::RoundedNumber)),
     }
 }
 
 /// Parses `PERIOD`.
-fn end_at(words: &[u8], at: usize) -> Result<Move, UsageError<'static>>
+fn end_at(words: &[u8], at: usize) -> Result<Move, WordError>
     requires { at + 1 < 2 ^ 64 }
 {
     let period = only_at(words, at, period_of, Expected::Period)?;
@@ -454,7 +463,7 @@ fn at_place<'a, S: Files>(
     choices: RequestChoices,
     now: Option<OffsetDateTime>,
     files: &mut SystemFiles<'_, 'a, S>,
-) -> Result<Request<'a>, UsageError<'a>>
+) -> Result<Request<'a>, WordError>
     requires { at + 6 < 2 ^ 64 }
 {
     let place = place_at(words, at, files)?;
@@ -466,14 +475,14 @@ fn at_place<'a, S: Files>(
         return to_at_place(words, at + 2, place, choices.names);
     }
     let Some(clock) = clock_in(place, choices.policy) else {
-        return Err(usage_error_at(at, Expected::Place));
+        return Err(word_error_at(at, Expected::Place));
     };
     let now = now_on(&clock.zone, now);
     match verb {
         Verb::Move(verb) => Ok(Request::MoveAt(clock, move_of(verb, words, at + 2)?)),
         Verb::Until => until_at(words, at + 2, Some(clock), now),
         Verb::Since => since_at(words, at + 2, Some(clock), now),
-        Verb::To | Verb::At | Verb::Keep => Err(usage_error_at(at + 1, Expected::End)),
+        Verb::To | Verb::At | Verb::Keep => Err(word_error_at(at + 1, Expected::End)),
     }
 }
 
@@ -483,15 +492,15 @@ fn to_at_place<'a>(
     at: usize,
     place: Place<'a>,
     names: Option<&'static Names<'static>>,
-) -> Result<Request<'a>, UsageError<'a>>
+) -> Result<Request<'a>, WordError>
     requires { at + 1 < 2 ^ 64 }
 {
-    let usage_error = usage_error_at(at, Expected::Form);
+    let error = word_error_at(at, Expected::Form);
     let Some(word) = word_at(words, at) else {
-        return Err(usage_error);
+        return Err(error);
     };
     let Some(request) = to_at_place_of(word, place, names) else {
-        return Err(usage_error);
+        return Err(error);
     };
     check_end(words, at + 1)?;
     Ok(request)
@@ -502,7 +511,7 @@ fn place_at<'a, S: Files>(
     words: &'a [u8],
     at: usize,
     files: &mut SystemFiles<'_, 'a, S>,
-) -> Result<Place<'a>, UsageError<'a>> {
+) -> Result<Place<'a>, WordError> {
     if names_zone(words, at) {
         return Ok(Place::Zone(first_zone_at(words, at, files)?));
     }
@@ -526,7 +535,7 @@ fn until_at<'a>(
     at: usize,
     own: Option<Clock<'a>>,
     now: Option<OffsetDateTime>,
-) -> Result<Request<'a>, UsageError<'static>>
+) -> Result<Request<'a>, WordError>
     requires { at + 4 < 2 ^ 64 }
 {
     let (target, unit) = target_at(words, at, now)?;
@@ -539,7 +548,7 @@ fn since_at<'a>(
     at: usize,
     own: Option<Clock<'a>>,
     now: Option<OffsetDateTime>,
-) -> Result<Request<'a>, UsageError<'static>>
+) -> Result<Request<'a>, WordError>
     requires { at + 4 < 2 ^ 64 }
 {
     let (target, unit) = target_at(words, at, now)?;
@@ -559,7 +568,7 @@ pub(crate) fn zone_at<'a, S: Files>(
     words: &'a [u8],
     at: usize,
     files: &mut SystemFiles<'_, 'a, S>,
-) -> Result<Zone<'a>, UsageError<'a>>
+) -> Result<Zone<'a>, WordError>
     requires { at + 1 < 2 ^ 64 }
 {
     let zone = first_zone_at(words, at, files)?;
@@ -572,10 +581,10 @@ fn first_zone_at<'a, S: Files>(
     words: &'a [u8],
     at: usize,
     files: &mut SystemFiles<'_, 'a, S>,
-) -> Result<Zone<'a>, UsageError<'a>> {
-    let usage_error = usage_error_at(at, Expected::Zone);
-    let name = word_at(words, at).ok_or(usage_error)?;
-    zone_of(name, usage_error, files)
+) -> Result<Zone<'a>, WordError> {
+    let error = word_error_at(at, Expected::Zone);
+    let name = word_at(words, at).ok_or(error)?;
+    zone_of(name, error, files)
 }
 
 /// Returns the word expected for the verb. At index 0, options such as `--help` are allowed too.
@@ -588,7 +597,7 @@ fn expected_verb(at: usize) -> Expected {
 }
 
 /// Parses `PERIOD`, `N` or `N UNIT`. The default unit is days.
-fn amount_at(words: &[u8], at: usize) -> Result<Move, UsageError<'static>>
+fn amount_at(words: &[u8], at: usize) -> Result<Move, WordError>
     requires { at + 2 < 2 ^ 64 }
 {
     if has_period(words, at) {
@@ -599,7 +608,7 @@ fn amount_at(words: &[u8], at: usize) -> Result<Move, UsageError<'static>>
     let unit = unit_at(words, at + 1)?;
     match amount_of(number, unit) {
         Some(by) => Ok(by),
-        None => Err(usage_error_at(at, Expected::Amount)),
+        None => Err(word_error_at(at, Expected::Amount)),
     }
 }
 
@@ -612,7 +621,7 @@ pub(crate) fn has_period(words: &[u8], at: usize) -> bool {
 }
 
 /// Parses the last word as a unit. The default is days.
-fn unit_at(words: &[u8], at: usize) -> Result<TimeUnit, UsageError<'static>>
+fn unit_at(words: &[u8], at: usize) -> Result<TimeUnit, WordError>
     requires { at + 1 < 2 ^ 64 }
 {
     if ends_at(words, at) {
@@ -642,7 +651,7 @@ fn duration_of(number: i64, unit: u32) -> Option<SignedDuration> {
 }
 
 /// Parses `WEEKDAY` or `WEEKDAY N`.
-fn occurrence_at(words: &[u8], at: usize) -> Result<(Weekday, u8), UsageError<'static>>
+fn occurrence_at(words: &[u8], at: usize) -> Result<(Weekday, u8), WordError>
     requires { at + 2 < 2 ^ 64 }
 {
     let weekday = word_as(words, at, weekday_of, Expected::Weekday)?;
@@ -650,7 +659,7 @@ fn occurrence_at(words: &[u8], at: usize) -> Result<(Weekday, u8), UsageError<'s
 }
 
 /// Parses the last word as a count. The default is 1.
-fn count_at(words: &[u8], at: usize) -> Result<u8, UsageError<'static>>
+fn count_at(words: &[u8], at: usize) -> Result<u8, WordError>
     requires { at + 1 < 2 ^ 64 }
 {
     if ends_at(words, at) {

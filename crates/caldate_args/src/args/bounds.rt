@@ -1,21 +1,17 @@
 //! The bounds of `keep`, from words.
 ghost use Rattle.std.specs.Prelude.{◌+◌, ◌<◌, ◌^◌};
 
-use crate::args::usage_error::{Expected, UsageError, usage_error_at};
+use crate::args::word_error::{Expected, WordError, word_error_at};
 use crate::args::words::{check_end, found_at, keyword_at, word_at};
 use cal_datetime::OffsetDateTime;
 use cal_text::DateOrMoment;
 use caldate_answers::request::Bounds;
 
 /// Parses `from A to B`, `after A` or `before B`.
-pub fn bounds_at(
-    words: &[u8],
-    at: usize,
-    now: Option<OffsetDateTime>,
-) -> Result<Bounds, UsageError<'static>>
+pub fn bounds_at(words: &[u8], at: usize, now: Option<OffsetDateTime>) -> Result<Bounds, WordError>
     requires { at + 4 < 2 ^ 64 }
 {
-    let unbound = usage_error_at(at, Expected::Bounds);
+    let unbound = word_error_at(at, Expected::Bounds);
     let word = word_at(words, at).ok_or(unbound)?;
     if word == b"from".as_slice() {
         range_at(words, at + 1, now)
@@ -28,11 +24,7 @@ pub fn bounds_at(
     }
 }
 
-fn bound_at(
-    words: &[u8],
-    at: usize,
-    now: Option<OffsetDateTime>,
-) -> Result<DateOrMoment, UsageError<'static>>
+fn bound_at(words: &[u8], at: usize, now: Option<OffsetDateTime>) -> Result<DateOrMoment, WordError>
     requires { at + 1 < 2 ^ 64 }
 {
     let bound = found_at(words, at, Expected::Target, now)?;
@@ -41,11 +33,7 @@ fn bound_at(
 }
 
 /// Parses `A to B`.
-fn range_at(
-    words: &[u8],
-    at: usize,
-    now: Option<OffsetDateTime>,
-) -> Result<Bounds, UsageError<'static>>
+fn range_at(words: &[u8], at: usize, now: Option<OffsetDateTime>) -> Result<Bounds, WordError>
     requires { at + 3 < 2 ^ 64 }
 {
     let first = found_at(words, at, Expected::Target, now)?;

@@ -3,7 +3,6 @@ ghost use Rattle.std.specs.Prelude.{IfSome, IsTrue};
 ghost use Rattle.cal_format.specs.Reading.{are_moment_items};
 
 use crate::args::names::{FORMATS, FORMS, NamedReader, READERS, value_named};
-use crate::args::usage_error::{Expected, UsageError, usage_error_at};
 use crate::data_files::data_error::DataError;
 use cal_format::{Component, Format, Item, Padding};
 use cal_named_format::{NamesError, table_of};
@@ -101,23 +100,9 @@ fn named_format(
     Ok(ValueFormat::InLanguage(LanguageFormat::new(names, kind)?))
 }
 
-/// Creates the error for a format in which a string could have two values. The word has this index.
-#[inline(never)]
-pub fn ambiguous_at(
-    index: usize,
-    word: &[u8],
-    names: &'static Names<'static>,
-    error: NamesError,
-) -> UsageError<'static> {
-    let invalid = usage_error_at(index, Expected::LanguageFormat);
-    match reason_of(error, word, names) {
-        Some(reason) => invalid.because(reason),
-        None => invalid,
-    }
-}
-
 /// Returns the reason for an error in a format.
-fn reason_of(
+#[inline(never)]
+pub fn reason_of(
     error: NamesError,
     word: &[u8],
     names: &'static Names<'static>,

@@ -4,7 +4,7 @@ ghost use Rattle.caldate_args.specs.Lists.{HasValidStep, IsStep};
 
 use crate::args::requirement::Requirement;
 use crate::args::spelling::{iso_period_of, parse_u32, unit_of};
-use crate::args::usage_error::{Expected, UsageError, requirement_at, usage_error_at};
+use crate::args::word_error::{Expected, WordError, requirement_at, word_error_at};
 use crate::args::words::{check_end, ends_at, found_at, keyword_at, word_as, word_at};
 use crate::args::{has_period, zone_at};
 use crate::command::{
@@ -31,7 +31,7 @@ pub fn list_of<'a, S: Files>(
     words: &'a [u8],
     now: &Option<OffsetDateTime>,
     files: &mut SystemFiles<'_, 'a, S>,
-) -> Result<Command<'a>, UsageError<'a>>
+) -> Result<Command<'a>, WordError>
     ensures steps { IfOk result HasValidStep }
 {
     keyword_at(words, 1, b"from", Expected::From)?;
@@ -72,7 +72,7 @@ fn moments_of<'a, S: Files>(
     words: &'a [u8],
     now: &Option<OffsetDateTime>,
     files: &mut SystemFiles<'_, 'a, S>,
-) -> Result<Moments<'a>, UsageError<'a>>
+) -> Result<Moments<'a>, WordError>
     ensures { IfOk result (λ moments. IsStep moments.step) }
 {
     let first = found_at(words, 2, Expected::Target, *now)?;
@@ -98,7 +98,7 @@ fn occurrences_of<'a, S: Files>(
     words: &'a [u8],
     now: &Option<OffsetDateTime>,
     files: &mut SystemFiles<'_, 'a, S>,
-) -> Result<Occurrences<'a>, UsageError<'a>> {
+) -> Result<Occurrences<'a>, WordError> {
     let first = found_at(words, 2, Expected::Target, *now)?;
     keyword_at(words, 3, b"to", Expected::UpTo)?;
     let span = span_from(words, &first, now)?;
@@ -113,7 +113,7 @@ fn span_at<'a, S: Files>(
     words: &'a [u8],
     span: Span<'a>,
     files: &mut SystemFiles<'_, 'a, S>,
-) -> Result<Span<'a>, UsageError<'a>> {
+) -> Result<Span<'a>, WordError> {
     if ends_at(words, 7) {
         return Ok(span);
     }
@@ -143,16 +143,15 @@ fn events_of<'a, S: Files>(
     name: &'a [u8],
     now: &Option<OffsetDateTime>,
     files: &mut SystemFiles<'_, 'a, S>,
-) -> Result<EventList<'a>, UsageError<'a>> {
+) -> Result<EventList<'a>, WordError> {
     let first = found_at(words, 2, Expected::Target, *now)?;
     keyword_at(words, 3, b"to", Expected::UpTo)?;
     let span = span_from(words, &first, now)?;
     keyword_at(words, 5, b"by", Expected::By)?;
     let has_dates = matches!(span, Span::Dates(_, _));
-    let calendar = match files.calendar(name, has_dates) {
-        Ok(calendar) => calendar,
-        Err(error) => return Err(usage_error_at(BY, Expected::Events).because(error)),
-    };
+    let calendar = files
+        .calendar(name, has_dates)
+        .ok_or(word_error_at(BY, Expected::Events))?;
     let (first, last) = moments_in(&span);
     let own = own_zone(span_at(words, span, files)?, first)?;
     let zones = EventZones {
@@ -178,7 +177,7 @@ fn moments_in(span: &Span<'_>) -> (OffsetDateTime, OffsetDateTime) {
 }
 
 /// Returns the zone of a list: that of `at ZONE`, or else the offset of the first moment.
-fn own_zone<'a>(span: Span<'a>, first: OffsetDateTime) -> Result<Zone<'a>, UsageError<'a>> {
+fn own_zone<'a>(span: Span<'a>, first: OffsetDateTime) -> Result<Zone<'a>, WordError> {
     match span {
         Span::InZone(zone, _, _) => Ok(zone),
         Span::Dates(_, _) | Span::Moments(_, _) => fixed_zone(first.offset()),
@@ -186,25 +185,24 @@ fn own_zone<'a>(span: Span<'a>, first: OffsetDateTime) -> Result<Zone<'a>, Usage
 }
 
 /// Returns a zone with one offset.
-fn fixed_zone<'a>(offset: UtcOffset) -> Result<Zone<'a>, UsageError<'a>> {
-    zone_with(offset).ok_or(usage_error_at(2, Expected::Moment))
+fn fixed_zone<'a>(offset: UtcOffset) -> Result<Zone<'a>, WordError> {
+    zone_with(offset).ok_or(word_error_at(2, Expected::Moment))
 }
 
 /// Reads the zone that events name, if any does.
 fn named_zone<'a, S: Files>(
     named: Option<NamedZone<'a>>,
     files: &mut SystemFiles<'_, 'a, S>,
-) -> Result<Option<Zone<'a>>, UsageError<'a>> {
+) -> Result<Option<Zone<'a>>, WordError> {
     let Some(named) = named else {
         return Ok(None);
     };
-    match files.zone(named.name) {
-        Ok(zone) => Ok(Some(zone)),
-        Err(_) => {
-            let error = ReadEventsError::Line(named.line, EventErrorKind::UnknownZone);
-            Err(usage_error_at(BY, Expected::Events).because(DataError::Events(error)))
-        }
+    if let Some(zone) = files.zone(named.name) {
+        return Ok(Some(zone));
     }
+    let error = ReadEventsError::Line(named.line, EventErrorKind::UnknownZone);
+    files.keep_reason(Some(DataError::Events(error)));
+    Err(word_error_at(BY, Expected::Events))
 }
 
 /// Parses B, a date if A is one, else a moment.
@@ -212,7 +210,7 @@ fn span_from(
     words: &[u8],
     first: &DateOrMoment,
     now: &Option<OffsetDateTime>,
-) -> Result<Span<'static>, UsageError<'static>> {
+) -> Result<Span<'static>, WordError> {
     match first {
         DateOrMoment::Date(_, date) => Ok(Span::Dates(*date, date_at(words, 4, now)?)),
         DateOrMoment::Moment(_, moment) => Ok(Span::Moments(*moment, moment_at(words, 4, now)?)),
@@ -220,13 +218,9 @@ fn span_from(
 }
 
 /// Parses the word at an index as a date.
-fn date_at(
-    words: &[u8],
-    at: usize,
-    now: &Option<OffsetDateTime>,
-) -> Result<Date, UsageError<'static>> {
+fn date_at(words: &[u8], at: usize, now: &Option<OffsetDateTime>) -> Result<Date, WordError> {
     let found = found_at(words, at, Expected::Date, *now)?;
-    date_in(&found).ok_or(usage_error_at(at, Expected::Date))
+    date_in(&found).ok_or(word_error_at(at, Expected::Date))
 }
 
 fn date_in(found: &DateOrMoment) -> Option<Date> {
@@ -241,9 +235,9 @@ fn moment_at(
     words: &[u8],
     at: usize,
     now: &Option<OffsetDateTime>,
-) -> Result<OffsetDateTime, UsageError<'static>> {
+) -> Result<OffsetDateTime, WordError> {
     let found = found_at(words, at, Expected::Moment, *now)?;
-    moment_in(&found).ok_or(usage_error_at(at, Expected::Moment))
+    moment_in(&found).ok_or(word_error_at(at, Expected::Moment))
 }
 
 fn moment_in(found: &DateOrMoment) -> Option<OffsetDateTime> {
@@ -262,7 +256,7 @@ const EVERY_DAY: Step = Step {
 };
 
 /// Parses `by N UNIT` or `by PERIOD` after the two dates. The default is every day.
-fn step_of(words: &[u8]) -> Result<Step, UsageError<'static>>
+fn step_of(words: &[u8]) -> Result<Step, WordError>
     ensures steps { IfOk result IsStep }
 {
     if ends_at(words, 5) {
@@ -273,14 +267,14 @@ fn step_of(words: &[u8]) -> Result<Step, UsageError<'static>>
         let period = word_as(words, 6, iso_period_of, Expected::IsoPeriod)?;
         return match step_by(period) {
             Some(step) => Ok(step),
-            None => Err(usage_error_at(6, Expected::StepPeriod)),
+            None => Err(word_error_at(6, Expected::StepPeriod)),
         };
     }
     let number = number_at(words, 6)?;
     let unit = word_as(words, 7, unit_of, Expected::UnitOfDays)?;
     match step_in(number, unit) {
         Some(step) => Ok(step),
-        None => Err(usage_error_at(7, Expected::UnitOfDays)),
+        None => Err(word_error_at(7, Expected::UnitOfDays)),
     }
 }
 
@@ -315,12 +309,12 @@ fn step_from(number: i64, unit: StepUnit) -> Option<Step>
 }
 
 /// Parses the word at an index as a number from 1 to 4294967295.
-fn number_at(words: &[u8], at: usize) -> Result<u32, UsageError<'static>>
+fn number_at(words: &[u8], at: usize) -> Result<u32, WordError>
     ensures { IfOk result (λ number. 1 ≤ number) }
 {
     match word_at(words, at) {
-        Some(word) => parse_u32(word).ok_or(usage_error_at(at, Expected::Many)),
-        None => Err(usage_error_at(at, Expected::Many)),
+        Some(word) => parse_u32(word).ok_or(word_error_at(at, Expected::Many)),
+        None => Err(word_error_at(at, Expected::Many)),
     }
 }
 
@@ -334,11 +328,7 @@ fn is_rule_like(words: &[u8]) -> bool {
 
 /// Parses the word at an index as a recurrence. Dates have no hours, so one by hours can't start at a
 /// date.
-fn recurrence_at(
-    words: &[u8],
-    at: usize,
-    span: &Span<'_>,
-) -> Result<Recurrence, UsageError<'static>> {
+fn recurrence_at(words: &[u8], at: usize, span: &Span<'_>) -> Result<Recurrence, WordError> {
     match span {
         Span::Dates(_, _) => word_as(words, at, day_rule_of, Expected::DayRule),
         Span::Moments(_, _) | Span::InZone(_, _, _) => word_as(words, at, rule_of, Expected::Rule),

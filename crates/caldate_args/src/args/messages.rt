@@ -1,7 +1,7 @@
 //! The words of the messages for invalid arguments.
 ghost use Rattle.std.specs.Prelude.{◌≤◌, length};
 
-use crate::args::usage_error::Expected;
+use crate::args::word_error::Expected;
 
 /// Returns the message for an expected argument without the wrong word, which stands before the `;`
 /// or at the end.

@@ -1,12 +1,12 @@
 //! The options before a request.
 ghost use Rattle.std.specs.Prelude.{◌+◌, ◌≤◌, ◌^◌, IfOk};
 
-use crate::args::formats::{ambiguous_at, in_language, names_for, reader_of};
+use crate::args::formats::{in_language, names_for, reader_of, reason_of};
 use crate::args::names::{MODES, OPTIONS, OptionName, POLICIES, value_named};
 use crate::args::offset::offset_of;
 use crate::args::requirement::Requirement;
 use crate::args::spelling::parse_i64;
-use crate::args::usage_error::{Expected, UsageError, usage_error_at};
+use crate::args::word_error::{Expected, WordError, word_error_at};
 use crate::args::words::cut;
 use crate::data_files::system_files::SystemFiles;
 use cal_names::{Names, names_of};
@@ -134,7 +134,7 @@ pub fn parse_options<'a, S: Files>(
     words: Option<&'a [u8]>,
     at: usize,
     files: &mut SystemFiles<'_, 'a, S>,
-) -> Result<usize, UsageError<'a>>
+) -> Result<usize, WordError>
     requires { at ≤ 2 }
     ensures within { IfOk result (λ index. index ≤ 2 ^ 63 + 2) }
 {
@@ -151,7 +151,7 @@ pub fn parse_options<'a, S: Files>(
         index += 1;
     }
     match given {
-        Some(option) => Err(usage_error_at(index, expected_value(option))),
+        Some(option) => Err(word_error_at(index, expected_value(option))),
         None => Ok(index),
     }
 }
@@ -185,7 +185,7 @@ fn parse_word<'a, S: Files>(
     word: &'a [u8],
     index: usize,
     files: &mut SystemFiles<'_, 'a, S>,
-) -> Result<OptionWord, UsageError<'a>> {
+) -> Result<OptionWord, WordError> {
     if let Some(option) = given {
         return parse_value(options, option, word, index, files);
     }
@@ -207,11 +207,11 @@ fn parse_value<'a, S: Files>(
     value: &'a [u8],
     index: usize,
     files: &mut SystemFiles<'_, 'a, S>,
-) -> Result<OptionWord, UsageError<'a>> {
+) -> Result<OptionWord, WordError> {
     if let Some(next) = option_after(option, value) {
         return Ok(OptionWord::Part(Some(next)));
     }
-    let invalid = usage_error_at(index, expected_value(option));
+    let invalid = word_error_at(index, expected_value(option));
     set_option(options, option, value, invalid, files)?;
     Ok(OptionWord::Part(None))
 }
@@ -336,15 +336,15 @@ fn set_option<'a, S: Files>(
     options: &mut Options<'a>,
     option: OptionName,
     value: &'a [u8],
-    invalid: UsageError<'a>,
+    invalid: WordError,
     files: &mut SystemFiles<'_, 'a, S>,
-) -> Result<(), UsageError<'a>> {
+) -> Result<(), WordError> {
     match option {
         OptionName::Csv => options.csv = true,
         OptionName::Header => options.header = true,
         OptionName::Scan => options.scan = true,
         OptionName::Lenient => options.lenient = true,
-        OptionName::Read => add_reader(options, value, invalid)?,
+        OptionName::Read => add_reader(options, value, invalid, files)?,
         OptionName::Zone => options.zone = Some(zone_of(value, invalid, files)?),
         OptionName::Holidays => options.workdays = Some(workdays_of(value, invalid, files)?),
         _ => set_word(options, option, value).ok_or(invalid)?,
@@ -382,28 +382,24 @@ fn set_meaning(options: &mut Options<'_>, option: OptionName, value: &[u8]) -> O
     Some(())
 }
 
-/// Returns the zone with this name, or the error with the reason why it has none.
+/// Returns the zone with this name, or the error.
 pub fn zone_of<'a, S: Files>(
     name: &'a [u8],
-    invalid: UsageError<'a>,
+    invalid: WordError,
     files: &mut SystemFiles<'_, 'a, S>,
-) -> Result<Zone<'a>, UsageError<'a>> {
-    match files.zone(name) {
-        Ok(zone) => Ok(zone),
-        Err(error) => Err(invalid.because(error)),
-    }
+) -> Result<Zone<'a>, WordError> {
+    files.zone(name).ok_or(invalid)
 }
 
-/// Returns Monday to Friday without the holidays in the file with this name, or the error with the
-/// reason why it has none.
+/// Returns Monday to Friday without the holidays in the file with this name, or the error.
 fn workdays_of<'a, S: Files>(
     name: &[u8],
-    invalid: UsageError<'a>,
+    invalid: WordError,
     files: &mut SystemFiles<'_, 'a, S>,
-) -> Result<Workdays<'a>, UsageError<'a>> {
+) -> Result<Workdays<'a>, WordError> {
     match files.holidays(name) {
-        Ok(days) => Ok(workdays_except(days)),
-        Err(error) => Err(invalid.because(error)),
+        Some(days) => Ok(workdays_except(days)),
+        None => Err(invalid),
     }
 }
 
@@ -551,11 +547,12 @@ pub fn field_of(options: &Options<'_>) -> Option<Field> {
 }
 
 /// Adds a form of `--read`, or returns the error if the value is invalid. `iso` is three forms.
-fn add_reader<'a>(
+fn add_reader<S: Files>(
     options: &mut Options<'_>,
     value: &[u8],
-    invalid: UsageError<'a>,
-) -> Result<(), UsageError<'a>> {
+    invalid: WordError,
+    files: &mut SystemFiles<'_, '_, S>,
+) -> Result<(), WordError> {
     let reader = reader_of(value).ok_or(invalid)?;
     let is_iso = is_iso_moment(&reader);
     if options.ambiguous.is_none()
@@ -567,7 +564,10 @@ fn add_reader<'a>(
     let reader = match names_for(value, options.language) {
         Some(names) => match in_language(reader, names) {
             Ok(reader) => reader,
-            Err(error) => return Err(ambiguous_at(invalid.index, value, names, error)),
+            Err(error) => {
+                files.keep_reason(reason_of(error, value, names));
+                return Err(word_error_at(invalid.index, Expected::LanguageFormat));
+            }
         },
         None => reader,
     };

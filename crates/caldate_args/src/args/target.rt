@@ -3,7 +3,7 @@ ghost use Rattle.std.specs.Prelude.{◌+◌, ◌<◌, ◌^◌};
 
 use crate::args::options::{field_numbers_of, is_name};
 use crate::args::spelling::measure_of;
-use crate::args::usage_error::{Expected, UsageError, usage_error_at};
+use crate::args::word_error::{Expected, WordError, word_error_at};
 use crate::args::words::{ends_at, found_at, keyword_at, only_at, word_at};
 use cal_datetime::OffsetDateTime;
 use caldate_answers::request::{Measure, Target};
@@ -14,7 +14,7 @@ pub fn target_at<'a>(
     words: &'a [u8],
     at: usize,
     now: Option<OffsetDateTime>,
-) -> Result<(Target<'a>, Option<Measure>), UsageError<'static>>
+) -> Result<(Target<'a>, Option<Measure>), WordError>
     requires { at + 4 < 2 ^ 64 }
 {
     if names_field(words, at) {
@@ -34,10 +34,10 @@ fn names_field(words: &[u8], at: usize) -> bool {
 }
 
 /// Parses `N`, `N-M` or `NAME`.
-fn other_at<'a>(words: &'a [u8], at: usize) -> Result<Target<'a>, UsageError<'static>> {
-    let usage_error = usage_error_at(at, Expected::FieldNumber);
-    let word = word_at(words, at).ok_or(usage_error)?;
-    other_of(word).ok_or(usage_error)
+fn other_at<'a>(words: &'a [u8], at: usize) -> Result<Target<'a>, WordError> {
+    let error = word_error_at(at, Expected::FieldNumber);
+    let word = word_at(words, at).ok_or(error)?;
+    other_of(word).ok_or(error)
 }
 
 fn other_of<'a>(word: &'a [u8]) -> Option<Target<'a>> {
@@ -48,7 +48,7 @@ fn other_of<'a>(word: &'a [u8]) -> Option<Target<'a>> {
 }
 
 /// Parses `in UNIT`, or returns `None` if the words end here.
-fn in_measure_at(words: &[u8], at: usize) -> Result<Option<Measure>, UsageError<'static>>
+fn in_measure_at(words: &[u8], at: usize) -> Result<Option<Measure>, WordError>
     requires { at + 2 < 2 ^ 64 }
 {
     if ends_at(words, at) {

@@ -5,7 +5,8 @@ ghost use Rattle.caldate_lines.specs.Outputs.{WritesPage};
 
 use crate::args::messages::message_for;
 use crate::args::options::is_option;
-use crate::args::usage_error::{Expected, UsageError};
+use crate::args::usage_error::UsageError;
+use crate::args::word_error::Expected;
 use crate::args::words::word_at;
 use crate::data_files::data_error::push_data_error;
 use cal_recurrence::{ParseRuleError, Recurrence, parse, parse_days};
@@ -52,20 +53,15 @@ fn push_problem(line: &mut Buffer, arguments: &[u8], usage_error: UsageError<'_>
     requires { length line.old ≤ 9 }
     ensures short { length line.new ≤ 9_500 }
 {
-    let message = message_for(usage_error.expected).as_bytes();
-    if let Expected::Requirement(_) = usage_error.expected {
+    let (index, expected) = (usage_error.word.index, usage_error.word.expected);
+    let message = message_for(expected).as_bytes();
+    if let Expected::Requirement(_) = expected {
         line.push(message);
         return;
     }
-    match word_at(arguments, usage_error.index) {
+    match word_at(arguments, index) {
         Some(word) => push_on_word(line, message, usage_error, word),
-        None => push_on_missing(
-            line,
-            message,
-            usage_error.expected,
-            arguments,
-            usage_error.index,
-        ),
+        None => push_on_missing(line, message, expected, arguments, index),
     }
 }
 
@@ -75,7 +71,8 @@ fn push_on_word(line: &mut Buffer, message: &[u8], usage_error: UsageError<'_>, 
     requires message { length message.now ≤ 330 }
     ensures short { length line.new ≤ 9_500 }
 {
-    if is_duplicate(usage_error.expected, word) {
+    let expected = usage_error.word.expected;
+    if is_duplicate(expected, word) {
         line.push(b"duplicate ");
         line.push(Excerpt::new(word).as_bytes());
         return;
@@ -85,7 +82,7 @@ fn push_on_word(line: &mut Buffer, message: &[u8], usage_error: UsageError<'_>, 
     line.push(b" ");
     push_quoted(line, word);
     line.push(words);
-    push_rule_error(line, usage_error.expected, word);
+    push_rule_error(line, expected, word);
     if let Some(error) = usage_error.reason {
         push_data_error(line, error);
     }

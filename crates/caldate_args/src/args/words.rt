@@ -4,7 +4,7 @@ ghost use Rattle.std.specs.Prelude.{◌≤◌, length};
 ghost use Rattle.caldate_args.specs.Words.{bytes_left};
 
 use crate::args::clock_words::clock_word;
-use crate::args::usage_error::{Expected, UsageError, usage_error_at};
+use crate::args::word_error::{Expected, WordError, word_error_at};
 use cal_datetime::OffsetDateTime;
 use cal_text::{DateOrMoment, parse_any};
 use caldate_lines::lines::index_of;
@@ -34,12 +34,12 @@ pub fn word_as<T: Drop, F: FnOnce(&[u8]) -> Option<T>>(
     at: usize,
     meaning: F,
     expected: Expected,
-) -> Result<T, UsageError<'static>>
+) -> Result<T, WordError>
     requires { F.IsAlwaysCallable meaning }
 {
     word_at(words, at)
         .and_then(meaning)
-        .ok_or(usage_error_at(at, expected))
+        .ok_or(word_error_at(at, expected))
 }
 
 /// Checks that the word at an index is `name`.
@@ -48,11 +48,11 @@ pub fn keyword_at(
     at: usize,
     name: &[u8],
     expected: Expected,
-) -> Result<(), UsageError<'static>> {
+) -> Result<(), WordError> {
     if is_word_at(words, at, name) {
         Ok(())
     } else {
-        Err(usage_error_at(at, expected))
+        Err(word_error_at(at, expected))
     }
 }
 
@@ -70,10 +70,10 @@ pub fn found_at(
     at: usize,
     expected: Expected,
     now: Option<OffsetDateTime>,
-) -> Result<DateOrMoment, UsageError<'static>> {
+) -> Result<DateOrMoment, WordError> {
     match word_at(words, at) {
-        Some(word) => found_in(word, now).ok_or(usage_error_at(at, expected)),
-        None => Err(usage_error_at(at, expected)),
+        Some(word) => found_in(word, now).ok_or(word_error_at(at, expected)),
+        None => Err(word_error_at(at, expected)),
     }
 }
 
@@ -93,11 +93,11 @@ pub fn ends_at(words: &[u8], at: usize) -> bool {
 }
 
 /// Returns an error unless the words end at the index or before it.
-pub fn check_end(words: &[u8], at: usize) -> Result<(), UsageError<'static>> {
+pub fn check_end(words: &[u8], at: usize) -> Result<(), WordError> {
     if ends_at(words, at) {
         Ok(())
     } else {
-        Err(usage_error_at(at, Expected::End))
+        Err(word_error_at(at, Expected::End))
     }
 }
 
@@ -107,7 +107,7 @@ pub fn only_at<T: Drop, F: FnOnce(&[u8]) -> Option<T>>(
     at: usize,
     meaning: F,
     expected: Expected,
-) -> Result<T, UsageError<'static>>
+) -> Result<T, WordError>
     requires calls { F.IsAlwaysCallable meaning }
     requires fits { at + 1 < 2 ^ 64 }
 {

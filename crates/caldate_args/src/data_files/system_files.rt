@@ -1,5 +1,5 @@
 //! The files of zones, holidays and events, as the system has them.
-ghost use Rattle.std.specs.Prelude.{◌≡◌, IfOk, true};
+ghost use Rattle.std.specs.Prelude.{◌≡◌, IfOk, IfSome, true};
 ghost use Rattle.cal_time.specs.Counted.{IsRising};
 ghost use Rattle.cal_time.specs.Date.{julian_day_at};
 ghost use Rattle.cal_recurrence.specs.Words.{parts_at};
@@ -31,6 +31,8 @@ pub struct SystemFiles<'s, 'a, S: Files> {
     second: Option<&'a mut [u8; MAX_FILE_BYTES]>,
     days: Option<&'a mut [Date; MAX_HOLIDAYS]>,
     calendar: Option<&'a mut [u8; MAX_CALENDAR_BYTES]>,
+    /// Why the last file has no contents, or the last format has an ambiguous string.
+    reason: Option<DataError<'a>>,
 }
 
 impl<'s, 'a, S: Files> SystemFiles<'s, 'a, S> {
@@ -50,6 +52,7 @@ impl<'s, 'a, S: Files> SystemFiles<'s, 'a, S> {
             second: Some(second),
             days: Some(days),
             calendar: Some(calendar),
+            reason: None,
         }
     }
 
@@ -107,23 +110,22 @@ impl<'s, 'a, S: Files> SystemFiles<'s, 'a, S> {
         }
     }
 
-    /// Returns the calendar file with this name, or why it has no list of events. With `only_dates`,
-    /// each event must start at a date.
-    pub(crate) fn calendar(
-        &mut self,
-        name: &[u8],
-        only_dates: bool,
-    ) -> Result<Calendar<'a>, DataError<'a>>
-        ensures { IfOk result (λ calendar. AreValid (parts_at 10 calendar.text.now)) }
+    /// Returns the calendar file with this name, or keeps the reason why it has no list of events. With
+    /// `only_dates`, each event must start at a date.
+    pub(crate) fn calendar(&mut self, name: &[u8], only_dates: bool) -> Option<Calendar<'a>>
+        ensures { IfSome result (λ calendar. AreValid (parts_at 10 calendar.text.now)) }
     {
         match self.calendar_in(name, only_dates) {
-            Ok(calendar) => Ok(calendar),
-            Err(error) => Err(DataError::Events(error)),
+            Ok(calendar) => Some(calendar),
+            Err(error) => {
+                self.keep_reason(Some(DataError::Events(error)));
+                None
+            }
         }
     }
 
     /// Returns the zone with this name, or why it has none.
-    pub fn zone(&mut self, name: &'a [u8]) -> Result<Zone<'a>, DataError<'a>> {
+    fn zone_named(&mut self, name: &'a [u8]) -> Result<Zone<'a>, DataError<'a>> {
         if !is_zone_name(name) {
             return Err(DataError::Name);
         }
@@ -136,13 +138,38 @@ impl<'s, 'a, S: Files> SystemFiles<'s, 'a, S> {
         }
     }
 
-    /// Returns the holidays in the file with this name, in ascending order, or why it has none.
-    pub fn holidays(&mut self, name: &[u8]) -> Result<&'a [Date], DataError<'a>>
-        ensures { IfOk result (λ days. IsRising julian_day_at days.now) }
+    /// Returns the zone with this name, or keeps the reason why it has none.
+    pub fn zone(&mut self, name: &'a [u8]) -> Option<Zone<'a>> {
+        match self.zone_named(name) {
+            Ok(zone) => Some(zone),
+            Err(error) => {
+                self.keep_reason(Some(error));
+                None
+            }
+        }
+    }
+
+    /// Returns the holidays in the file with this name, in ascending order, or keeps the reason why it
+    /// has none.
+    pub fn holidays(&mut self, name: &[u8]) -> Option<&'a [Date]>
+        ensures { IfSome result (λ days. IsRising julian_day_at days.now) }
     {
         match self.holidays_in(name) {
-            Ok(days) => Ok(days),
-            Err(error) => Err(DataError::Holidays(error)),
+            Ok(days) => Some(days),
+            Err(error) => {
+                self.keep_reason(Some(DataError::Holidays(error)));
+                None
+            }
         }
+    }
+
+    /// Keeps the reason why a word is wrong.
+    pub(crate) fn keep_reason(&mut self, reason: Option<DataError<'a>>) {
+        self.reason = reason;
+    }
+
+    /// Returns the reason that is kept, if there is one.
+    pub(crate) fn take_reason(&mut self) -> Option<DataError<'a>> {
+        self.reason.take()
     }
 }
