@@ -303,7 +303,7 @@ struct Names {
     // Returns the names of a language by its code of ISO 639-1, such as "fr", from a locale of glibc. Throws
     // FOTS_UNKNOWN_LANGUAGE for another code.
     [[nodiscard]] static Names of_language(std::string_view code);
-    // Returns copies of names of C, such as those of a locale from fotsevindre_locale.h.
+    // Returns copies of names of C, such as the names of a locale from fotsevindre_locale.h.
     [[nodiscard]] static Names from(const fots_language_names &values);
 };
 

@@ -22,7 +22,7 @@ static inline fots_duration fots_unix_time_now(void)
     return time;
 }
 
-/* Returns the moment now, at offset 0. Its date and its time are those of UTC. */
+/* Returns the moment now, at offset 0. Its date and its time are in UTC. */
 static inline fots_moment_result fots_moment_now(void)
 {
     return fots_moment_from_unix_time(fots_unix_time_now());

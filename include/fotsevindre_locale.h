@@ -24,7 +24,7 @@ static inline fots_name fots_name_of_locale(locale_t locale, nl_item item)
     return name;
 }
 
-/* Writes the names of a locale, such as that of newlocale(LC_TIME_MASK, "fr_FR.UTF-8", (locale_t)0).
+/* Writes the names of a locale, such as newlocale(LC_TIME_MASK, "fr_FR.UTF-8", (locale_t)0).
  * They stay valid until freelocale. The names of halves of the day are also those in lower case, which
  * the C library doesn't have. */
 static inline void fots_names_of_locale(locale_t locale, fots_language_names *names)
