@@ -1,5 +1,5 @@
 -- The parts of the packed value of an ordinal date.
-use Rattle.std.proofs.Common.{◌≡◌, inl, inr, refl, Bool, ℕ, ◌*◌, ◌+◌, ◌%◌, ◌≤◌, ◌∙◌, sym, ap, subst, arith, rules, ℤ, pos, neg_ℤ, ◌/◌, ◌+ℤ◌, ◌-ℤ◌, ◌*ℤ◌, ◌≤ℤ◌, unsigned_abs, to_z, of_z, w32, Fits, FitsSigned, bit_and, bit_or, ◌^◌, ◌<◌}
+use Rattle.std.proofs.Common.{◌≡◌, inl, inr, refl, Bool, ℕ, ◌*◌, ◌+◌, ◌-◌, ◌%◌, ◌≤◌, ◌∙◌, sym, ap, subst, arith, rules, ℤ, pos, neg_ℤ, ◌/◌, ◌+ℤ◌, ◌-ℤ◌, ◌*ℤ◌, ◌≤ℤ◌, unsigned_abs, to_z, of_z, w32, Fits, FitsSigned, bit_and, bit_or, ◌^◌, ◌<◌}
 use Rattle.std.proofs.lemmas.Int.{ints, to_z-of_z}
 use Rattle.std.proofs.lemmas.Bool.Decides.{nat_tests}
 use Rattle.std.proofs.lemmas.Bool.{cases_Bool}
@@ -87,13 +87,36 @@ shifted-of z h = search rules
 pub shifted : (y : ℤ) (o : ℕ) → IsYear y → IsOrdinal y o → to_z w32 (of_z w32 (shr_z (to_z w32 (of_z w32 (packed y o))) 1024)) ≡ y
 shifted y o h f = shifted-of (packed y o) (bounded y o h f) ∙ year_of-packed y o h f
 
--- With the first year subtracted, it is the index of the year.
-pub year_index-is : (y : ℤ) (o : ℕ) → IsYear y → IsOrdinal y o
-    → pos (unsigned_abs (to_z w32 (of_z w32 (to_z w32 (of_z w32 (packed y o)) -ℤ neg_ℤ (pos 1023998976)))) / 1024) ≡ y -ℤ first_year
+-- The packed value counted from the packed first date.
+abbrev from_first : ℤ → ℤ
+from_first p = to_z w32 (of_z w32 (to_z w32 (of_z w32 p) -ℤ neg_ℤ (pos 1023998975)))
+
+from_first-packed : (y : ℤ) (o : ℕ) → IsYear y → IsOrdinal y o → from_first (packed y o) ≡ (y -ℤ first_year) *ℤ pos 1024 +ℤ pos (leap_mark y + (o - 1))
 unfolding packed
-year_index-is y o h f =
-    let low : leap_mark y + o < 1024 = grind (arith, nat_tests) in
-    grind (arith, ints, low)
+from_first-packed y o h f = grind (arith, ints, nat_tests)
+
+low_from_first : (y : ℤ) (o : ℕ) → IsOrdinal y o → leap_mark y + (o - 1) < 1024
+low_from_first y o f = grind (arith, nat_tests)
+
+-- It has the index of the year and the index of the ordinal, as the packed value has both.
+pub year_index-is : (y : ℤ) (o : ℕ) → IsYear y → IsOrdinal y o → pos (unsigned_abs (from_first (packed y o)) / 1024) ≡ y -ℤ first_year
+year_index-is y o h f = omega (arith, ints, from_first-packed y o h f, low_from_first y o f, h.0)
+
+pub ordinal_index-is : (y : ℤ) (o : ℕ) → IsYear y → IsOrdinal y o → unsigned_abs (from_first (packed y o)) % 512 + 1 ≡ o
+ordinal_index-is y o h f =
+    let is = from_first-packed y o h f in
+    grind (arith, ints, nat_tests)
+
+pub ordinal_index-most : (y : ℤ) (o : ℕ) → IsYear y → IsOrdinal y o → unsigned_abs (from_first (packed y o)) % 512 < 366
+ordinal_index-most y o h f =
+    let is = ordinal_index-is y o h f in
+    grind (arith, nat_tests, f.1)
+
+pub from_first-casts : (y : ℤ) (o : ℕ) → IsYear y → IsOrdinal y o → T (non_neg (from_first (packed y o))) × Fits w32 (unsigned_abs (from_first (packed y o)))
+from_first-casts y o h f =
+    let is = from_first-packed y o h f in
+    let low = low_from_first y o f in
+    (omega (arith, ints, h.0), omega (arith, ints, h.0, h.1))
 
 lowest_bits-of : (z : ℤ) → IsBounded z → unsigned_abs (to_z w32 (bit_and (of_z w32 z) 511)) ≡ ordinal_of z
 unfolding ordinal_of

@@ -1,14 +1,15 @@
 -- The ordinals of a month and a day of the month in two years.
-use Rattle.std.proofs.Common.{◌≡◌, ◌≢◌, ◌⊎◌, inl, inr, refl, sym, ap, subst, ◌∙◌, ℕ, ◌+◌, ◌-◌, ◌<◌, ◌≤◌, Bool, true, false, not, arith, ℤ, ◌↔◌, to_z, of_z, w32, if◌then◌else◌}
+use Rattle.std.proofs.Common.{◌≡◌, ◌≢◌, ◌⊎◌, inl, inr, refl, sym, ap, subst, ◌∙◌, ℕ, ◌+◌, ◌-◌, ◌<◌, ◌≤◌, true, false, arith, ℤ, ◌↔◌, to_z, of_z, w32, if◌then◌else◌}
 use Rattle.std.proofs.lemmas.Bool.Decides.{nat_tests}
-use mathlib.Core.Bool.{beq}
+use Rattle.std.proofs.lemmas.Bool.{cases_Bool}
+use mir.Val.{bool_byte}
 use Rattle.cal_units.specs.Lengths.{is_leap_year, days_in_month}
 use Rattle.cal_units.specs.ComponentError.{FailsWith}
 use Rattle.cal_units.specs.declared.error.ComponentRange.{ComponentRange}
 use Rattle.std.specs.Prelude.{Result, Ok, Err, IfErr}
 use Rattle.cal_date.specs.Date.{year_at, month_at, day_of_month_at, ordinal_at, IsDate, IsYear, IsOrdinal, IsDayOfMonth, HasCalendarDate}
 use Rattle.cal_date.specs.CountLaws.{days_of_months}
-use Rattle.cal_date.specs.PackedDate.{ordinal_number}
+use Rattle.cal_date.specs.PackedDate.{leap_mark, ordinal_number}
 use Rattle.cal_date.proofs.Dates.{IsDate-ordinal_number, IsYear-i32, in_range}
 use Rattle.cal_date.proofs.Calendar.{ordinal_in, IsInMonthOf, in_month_of, stands_at, calendar_in_range, IsOrdinal-ordinal_in}
 use Rattle.cal_date.proofs.Months.{each_month}
@@ -105,19 +106,6 @@ leap_day y z i d low h e leap common day =
     let there = month_at_index z i low in
     absurd (grind (arith, nat_tests))
 
--- Two equal marks, and two different marks.
-pub beq-alike : (a b : Bool) → beq a b ≡ true → a ≡ b
-beq-alike true true e = refl
-beq-alike true false e = sym e
-beq-alike false true e = e
-beq-alike false false e = refl
-
-pub beq-unlike : (a b : Bool) → beq a b ≡ false → b ≡ not a
-beq-unlike true true e = e
-beq-unlike true false e = refl
-beq-unlike false true e = refl
-beq-unlike false false e = sym e
-
 -- p is the ordinal in year z of the month and the day of the month of day n.
 pub record IsReplaced (z : ℤ) (n p : ℕ) : Type 0 where
   pub day : IsDayOfMonth z (month_at n) (day_of_month_at n)
@@ -164,6 +152,33 @@ not_replaced z n e leap common day =
     let at = in_month_of n in
     leap_day (year_at n) z at.months (day_of_month_at n) at.stands.month at.stands.day (sym at.stands.ordinal_is ∙ e) leap common
     (subst (λ m. IsDayOfMonth z m (day_of_month_at n)) at.month_is day)
+
+-- From March on the ordinals of a leap year are one higher. In other years there is no 29 February.
+pub replaced-moved : (z : ℤ) (n a b : ℕ) → 60 ≤ ordinal_at n → a ≡ bool_byte (is_leap_year z) → b ≡ bool_byte (is_leap_year (year_at n))
+    → (leap_mark (year_at n) + ordinal_at n ≡ 572 → is_leap_year z ≡ true) → IsReplaced z n (ordinal_at n + a - b)
+replaced-moved z n a b late after before leap_day_kept =
+    elim (cases_Bool (is_leap_year z)) as (λ _. IsReplaced z n (ordinal_at n + a - b)) [
+      | inl leap ↦ elim (cases_Bool (is_leap_year (year_at n))) as (λ _. IsReplaced z n (ordinal_at n + a - b)) [
+        | inl was ↦ moved_to (omega (arith, after ∙ ap bool_byte leap, before ∙ ap bool_byte was)) (replaced-same z n (inl (was ∙ sym leap)))
+        | inr common ↦ moved_to (omega (arith, after ∙ ap bool_byte leap, before ∙ ap bool_byte common)) (replaced-later z n late common leap)
+      ]
+      | inr common ↦ elim (cases_Bool (is_leap_year (year_at n))) as (λ _. IsReplaced z n (ordinal_at n + a - b)) [
+        | inl was ↦
+            let past : 60 < ordinal_at n = past_leap_day was common in
+            moved_to (omega (arith, after ∙ ap bool_byte common, before ∙ ap bool_byte was)) (replaced-earlier z n past was common)
+        | inr before_too ↦ moved_to (omega (arith, after ∙ ap bool_byte common, before ∙ ap bool_byte before_too)) (replaced-same z n (inl (before_too ∙ sym common)))
+      ]
+    ]
+  where
+    moved_to : {p : ℕ} → p ≡ ordinal_at n + a - b → IsReplaced z n p → IsReplaced z n (ordinal_at n + a - b)
+    moved_to e is = subst (IsReplaced z n) e is
+
+    past_leap_day : is_leap_year (year_at n) ≡ true → is_leap_year z ≡ false → 60 < ordinal_at n
+    past_leap_day was common = grind (arith, nat_tests)
+
+-- The low bits of 29 February.
+pub leap_day_marked : (n : ℕ) → leap_mark (year_at n) + ordinal_at n ≡ 572 → ordinal_at n ≤ 366 → (is_leap_year (year_at n) ≡ true) × (ordinal_at n ≡ 60)
+leap_day_marked n e most = (grind (arith, nat_tests), grind (arith, nat_tests))
 
 -- The year has this ordinal, and its day is the only day with this month and day of the month.
 pub record IsReplacement (z : ℤ) (n p : ℕ) : Type 0 where

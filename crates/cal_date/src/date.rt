@@ -31,6 +31,9 @@ const MIN_DAYS_IN_YEAR: u32 = 365;
 /// The leap mark of a packed date, in a leap year.
 const LEAP_MARK: i32 = 512;
 
+/// The packed first date of the range.
+const FIRST_PACKED: i32 = (MIN_YEAR << 10) + 1;
+
 /// The bits of a packed date with the ordinal.
 const ORDINAL_BITS: i32 = 511;
 
@@ -170,7 +173,17 @@ impl Date {
         ensures in_range { IsDate self }
     {
         // The difference is before the shift, so a sum with months has a term less.
-        (self.packed - (MIN_YEAR << 10)) as u32 >> 10
+        (self.packed - FIRST_PACKED) as u32 >> 10
+    }
+
+    /// Returns the index of the ordinal, from 0 for 1 January.
+    fn ordinal_index(self) -> u32
+        ensures value { result + 1 ≡ ordinal_at self }
+        ensures max { result < 366 }
+        ensures in_range { IsDate self }
+    {
+        // `year_index` has the same difference, so both are from one subtraction.
+        (self.packed - FIRST_PACKED) as u32 % 512
     }
 
     /// Returns the day of the year, from 1 to 365, or 366 in a leap year. For 2020-12-31 it is 366.

@@ -48,7 +48,7 @@ value_in (text ∷ texts) at = if is_part at text then Some (rest_at 61 text) el
 abbrev pub said : {X : Type 0} → (List ℕ → Option X) → X → Option (List ℕ) → X
 said meaning default value = unwrap_or (option_and_then meaning value) default
 
--- The end that an UNTIL or a COUNT says. Without both it has no end.
+-- The end that an UNTIL or a COUNT says. Without both, the recurrence has no end.
 abbrev pub end_said : Option (List ℕ) → Option (List ℕ) → RuleEnd
 end_said until count =
     let last = option_map Until (option_and_then date_or_time_of until) in

@@ -1,10 +1,11 @@
 //! Weekdays, ISO week dates, and the weeks of a year from Sunday or Monday on.
-ghost use Rattle.std.specs.Prelude.{◌≡◌, ℕ, ◌+◌, ◌-◌, ◌*◌, ◌/◌, ◌%◌, ◌^◌, ◌<◌, ◌≤◌, pos, ◌↔◌, ◌⊎◌, IfOk, IfErr, IsErr, IsTrue, Ok, [], ◌∷◌};
+ghost use Rattle.std.specs.Prelude.{◌≡◌, ℕ, ℤ, ◌+◌, ◌-◌, ◌*◌, ◌/◌, ◌%◌, ◌^◌, ◌<◌, ◌≤◌, pos, ◌-ℤ◌, ◌↔◌, ◌⊎◌, IfOk, IfErr, IsErr, IsTrue, Ok, [], ◌∷◌};
 ghost use Rattle.cal_units.specs.ComponentError.{FailsWith};
 ghost use Rattle.cal_units.specs.Weekday.{index};
 ghost use Rattle.cal_units.specs.Weeks.{first_weekday, weeks_in_year};
 ghost use Rattle.cal_date.specs.ClosedForms.{iso_year_of, iso_week_of, year_of_week, ordinal_of_week, IsWeekByClosedForm, IsDayByClosedForm};
-ghost use Rattle.cal_date.specs.Date.{year_at, ordinal_at, weekday_at, IsDate, IsYear, IsOrdinal, NoDate};
+ghost use Rattle.cal_date.specs.Date.{first_year, year_at, ordinal_at, weekday_at, IsDate, IsYear, IsOrdinal, NoDate};
+ghost use Rattle.cal_date.specs.DateLimits.{years_in_range};
 ghost use Rattle.cal_date.specs.IsoWeekDate.{weekday_count, iso_year_at, iso_week_at, IsWeek, HasIsoWeekDate};
 ghost use Rattle.cal_date.specs.Order.{IsBefore, iso_week_date_at};
 ghost use Rattle.cal_date.specs.DateErrors.{year_out_of_range, week_out_of_range, weekday_out_of_range};
@@ -64,7 +65,7 @@ impl Date {
         ensures range { weekday_at self < 7 }
         ensures in_range { IsDate self }
     {
-        Weekday::at(weekday_index(self.year(), self.ordinal()))
+        Weekday::at(weekday_index(self.year_index(), self.ordinal_index()))
     }
 
     /// Returns the ISO week, from 1 to 53. For 2021-01-01 it is 53, the last week of 2020.
@@ -141,17 +142,17 @@ fn weeks_of_year(year: i32) -> u8
     weeks_in_year(year)
 }
 
-/// Returns the index of the weekday, from 0 for Monday, of an ordinal of a year of the range.
-fn weekday_index(year: i32, ordinal: u16) -> u8
-    requires year { IsYear year }
-    requires ordinal { 1 ≤ ordinal }
-    ensures { result ≡ (first_weekday year + (ordinal - 1)) % 7 }
+/// Returns the index of the weekday, from 0 for Monday, of a day, given the number of years of the
+/// range before its year and the number of days of its year before it.
+fn weekday_index(years: u32, days: u32) -> u8
+    requires years { years < years_in_range }
+    requires days { days < 366 }
+    ensures { (y : ℤ) → IsYear y → pos years ≡ y -ℤ first_year
+        → result ≡ (first_weekday y + days) % 7 }
 {
     // The first year of the range begins on a Monday. Each year of 365 days moves the weekday by
     // one, and each leap day by one more.
-    let years = (year - MIN_YEAR) as u32;
-    let moved = years + years / 4 - years / 100 + years / 400;
-    rem_7(moved + u32::from(ordinal) - 1)
+    rem_7(years + years / 4 - years / 100 + years / 400 + days)
 }
 
 /// Returns the whole weeks of a number of days.
@@ -200,7 +201,7 @@ fn ordinal_date_from_week(year: i32, week: u8, weekday: Weekday) -> (i32, u16)
     ensures ordinal { result.1 ≡ ordinal_of_week year week (index weekday + 1) }
 {
     // 4 January is always in week 1.
-    let taken = u16::from(weekday_index(year, 4)) + 1 + 3;
+    let taken = u16::from(weekday_index((year - MIN_YEAR) as u32, 3)) + 1 + 3;
     let days = 7 * u16::from(week) + u16::from(weekday.number_from_monday());
     if days <= taken {
         return (year - 1, days_in_year(year - 1) + days - taken);

@@ -5,13 +5,16 @@ ghost use Rattle.cal_date.specs.CountLaws.{days_of_months};
 ghost use Rattle.cal_date.specs.Date.{year_at, month_at, day_of_month_at, IsDate, IsDayOfMonth, HasCalendarDate, HasOrdinalDate};
 ghost use Rattle.cal_date.specs.DateResults.{ReturnsDate, ChecksYearAndDay, ChecksDay, ChecksOrdinal};
 
-use crate::date::{Date, is_year};
+use crate::date::{Date, LEAP_MARK, is_year};
 use crate::error::{Component, ComponentRange};
 use cal_units::Month;
 use cal_units::util::is_leap_year;
 
 /// The ordinal of 29 February in a leap year.
 const LEAP_DAY: u16 = 60;
+
+/// The low bits of 29 February: the leap mark and the ordinal.
+const LOW_LEAP_DAY: u32 = LEAP_MARK as u32 + LEAP_DAY as u32;
 
 impl Date {
     /// Replaces the year and keeps the month and the day. 2022-02-18 with the year 2019 is
@@ -79,18 +82,16 @@ impl Date {
     {
         let ordinal = self.ordinal();
         let is_leap = is_leap_year(year);
-        let was_leap = self.is_in_leap_year();
+        if self.low_bits() == LOW_LEAP_DAY && !is_leap {
+            return None;
+        }
 
         // Up to 28 February all years have the same ordinals. From March on the ordinals of a leap
-        // year are one higher.
-        if is_leap == was_leap || ordinal < LEAP_DAY {
+        // year are one higher. Sums need no branch on the years, which a processor can't predict.
+        if ordinal < LEAP_DAY {
             Some(ordinal)
-        } else if is_leap {
-            Some(ordinal + 1)
-        } else if ordinal > LEAP_DAY {
-            Some(ordinal - 1)
         } else {
-            None
+            Some(ordinal + u16::from(is_leap) - u16::from(self.is_in_leap_year()))
         }
     }
 }
