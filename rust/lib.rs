@@ -48,6 +48,7 @@ include!(concat!(env!("OUT_DIR"), "/definitions.rs"));
 #[cfg(feature = "bundled-zones")]
 mod bundled_zones;
 pub mod columns;
+mod date_times;
 mod duration;
 mod errors;
 mod formats;

@@ -149,6 +149,7 @@ macro_rules! parts_of {
             (value.replace_millisecond(1).unwrap(), "2024-02-29 23:59:59.001"),
             (value.replace_microsecond(1).unwrap(), "2024-02-29 23:59:59.000001"),
             (value.replace_nanosecond(1).unwrap(), "2024-02-29 23:59:59.000000001"),
+            (value.truncate_to_day(), "2024-02-29 0:00:00.0"),
             (value.truncate_to_hour(), "2024-02-29 23:00:00.0"),
             (value.truncate_to_minute(), "2024-02-29 23:59:00.0"),
             (value.truncate_to_second(), "2024-02-29 23:59:59.0"),
@@ -168,6 +169,8 @@ fn parts_and_replacements() {
     let night = moment("2024-02-29 23:59:59.25 +01:00:00");
     parts_of!(night, " +01:00:00");
     parts_of!(night.local(), "");
+    assert_eq!((night.to_hms(), night.to_hms_milli()), ((23, 59, 59), (23, 59, 59, 250)));
+    assert_eq!((night.to_hms_micro(), night.to_hms_nano()), ((23, 59, 59, 250_000), (23, 59, 59, 250_000_000)));
     assert_eq!(shows(night.replace_date_time(PlainDateTime::MIN)), (PlainDateTime::MIN, hours(1)));
     assert_eq!((night.date(), night.time()), (night.local().date(), night.local().time()));
 }
