@@ -13,3 +13,5 @@ pub mod Rounds
 pub mod SameSets
 pub mod Steps
 pub mod Takes
+pub mod Unclosed
+pub mod WholeRecords

@@ -25,7 +25,7 @@ use Rattle.caldate_run.specs.Replies.{Describes, IsCounted, IsLine, IsOutcome, I
 use Rattle.caldate_run.specs.Runs.{AppendsOut}
 
 -- ---- a line of which a front was let go
-same_return : (kept line : List ℕ) → 0 < length line → has_return (kept ++ line) ≡ has_return line
+pub same_return : (kept line : List ℕ) → 0 < length line → has_return (kept ++ line) ≡ has_return line
 same_return kept line some =
     let at : length (kept ++ line) - 1 ≡ length kept + (length line - 1) = omega (arith, length-append kept line) in
     ap (λ byte. tests byte) (ap (λ k. get_or (kept ++ line) k 0) at ∙ get_or-append-add kept line (length line - 1) 0)

@@ -7,7 +7,8 @@ use Rattle.std.proofs.KnownBytes.{Consumes-kept, Consumes-nil, Consumes-trans, K
 use Rattle.std.proofs.lemmas.List.{append-nil}
 use Rattle.caldate_lines.specs.Calls.{Gives, Reads, Writes, has_read_failure, is_of_read, kind_of, most_retries, write_failure}
 use Rattle.caldate_lines.specs.Calls.Reads.{no_more, too_many}
-use Rattle.caldate_lines.specs.Lines.{all_lines, ended_lines, unended}
+use Rattle.caldate_lines.specs.Lines.{ended_lines, unended}
+use Rattle.caldate_run.specs.Inputs.{whole_lines}
 use Rattle.caldate_lines.specs.Outputs.{HasRead}
 use Rattle.caldate_lines.specs.RunStates.{NoEnd, no_lines, quoting_of}
 use Rattle.caldate_lines.specs.declared.output.Output.{Output}
@@ -30,7 +31,7 @@ as_read P (Err error) is h = subst (λ error. P (Err error)) (sym is) h
 
 -- no bytes were read after the line at which the run ended early
 ends_early : (filter : Filter) (error : RunError) (input : List ℕ) (r0 r w0 w : Option (List ℕ)) → Consumes r0 r input
-    → EndsEarly filter error (ended_lines filter.field input) (unended filter.field input) w0 w ⊎ IsAtEnd r × EndsEarly filter error (all_lines filter.field input) [] w0 w
+    → EndsEarly filter error (ended_lines filter.field input) (unended filter.field input) w0 w ⊎ IsAtEnd r × EndsEarly filter error (whole_lines filter.field input) [] w0 w
     → IsRunResult filter (Err error) r0 r w0 w
 ends_early filter Read input r0 r w0 w given (inl h) = absurd h
 ends_early filter Read input r0 r w0 w given (inr h) = absurd h.1
@@ -51,7 +52,7 @@ none_of (Ok done) tally err = (refl, refl)
 none_of (Err error) tally err = (ap is_of_read err.0, ap kind_of err.0)
 
 all_ended : (filter : Filter) (result : Result Unit RunError) (tally : Tally) (input : List ℕ) (r0 r w0 w : Option (List ℕ)) → OnOk result (tally.first ≡ None)
-    → IfErr result (λ error. (error ≡ Unanswered tally) × (is_some tally.first ≡ true)) → IsAtEnd r → Consumes r0 r input → AnswersAll filter (all_lines filter.field input) tally w0 w
+    → IfErr result (λ error. (error ≡ Unanswered tally) × (is_some tally.first ≡ true)) → IsAtEnd r → Consumes r0 r input → AnswersAll filter (whole_lines filter.field input) tally w0 w
     → IsRunResult filter result r0 r w0 w
 all_ended filter (Ok done) tally input r0 r w0 w none err end given all = (end, (input, given, (tally, none, all)))
 all_ended filter (Err error) tally input r0 r w0 w none err end given all =
@@ -122,7 +123,7 @@ module _ {R S : Type 0} (remaining : R → Option (List ℕ)) (read : R → Resu
 
   pub ended_last : (most left : ℕ) (error : RunError) (before : List ℕ) (r0 r : R) (start s t : S) (output : Output) (pending : List ℕ) (progress : Progress)
       → HasRunOn most before r0 start left r output s pending progress → IsAtEnd (remaining r)
-      → EndsFrom contents write filter error (all_lines filter.field) (λ _. []) output s t pending progress
+      → EndsFrom contents write filter error (whole_lines filter.field) (λ _. []) output s t pending progress
       → HasEnded remaining read contents write filter most before (Err error) r0 r start t
   ended_last most left error before r0 r start s t output pending progress (given, taken, reads, run) at_end ends =
       let end = ends (before ++ given) start run in

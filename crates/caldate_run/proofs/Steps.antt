@@ -141,7 +141,7 @@ parts_are [] h = absurd (omega (arith, h))
 parts_are (part ∷ []) h = refl
 parts_are (part ∷ next ∷ parts) h = ap (λ ps. part ∷ ps) (parts_are (next ∷ parts) (omega arith))
 
-last_is : (lines : List (List ℕ)) (part : List ℕ) → last_part (lines ++ part ∷ []) ≡ part
+pub last_is : (lines : List (List ℕ)) (part : List ℕ) → last_part (lines ++ part ∷ []) ≡ part
 last_is [] part = refl
 last_is (line ∷ []) part = refl
 last_is (line ∷ next ∷ lines) part = last_is (next ∷ lines) part
@@ -214,7 +214,7 @@ stopped filter input given pending line after old new progress reported first en
     }
 
 -- ---- the end of the input
-kept_none : (b : Bool) (kept : List ℕ) → IsDroppedFront b kept [] → kept ≡ []
+pub kept_none : (b : Bool) (kept : List ℕ) → IsDroppedFront b kept [] → kept ≡ []
 kept_none false kept h = h
 kept_none true kept h = absurd (omega (arith, h.1))
 
@@ -233,7 +233,7 @@ all_answered filter input given progress s =
     (subst (λ ls. AreReplies (IsReplyTo filter) 0 ls s.out no_lines progress.tally) (sym lines) s.replies)
 
 -- the parts of the input, of which the last one is pending
-whole_parts : (filter : Filter) (input given pending : List ℕ) (progress : Progress) → NoEnd filter.field (quoting_of progress) pending
+pub whole_parts : (filter : Filter) (input given pending : List ℕ) (progress : Progress) → NoEnd filter.field (quoting_of progress) pending
     → (s : RunState (IsReplyTo filter) filter.on_invalid filter.field input given pending progress) → split_input filter.field input ≡ s.lines ++ (s.kept ++ pending) ∷ []
 whole_parts filter input given pending progress n s =
     lines_are filter.field input s.kept pending s.lines (quoting_of progress) s.cut ∙ ap (λ ps. s.lines ++ onto s.kept ps) n ∙ ap (λ ps. s.lines ++ ps) (onto_one s.kept pending [])

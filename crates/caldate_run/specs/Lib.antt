@@ -1,4 +1,5 @@
 pub mod Events
+pub mod Inputs
 pub mod Named
 pub mod Pieces
 pub mod Recurring

@@ -18,6 +18,7 @@ use Rattle.caldate_lines.specs.declared.tally.Tally.{Tally}
 use Rattle.caldate_lines.specs.declared.unanswered.UnansweredLine.{UnansweredLine}
 use Rattle.caldate_answers.specs.Appends.{AppendsSome}
 use Rattle.caldate_answers.specs.declared.request.Filter.{Filter}
+use Rattle.caldate_run.specs.Inputs.{whole_lines}
 use Rattle.caldate_run.specs.Replies.{EndsAt, IsOutcome, IsReplyTo, stops}
 
 -- The new bytes are the old ones and what goes out, if anything does.
@@ -101,12 +102,12 @@ Gives old new P = (input : List ℕ) × Consumes old new input × P input
 pub record ReadsLines (filter : Filter) (old new : Option (List ℕ)) (Holds : List (List ℕ) → List ℕ → Type 0) : Type 0 where
   pub input : List ℕ
   pub given : Consumes old new input
-  pub holds : Holds (ended_lines filter.field input) (unended filter.field input) ⊎ IsAtEnd new × Holds (all_lines filter.field input) []
+  pub holds : Holds (ended_lines filter.field input) (unended filter.field input) ⊎ IsAtEnd new × Holds (whole_lines filter.field input) []
 
 -- All lines of the input got their replies, and their tally has this property.
 abbrev pub AnswersInput : Filter → (Tally → Type 0) → Option (List ℕ) → Option (List ℕ) → Option (List ℕ) → Option (List ℕ) → Type 0
 AnswersInput filter Has r0 r w0 w =
-    IsAtEnd r × Gives r0 r (λ input. (tally : Tally) × Has tally × AnswersAll filter (all_lines filter.field input) tally w0 w)
+    IsAtEnd r × Gives r0 r (λ input. (tally : Tally) × Has tally × AnswersAll filter (whole_lines filter.field input) tally w0 w)
 
 -- A run with this outcome read and wrote these bytes.
 abbrev pub IsRunResult : Filter → Result Unit RunError → Option (List ℕ) → Option (List ℕ) → Option (List ℕ) → Option (List ℕ) → Type 0
@@ -146,8 +147,14 @@ module _ {S : Type 0} (contents : S → Option (List ℕ)) (write : S → List �
       (input : List ℕ) (start : S) → HasRun input start output s pending progress
       → EndsEarly filter error (lines_in input) (rest_in input) (contents start) (contents t) × Writes write start (kind_of error) t
 
-  -- The run ends with all lines answered.
-  abbrev pub CompletesFrom : Tally → Output → S → S → List ℕ → Progress → Type 0
-  CompletesFrom tally output s t pending progress =
+  -- The run ends with all of these lines of its input answered.
+  abbrev pub CompletesAs : (List ℕ → List (List ℕ)) → Tally → Output → S → S → List ℕ → Progress → Type 0
+  CompletesAs lines_in tally output s t pending progress =
       (input : List ℕ) (start : S) → HasRun input start output s pending progress
-      → AnswersAll filter (all_lines filter.field input) tally (contents start) (contents t) × Writes write start None t
+      → AnswersAll filter (lines_in input) tally (contents start) (contents t) × Writes write start None t
+
+  abbrev pub CompletesLines : Tally → Output → S → S → List ℕ → Progress → Type 0
+  CompletesLines = CompletesAs (all_lines filter.field)
+
+  abbrev pub CompletesFrom : Tally → Output → S → S → List ℕ → Progress → Type 0
+  CompletesFrom = CompletesAs (whole_lines filter.field)

@@ -5,12 +5,12 @@ ghost use Rattle.std.specs.Prelude.{◌≡◌, ◌==◌, ◌<◌, List, ℕ, ℤ
 ghost use Rattle.cal_zone.specs.Local.{IsLocalOf};
 ghost use Rattle.cal_zone.specs.declared.local.Local.{Local};
 ghost use Rattle.caldate_lines.specs.Fields.{in_place_of, split_fields};
-ghost use Rattle.caldate_lines.specs.Lines.{all_lines};
 ghost use Rattle.caldate_lines.specs.Records.{IsField, IsRecord, records_text};
 ghost use Rattle.caldate_lines.specs.declared.quoting.Quoting.TheVariants.{Ready};
 ghost use Rattle.caldate_lines.specs.declared.run_error.RunError.{RunError};
 ghost use Rattle.caldate_answers.specs.Answers.{Answer, IsAnswer, clock_of};
 ghost use Rattle.caldate_answers.specs.declared.request.Clock.{Clock};
+ghost use Rattle.caldate_run.specs.Inputs.{whole_lines};
 ghost use Rattle.caldate_run.specs.Recurring.{ListsOccurrences};
 ghost use Rattle.caldate_run.specs.Steps.{ListsSteps};
 
@@ -86,11 +86,11 @@ pub fn record_fields(separator: u8)
 
 /// Proves that the records of RFC 4180 are the lines of an input, which may have quoted line feeds.
 /// The separator is not a line feed.
-#[tactic(auto, using(caldate_lines::proofs::RecordFields::records_are))]
+#[tactic(auto, using(crate::proofs::WholeRecords::records_are_whole))]
 pub fn records(field: Field)
     ensures { (records : List (List (List ℕ))) → field.csv ≡ true → (34 == field.separator) ≡ false
         → (10 == field.separator) ≡ false → All (IsRecord field.separator) records
-        → all_lines (Some field) (records_text field.separator records)
+        → whole_lines (Some field) (records_text field.separator records)
         ≡ map (join_with_byte field.separator) records }
 {}
 

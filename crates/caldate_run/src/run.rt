@@ -1,11 +1,13 @@
 //! Runs: the answers to the lines of an input of any length.
-ghost use Rattle.std.specs.Prelude.{◌≡◌, ◌<◌, ◌≤◌, ◌+◌, ◌-◌, ◌++◌, List, [], false, true, is_some, length, drop, None, Ok, OnOk, IfOk, IfErr};
+ghost use Rattle.std.specs.Prelude.{◌≡◌, ◌<◌, ◌≤◌, ◌+◌, ◌-◌, ◌++◌, ◌&&◌, ◌∷◌, List, [], false, true, is_some, length, take, drop, None, Ok, OnOk, IfOk, IfErr};
 ghost use Rattle.caldate_lines.specs.Calls.{Reads, Writes, has_read_failure, most_reads, write_failure};
-ghost use Rattle.caldate_lines.specs.Lines.{all_lines, ended_lines, unended};
+ghost use Rattle.caldate_lines.specs.Fields.{is_open};
+ghost use Rattle.caldate_lines.specs.Lines.{all_lines, ended_lines, has_return, quotes_in, unended};
 ghost use Rattle.caldate_lines.specs.Room.{capacity, longest_text};
-ghost use Rattle.caldate_lines.specs.RunStates.{DropsFront, NoEnd, passed, quoting_of};
+ghost use Rattle.caldate_lines.specs.RunStates.{DropsFront, NoEnd, passed, quoting_in, quoting_of};
+ghost use Rattle.caldate_run.specs.Inputs.{whole_lines};
 ghost use Rattle.caldate_run.specs.Replies.{IsReplyTo};
-ghost use Rattle.caldate_run.specs.Runs.{Advances, CompletesFrom, EndsFrom, HasEnded, IsRunResult};
+ghost use Rattle.caldate_run.specs.Runs.{Advances, CompletesFrom, CompletesLines, EndsFrom, HasEnded, IsRunResult};
 
 pub(crate) mod named;
 pub(crate) mod other;
@@ -16,6 +18,7 @@ pub(crate) mod reply;
 use crate::run::reply::{describe_line, push_reply};
 use caldate_answers::request::Filter;
 use caldate_lines::excerpt::Excerpt;
+use caldate_lines::field::Field;
 use caldate_lines::input::Input;
 use caldate_lines::lines::{next_line, quoting_in};
 use caldate_lines::on_invalid::OnInvalid;
@@ -159,7 +162,8 @@ fn answer_lines<W: Sink>(
     Ok(rest.len())
 }
 
-/// Answers the last line if it has no line feed, and writes the answers.
+/// Answers the last line if it has no line feed, and writes the answers. A carriage return within
+/// quotes is part of a field, so another one after it ends the line.
 fn answer_last<W: Sink>(
     filter: &Filter<'_>,
     progress: &mut Progress,
@@ -174,11 +178,59 @@ fn answer_last<W: Sink>(
     ensures ok { OnOk result (CompletesFrom W.contents W.write_gives filter.now progress.new.tally
         output.old writer.old writer.new line.now progress.old) }
     ensures err { IfErr result (λ error. EndsFrom W.contents W.write_gives filter.now error
-        (all_lines filter.now.field) (λ _. []) output.old writer.old writer.new line.now progress.old) }
+        (whole_lines filter.now.field) (λ _. []) output.old writer.old writer.new line.now progress.old) }
 {
     if line.is_empty() {
         return Ok(());
     }
+    if !ends_in_quotes(filter.field, progress.quoting(), line) {
+        return answer_line(filter, progress, output, writer, line);
+    }
+    let bytes = before_returns(line);
+    answer_line(filter, progress, output, writer, &bytes[..line.len() + 1])
+}
+
+/// Returns the bytes of a line with carriage returns after them.
+fn before_returns(line: &[u8]) -> [u8; MAX_KEPT + 1]
+    requires { length line.now ≤ longest_text + 1 }
+    ensures { take (length line.now + 1) result ≡ line.now ++ 13 ∷ [] }
+{
+    let mut bytes = [b'\r'; MAX_KEPT + 1];
+    bytes[..line.len()].copy_from_slice(line);
+    bytes
+}
+
+/// Returns whether the last line ends with a carriage return within quotes.
+fn ends_in_quotes(field: Option<Field>, quoting: Quoting, line: &[u8]) -> bool
+    ensures { result ≡ (has_return line.now && is_open (quotes_in field (quoting_in field quoting line.now))) }
+{
+    let [.., b'\r'] = line else {
+        return false;
+    };
+    match field {
+        Some(record) if record.csv => quoting_in(field, quoting, line).is_open(),
+        _ => false,
+    }
+}
+
+/// Answers a last line without a line feed, and writes the answers.
+fn answer_line<W: Sink>(
+    filter: &Filter<'_>,
+    progress: &mut Progress,
+    output: &mut Output,
+    writer: &mut W,
+    line: &[u8],
+) -> Result<(), RunError>
+    requires no_end { NoEnd filter.now.field (quoting_of progress.old) line.now }
+    requires some { 0 < length line.now }
+    requires none { output.old.buffer ≡ [] }
+    requires done { output.old.outcome ≡ Ok tt }
+    requires few { length line.now ≤ longest_text + 2 }
+    ensures ok { OnOk result (CompletesLines W.contents W.write_gives filter.now progress.new.tally
+        output.old writer.old writer.new line.now progress.old) }
+    ensures err { IfErr result (λ error. EndsFrom W.contents W.write_gives filter.now error
+        (all_lines filter.now.field) (λ _. []) output.old writer.old writer.new line.now progress.old) }
+{
     match push_reply(&mut output.buffer, filter, progress, line) {
         Ok(()) => output.finish(writer),
         Err(why) => Err(RunError::Stopped(describe_line(progress, line, why))),
