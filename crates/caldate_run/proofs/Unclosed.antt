@@ -14,7 +14,6 @@ use Rattle.caldate_lines.specs.declared.output.Output.{Output}
 use Rattle.caldate_lines.specs.declared.progress.Progress.{Progress}
 use Rattle.caldate_lines.specs.declared.quoting.Quoting.{Quoting}
 use Rattle.caldate_lines.specs.declared.run_error.RunError.{RunError}
-use Rattle.caldate_lines.specs.declared.tally.Tally.{Tally}
 use Rattle.caldate_lines.proofs.Quotes.{onto_one}
 use Rattle.caldate_lines.proofs.Splits.{onto_onto, passes_front}
 use Rattle.caldate_answers.specs.declared.request.Filter.{Filter}

@@ -1,4 +1,4 @@
-use Rattle.std.proofs.Common.{◌≡◌, ◌<◌, ◌+◌, ◌∷◌, [], ◌++◌, ◌∙◌, length, take, drop, rules, sym, ap, subst, None, Bool}
+use Rattle.std.proofs.Common.{◌≡◌, ◌<◌, ◌+◌, [], ◌∙◌, length, take, rules, sym, ap, subst, None}
 use Rattle.std.specs.Prelude.{◌&&◌}
 use Rattle.caldate_lines.specs.Calls.{Writes, kind_of}
 use Rattle.caldate_lines.specs.Fields.{is_open}

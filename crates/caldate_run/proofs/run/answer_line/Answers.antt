@@ -1,4 +1,4 @@
-use Rattle.std.proofs.Common.{◌≡◌, ◌<◌, ◌∙◌, length, rules, sym}
+use Rattle.std.proofs.Common.{◌∙◌, sym}
 use Rattle.caldate_run.proofs.Advances.{all_pass_on, completed, failed_last, if_err, last_replied, on_ok, stopped_last}
 use Rattle.caldate_run.proofs.Steps.{ends_at}
 use Rattle.caldate_run.proofs.run.answer_line.Goals as goal
