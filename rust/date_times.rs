@@ -18,7 +18,7 @@ impl OffsetDateTime {
         self.replace_time(Time::MIDNIGHT)
     }
 
-    /// Returns the local hour, minute and second, like [`Self::as_hms`].
+    /// Returns the local hour, minute and second, like [`Self::as_hms`]: (23, 59, 59) at 23:59:59.25.
     #[inline]
     pub const fn to_hms(self) -> (u8, u8, u8) {
         self.as_hms()
